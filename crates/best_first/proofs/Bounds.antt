@@ -1,7 +1,8 @@
 -- A run takes at most nine states for each cell.
 use Rattle.std.proofs.Common.{◌≡◌, ℕ, zero, suc, ◌+◌, ◌*◌, ◌<◌, ◌≤◌, length, List, [], ◌∷◌, refl, ap, sym}
 use Rattle.std.proofs.Common.{◌∙◌, subst, true, false, arith}
-use Rattle.std.specs.Prelude.{Option, Some, None, slice_get}
+use Rattle.std.specs.Prelude.{Some, slice_get}
+use Rattle.std.proofs.lemmas.Option.{same_Some}
 use Rattle.grid_moves.specs.declared.Cell.{Cell}
 use Rattle.grid_moves.specs.Grid.{cell_number}
 use Rattle.grid_moves.proofs.Places.{one_cell, number_below}
@@ -14,13 +15,10 @@ use Rattle.best_first.proofs.Numbers.{at_most}
 use Rattle.best_first.proofs.Searching.{run_on}
 use Rattle.best_first.proofs.States.{arrival_small, one_arrival, same_state, is_same_state-itself}
 
-some_taken : (u v : Taken State) → Some u ≡ Some v → u ≡ v
-some_taken u v q = ap (λ (o : Option (Taken State)). elim o as (λ _. Taken State) [ Some w ↦ w | None ↦ u ]) q
-
 -- what stands at a place is in the list
 pub member : (xs : List (Taken State)) (i : ℕ) (u : Taken State) → slice_get xs i ≡ Some u → IsIn u xs
 member [] i u h = absurd (cc)
-member (x ∷ xs) zero u h = subst (λ (w : Taken State). IsIn w (x ∷ xs)) (some_taken x u h) (here xs)
+member (x ∷ xs) zero u h = subst (λ (w : Taken State). IsIn w (x ∷ xs)) (same_Some x u h) (here xs)
 member (x ∷ xs) (suc i) u h = there x xs (member xs i u h)
 
 -- numbers of states on the map tell them apart
@@ -67,11 +65,11 @@ module _ {width height : ℕ} {start goal : Cell} {link : Links}
   apart_run (x ∷ []) is (suc i) j a b h g e = absurd (cc)
   apart_run (x ∷ y ∷ earlier) is zero zero a b h g e = refl
   apart_run (x ∷ y ∷ earlier) is zero (suc j) a b h g e =
-      let one : x ≡ a = some_taken x a h in
+      let one : x ≡ a = same_Some x a h in
       absurd (later_other x (y ∷ earlier) is.2.waits b (member (y ∷ earlier) j b g)
       (sym e ∙ ap (λ (u : Taken State). u.state) (sym one)))
   apart_run (x ∷ y ∷ earlier) is (suc i) zero a b h g e =
-      let one : x ≡ b = some_taken x b g in
+      let one : x ≡ b = same_Some x b g in
       absurd (later_other x (y ∷ earlier) is.2.waits a (member (y ∷ earlier) i a h)
       (e ∙ ap (λ (u : Taken State). u.state) (sym one)))
   apart_run (x ∷ y ∷ earlier) is (suc i) (suc j) a b h g e =

@@ -15,11 +15,13 @@ use Rattle.best_first.specs.Node.{state_of}
 use Rattle.best_first.specs.Space.{IsPlaced}
 use Rattle.best_first.specs.State.{arrival_number, state_number}
 use Rattle.best_first.specs.Table.{lookup}
-use Rattle.best_first.proofs.Lists.{get-last, get-added, got-added, get-set_same, get-set_other, got-set}
+use Rattle.std.proofs.lemmas.List.{length-set}
+use Rattle.open_list.proofs.Changes.{get_pushed, get-append_left}
+use Rattle.best_first.proofs.Lists.{got-added, get-set_same, get-set_other, got-set}
 use Rattle.best_first.proofs.Lookup.{lookup-found, none_found}
 use Rattle.best_first.proofs.Mirrors.{some_node}
 use Rattle.best_first.proofs.Numbers.{at_most}
-use Rattle.best_first.proofs.Records.{head-is, read_past, length-set}
+use Rattle.best_first.proofs.Records.{head-is, read_past}
 use Rattle.best_first.proofs.States.{one_arrival, same_state, arrival_small}
 
 -- where no cell has a head nothing is found
@@ -138,14 +140,14 @@ module _ (layout : Layout) (width : ℕ) (nodes : List Node) (heads : List ℕ) 
           → IsNodeAt layout width (nodes ++ n ∷ []) c a id
       lifted c a id at = record {
         node = at.node;
-        node_is = get-added nodes n id at.node at.node_is;
+        node_is = get-append_left nodes (n ∷ []) id at.node at.node_is;
         cell_is = at.cell_is;
         arrival_is = at.arrival_is;
       }
 
       last_at : IsNodeAt layout width (nodes ++ n ∷ []) (cell_number width (state_of layout n).cell)
           (arrival_number (state_of layout n).arrival) (length nodes)
-      last_at = record { node = n; node_is = get-last nodes n; cell_is = refl; arrival_is = refl }
+      last_at = record { node = n; node_is = get_pushed nodes n; cell_is = refl; arrival_is = refl }
 
       covered : (c r : ℕ) → slice_get later_heads c ≡ Some (suc r)
           → (c ≡ cell_number width (state_of layout n).cell)

@@ -1,7 +1,8 @@
 -- A table that keeps a run goes on keeping it when a node is offered.
 use Rattle.std.proofs.Common.{◌≡◌, ◌≢◌, ℕ, ◌<◌, ◌⊎◌, inl, inr, length, List, [], ◌∷◌, refl, ap, sym, ◌∙◌}
 use Rattle.std.proofs.Common.{subst, Bool, true, false, arith}
-use Rattle.std.specs.Prelude.{Option, Some, None, slice_get}
+use Rattle.std.specs.Prelude.{Some, None, slice_get}
+use Rattle.std.proofs.lemmas.Option.{same_Some}
 use Rattle.grid_moves.specs.declared.Cell.{Cell}
 use Rattle.search_run.specs.Run.{Taken, Offer, IsIn, here, there, is_taken}
 use Rattle.search_run.proofs.Leastness.{or_true}
@@ -17,7 +18,7 @@ use Rattle.best_first.proofs.States.{is_same_state-state, is_same_state-itself, 
 use Rattle.best_first.proofs.Lookup.{none_found, lookup-none}
 
 pub some_node : (m n : Node) → Some m ≡ Some n → m ≡ n
-some_node m n e = ap (λ (o : Option Node). elim o as (λ _. Node) [ Some v ↦ v | None ↦ m ]) e
+some_node m n e = same_Some m n e
 
 -- a table in which one slot was changed: the node there is v's now
 pub record Changed (layout : Layout) (v : State) (id : ℕ) (n : Node) (k l : Table) : Type 0 where

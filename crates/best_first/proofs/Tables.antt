@@ -4,7 +4,7 @@ use Rattle.std.proofs.Common.{ap, sym, ◌∙◌, Bool, true, false, arith}
 use Rattle.std.specs.Prelude.{Option, Some, None, slice_get, slice_set, slice_index_or, if◌then◌else◌, nat_lt}
 use Rattle.std.proofs.lemmas.Bool.Decides.{nat_tests}
 use Rattle.std.proofs.lemmas.Grind.{common_steps}
-use Rattle.std.proofs.lemmas.Option.{slice_get_within}
+use Rattle.std.proofs.lemmas.Option.{slice_get_within, slice_get-get_or}
 use Rattle.grid_moves.specs.declared.Cell.{Cell}
 use Rattle.best_first.specs.declared.node.Node.{Node}
 use Rattle.best_first.specs.declared.node.Offer.{Offer}
@@ -13,9 +13,10 @@ use Rattle.best_first.specs.State.{state_in}
 use Rattle.best_first.specs.Index.{entry_for}
 use Rattle.best_first.specs.Table.{Table, lookup, node_for, added, replaced, is_bettered, offered, offered_at}
 use Rattle.best_first.specs.Table.{ClosedBelow}
-use Rattle.best_first.proofs.Lists.{get-added, got-added, get-set_other, got-set}
+use Rattle.std.proofs.lemmas.List.{length-set}
+use Rattle.open_list.proofs.Changes.{get-append_left}
+use Rattle.best_first.proofs.Lists.{got-added, get-set_other, got-set}
 use Rattle.best_first.proofs.Mirrors.{some_node}
-use Rattle.best_first.proofs.Records.{read, length-set}
 
 -- the node that is bettered
 pub record IsBettered (nodes : List Node) (id key : ℕ) : Type 0 where
@@ -60,7 +61,7 @@ module _ (layout : Layout) (goal : Cell) (o : Offer) (k : Table) where
       by_test id false t = h
 
       by_lookup : (i : Option ℕ) → slice_get (offered_at i new k).nodes j ≡ Some q
-      by_lookup None = get-added k.nodes new j q h
+      by_lookup None = get-append_left k.nodes (new ∷ []) j q h
       by_lookup (Some id) = by_test id (is_bettered k.nodes id new.key) refl
 
   -- closed nodes stay, and with them the bound on their keys
@@ -108,7 +109,7 @@ module _ (layout : Layout) (goal : Cell) (o : Offer) (k : Table) where
 -- a node of a greater key is open
 pub open_of : (key : ℕ) (k : Table) → ClosedBelow key k → (id : ℕ) (n : Node) → slice_get k.nodes id ≡ Some n
     → key < n.key → slice_get k.open_at id ≡ Some true
-open_of key k c id n h l = by_flag (slice_index_or k.open_at id false) (read k.open_at id false within)
+open_of key k c id n h l = by_flag (slice_index_or k.open_at id false) (slice_get-get_or k.open_at id false within)
   where
     within : id < length k.open_at
     within = let b = slice_get_within k.nodes id n h in let e = c.flags in omega arith

@@ -4,6 +4,7 @@ use Rattle.std.proofs.Common.{Bool, true, false, ◌&&◌, ◌||◌, not, arith}
 use Rattle.std.specs.Prelude.{Option, Some, None, slice_get, slice_set, nat_eq, nat_lt}
 use Rattle.std.proofs.lemmas.Bool.Decides.{nat_tests}
 use Rattle.std.proofs.lemmas.Grind.{common_steps}
+use Rattle.std.proofs.lemmas.Option.{same_Some}
 use Rattle.root2_cost.specs.declared.Cost.{Cost}
 use Rattle.root2_cost.specs.Laws.{HasShortParts}
 use Rattle.root2_cost.specs.Order.{is_less, IsLess}
@@ -26,9 +27,6 @@ use Rattle.best_first.proofs.Lists.{get-set_same, get-set_other}
 use Rattle.best_first.proofs.States.{is_same_state-state, is_same_state-itself, same_or_not, places_order}
 use Rattle.best_first.proofs.Lookup.{lookup-found, none_found}
 use Rattle.best_first.proofs.Mirrors.{some_node}
-
-some_offer : (a b : Offer State) → Some a ≡ Some b → a ≡ b
-some_offer a b e = ap (λ (o : Option (Offer State)). elim o as (λ _. Offer State) [ Some v ↦ v | None ↦ a ]) e
 
 -- what does not go before by keys and places does not by sums and numbers
 keys_order : (p q : Cost) (i j m n : ℕ) → HasShortParts p → HasShortParts q → (j ≤ i → n ≤ m)
@@ -99,7 +97,7 @@ module _ {layout : Layout} {width : ℕ} {goal : Cell} {link : Links} {run : Lis
             node = f.node;
             node_is = f.node_is;
             state = f.state;
-            offer = some_offer order.offer o (sym (order.best_is untaken)
+            offer = same_Some order.offer o (sym (order.best_is untaken)
                 ∙ ap (λ (u : State). least_offer (search_rule width goal link) run u) f.state ∙ h);
             is_open = order.opened ∙ rw untaken refl;
           }
@@ -212,7 +210,7 @@ module _ {layout : Layout} {width : ℕ} {goal : Cell} {link : Links} {run : Lis
             let z : is_taken (search_rule width goal link) run (state_of layout x) ≡ false =
             ap (λ (s : State). is_taken (search_rule width goal link) run s) (sym e) ∙ untaken in
             let one : order.offer ≡ (m.in_order i x h).offer
-            = some_offer order.offer (m.in_order i x h).offer (sym (order.best_is untaken)
+            = same_Some order.offer (m.in_order i x h).offer (sym (order.best_is untaken)
             ∙ ap (λ (s : State). least_offer (search_rule width goal link) run s) e
             ∙ (m.in_order i x h).best_is z) in
             (ap (λ (o : Offer State). o.cost) one, ap (λ (o : Offer State). o.from) one)

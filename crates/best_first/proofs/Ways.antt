@@ -1,6 +1,7 @@
 -- A taken state's offers over its links make the least offers those after it.
 use Rattle.std.proofs.Common.{◌≡◌, ℕ, ◌⊎◌, inl, inr, List, [], ◌∷◌, refl, ap, sym, ◌∙◌, Bool, true, false}
 use Rattle.std.specs.Prelude.{Option, Some, None, if◌then◌else◌}
+use Rattle.std.proofs.lemmas.Option.{same_Some}
 use Rattle.root2_cost.specs.declared.Cost.{Cost}
 use Rattle.root2_cost.specs.Order.{is_less}
 use Rattle.root2_cost.specs.Sums.{add_costs}
@@ -13,9 +14,6 @@ use Rattle.best_first.specs.Rule.{Links, search_rule}
 use Rattle.best_first.specs.Mirror.{Offers}
 use Rattle.best_first.specs.Ways.{Onward, IsAmong, first, later, with_onward, with_all}
 use Rattle.best_first.proofs.States.{is_same_state-state, is_same_state-itself, same_or_not}
-
-some_cost : (c d : Cost) → Some c ≡ Some d → c ≡ d
-some_cost c d e = ap (λ (o : Option Cost). elim o as (λ _. Cost) [ Some v ↦ v | None ↦ c ]) e
 
 -- what is so of the first way, and of one among the others, is so of one among all
 pub of_among : (P : Onward → Type 0) {w e : Onward} {ways : List Onward} → P e → (IsAmong w ways → P w)
@@ -56,7 +54,7 @@ module _ (width : ℕ) (goal : Cell) (link : Links) (y : Taken State) where
         ⊎ (with_onward y best w s ≡ best s)
     one_over best w l = elim (same_or_not (is_same_state w.to s)) [
       | inl t ↦ (let one : w.to ≡ s = is_same_state-state w.to s t in
-          let cost : w.cost ≡ c = some_cost w.cost c (sym l ∙ ap (λ (u : State). link.step y.state u) one
+          let cost : w.cost ≡ c = same_Some w.cost c (sym l ∙ ap (λ (u : State). link.step y.state u) one
           ∙ linked) in
           inl (
             same_way w (record { to = s; cost = c }) one cost,

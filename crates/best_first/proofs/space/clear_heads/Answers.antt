@@ -7,7 +7,7 @@ use Rattle.best_first.specs.Node.{state_of}
 use Rattle.best_first.specs.State.{state_told}
 use Rattle.best_first.proofs.Offering.{in_cell}
 use Rattle.best_first.proofs.Forgetting.{covered_next, covered_none, cell_placed}
-use Rattle.best_first.proofs.Records.{length-set}
+use Rattle.std.proofs.lemmas.List.{length-set}
 use Rattle.best_first.proofs.space.clear_heads.Goals as goal
 
 pub number_of-cell-requires-clause-column : goal.number_of-cell-requires-clause-column
