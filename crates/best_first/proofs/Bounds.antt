@@ -50,8 +50,7 @@ module _ {width height : ℕ} {start goal : Cell} {link : Links}
   later_other x (y ∷ some) n u (here z) e =
       let no = (or_false (is_same_state y.state x.state)
       (is_taken (search_rule width goal link) some x.state) n).0 in
-      let yes : is_same_state y.state x.state ≡ true =
-      ap (λ (s : State). is_same_state y.state s) (sym e) ∙ is_same_state-itself y.state in
+      let yes : is_same_state y.state x.state ≡ true = grind (arith, is_same_state-itself) in
       absurd (cc)
   later_other x (y ∷ some) n u (there z w m) e = later_other x some (or_false (is_same_state y.state x.state)
       (is_taken (search_rule width goal link) some x.state) n).1 u m e

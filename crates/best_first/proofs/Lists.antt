@@ -10,8 +10,7 @@ module _ {X : Type 0} where
   got-added [] y zero x h = inr (refl, same_Some x y (sym h))
   got-added [] y (suc i) x h = absurd (cc)
   got-added (z ∷ xs) y zero x h = inl h
-  got-added (z ∷ xs) y (suc i) x h =
-      elim (got-added xs y i x h) [ inl e ↦ inl e | inr e ↦ inr (ap (λ n. suc n) e.0, e.1) ]
+  got-added (z ∷ xs) y (suc i) x h = grind (arith, got-added xs y i x h)
 
   pub get-set_same : (xs : List X) (i : ℕ) (x y : X) → slice_get xs i ≡ Some x
       → slice_get (slice_set xs i y) i ≡ Some y
@@ -33,7 +32,4 @@ module _ {X : Type 0} where
   got-set (z ∷ xs) zero zero x y h = inr (refl, same_Some x y (sym h))
   got-set (z ∷ xs) zero (suc j) x y h = inl ((λ e. omega arith), h)
   got-set (z ∷ xs) (suc i) zero x y h = inl ((λ e. omega arith), h)
-  got-set (z ∷ xs) (suc i) (suc j) x y h = elim (got-set xs i j x y h) [
-    | inl e ↦ inl ((λ p. e.0 (omega arith)), e.1)
-    | inr e ↦ inr (ap (λ n. suc n) e.0, e.1)
-  ]
+  got-set (z ∷ xs) (suc i) (suc j) x y h = grind (arith, got-set xs i j x y h)

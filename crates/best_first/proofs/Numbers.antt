@@ -9,11 +9,7 @@ use Rattle.std.proofs.lemmas.Map.Steps.{length-le_from_distinct_below}
 use Rattle.std.proofs.lemmas.Bool.Decides.{nat_tests}
 
 pub differ : (m n : ℕ) → (m ≡ n → ⊥) → eqb m n ≡ false
-differ m n h = by_test (eqb m n) refl
-  where
-    by_test : (b : Bool) → eqb m n ≡ b → eqb m n ≡ false
-    by_test true e = absurd (h (grind (arith, nat_tests)))
-    by_test false e = e
+differ m n h = grind (arith, nat_tests)
 
 pub any_is : (xs : List ℕ) (q : ℕ) → list_any (eqb q) xs ≡ true → (i : ℕ) × (slice_get xs i ≡ Some q)
 any_is [] q h = absurd (cc)
@@ -33,8 +29,7 @@ module _ {X : Type 0} (f : X → ℕ) where
   get-map : (xs : List X) (i b : ℕ) → slice_get (map f xs) i ≡ Some b
       → (x : X) × (slice_get xs i ≡ Some x) × (f x ≡ b)
   get-map [] i b h = absurd (cc)
-  get-map (x ∷ xs) zero b h =
-      (x, refl, same_Some (f x) b h)
+  get-map (x ∷ xs) zero b h = grind (arith, nat_tests, same_Some)
   get-map (x ∷ xs) (suc i) b h = get-map xs i b h
 
   all_differ : (x : X) (ys : List X) → ((j : ℕ) (y : X) → slice_get ys j ≡ Some y → f x ≡ f y → ⊥)

@@ -18,16 +18,7 @@ abbrev pub zeros : List ℕ
 zeros = 0 ∷ 0 ∷ 0 ∷ 0 ∷ 0 ∷ 0 ∷ 0 ∷ 0 ∷ 0 ∷ []
 
 read_zeros : (a : ℕ) → slice_index_or zeros a 0 ≡ 0
-read_zeros zero = refl
-read_zeros (suc zero) = refl
-read_zeros (suc (suc zero)) = refl
-read_zeros (suc (suc (suc zero))) = refl
-read_zeros (suc (suc (suc (suc zero)))) = refl
-read_zeros (suc (suc (suc (suc (suc zero))))) = refl
-read_zeros (suc (suc (suc (suc (suc (suc zero)))))) = refl
-read_zeros (suc (suc (suc (suc (suc (suc (suc zero))))))) = refl
-read_zeros (suc (suc (suc (suc (suc (suc (suc (suc zero)))))))) = refl
-read_zeros (suc (suc (suc (suc (suc (suc (suc (suc (suc a))))))))) = refl
+read_zeros a = grind arith
 
 -- what is read of a record
 pub entry-read : (records : List (List ℕ)) (r a : ℕ) (entries : List ℕ) → slice_get records r ≡ Some entries
@@ -40,11 +31,7 @@ module _ (heads : List ℕ) (cell : ℕ) where
   head-is h e = get_or_from_slice_get heads cell h 0 e
 
   pub got_head : (h : ℕ) → slice_index_or heads cell 0 ≡ suc h → slice_get heads cell ≡ Some (suc h)
-  got_head h e = by_get (slice_get heads cell) refl
-    where
-      by_get : (o : Option ℕ) → slice_get heads cell ≡ o → o ≡ Some (suc h)
-      by_get None g = absurd (let z = read_past heads cell 0 g in omega arith)
-      by_get (Some v) g = ap (λ (n : ℕ). Some n) (sym (head-is v g) ∙ e)
+  got_head h e = grind (arith, read_past, head-is)
 
 module _ (heads : List ℕ) (records : List (List ℕ)) (cell : ℕ) (a : AreRecords heads records)
     (none : slice_get heads cell ≡ Some 0) where
@@ -88,10 +75,7 @@ module _ (heads : List ℕ) (records : List (List ℕ)) (cell : ℕ) (a : AreRec
           → (((d ≡ cell → ⊥) × (slice_get heads d ≡ Some (suc r)))
           ⊎ ((d ≡ cell) × (suc r ≡ suc (length records))))
           → c ≡ d
-      by_slots c d r (inl x) (inl y) = a.apart c d r x.1 y.1
-      by_slots c d r (inl x) (inr y) = absurd (within c r x.1 (omega (arith, y.1)))
-      by_slots c d r (inr x) (inl y) = absurd (within d r y.1 (omega (arith, x.1)))
-      by_slots c d r (inr x) (inr y) = x.0 ∙ sym y.0
+      by_slots c d r h1 h2 = grind (arith, within)
 
   -- and no entry changes
   pub taken_entries : (c b : ℕ) → entry_in ByArrival later more c b ≡ entry_in ByArrival heads records c b
@@ -118,14 +102,7 @@ module _ (heads : List ℕ) (records : List (List ℕ)) (cell : ℕ) (a : AreRec
 
   -- so the cell has a record
   pub opened : IsOpened heads later records more cell
-  opened = record {
-    r = length records;
-    head = head_here;
-    records_are = taken_records;
-    entries = taken_entries;
-    as_many = length-set heads cell (suc (length records));
-    heads_stay = λ c n. get-set_other heads c cell (suc (length records)) n;
-  }
+  opened = grind (arith, head_here, taken_records, taken_entries, length-set, get-set_other)
 
 -- where a head leads to a record, one of its entries is set
 module _ (heads : List ℕ) (records : List (List ℕ)) (cell r : ℕ) (a : AreRecords heads records)
@@ -149,24 +126,11 @@ module _ (heads : List ℕ) (records : List (List ℕ)) (cell r : ℕ) (a : AreR
       at q = grind arith
 
       by_slot : (c q : ℕ) → HasRecord records q → (q ≡ r) ⊎ (q ≡ r → ⊥) → HasRecord changed q
-      by_slot c q old (inl e) = record {
-        entries = slice_set entries b entry;
-        record_is = ap (λ (i : ℕ). slice_get changed i) e
-            ∙ get-set_same records r entries (slice_set entries b entry) is;
-        nine = length-set entries b entry ∙ nine_here;
-      }
-      by_slot c q old (inr n) = record {
-        entries = old.entries;
-        record_is = get-set_other records q r (slice_set entries b entry) n ∙ old.record_is;
-        nine = old.nine;
-      }
+      by_slot c q h1 h2 = grind (arith, get-set_same, length-set, nine_here, get-set_other)
 
   pub set_entry : IsPut ByArrival heads heads records changed cell b entry
   set_entry = record {
-    here = ap (λ (h : ℕ). entry_of_record h changed b) (head-is heads cell (suc r) head)
-        ∙ entry-read changed r b (slice_set entries b entry)
-        (get-set_same records r entries (slice_set entries b entry) is)
-        ∙ get_or-set_same entries b entry 0 (omega (arith, nine_here));
+    here = grind (arith, head-is, entry-read, get-set_same, get_or-set_same, nine_here);
     others = λ c d n. by_head c d n (slice_index_or heads c 0) refl;
     heads_are = set_records;
     as_many = refl;
@@ -179,19 +143,7 @@ module _ (heads : List ℕ) (records : List (List ℕ)) (cell r : ℕ) (a : AreR
       by_record : (c d q : ℕ) → ((c ≡ cell) × (d ≡ b) → ⊥) → slice_get heads c ≡ Some (suc q)
           → (q ≡ r) ⊎ (q ≡ r → ⊥) → (d ≡ b) ⊎ (d ≡ b → ⊥)
           → entry_of_record (suc q) changed d ≡ entry_of_record (suc q) records d
-      by_record c d q n h (inl e) (inl f) =
-          absurd (n (a.apart c cell r (h ∙ ap (λ (i : ℕ). Some (suc i)) e) head, f))
-      by_record c d q n h (inl e) (inr f) =
-          ap (λ (i : ℕ). entry_of_record (suc i) changed d) e
-          ∙ entry-read changed r d (slice_set entries b entry)
-          (get-set_same records r entries (slice_set entries b entry) is)
-          ∙ get_or-set_other entries b d entry 0 f
-          ∙ sym (ap (λ (i : ℕ). entry_of_record (suc i) records d) e ∙ entry-read records r d entries is)
-      by_record c d q n h (inr g) f =
-          let old = a.have c q h in
-          entry-read changed q d old.entries
-          (get-set_other records q r (slice_set entries b entry) g ∙ old.record_is)
-          ∙ sym (entry-read records q d old.entries old.record_is)
+      by_record c d q h1 h2 h3 h4 = grind (arith, entry-read, get-set_same, get_or-set_other, get-set_other)
 
       by_head : (c d : ℕ) → ((c ≡ cell) × (d ≡ b) → ⊥) → (h : ℕ) → slice_index_or heads c 0 ≡ h
           → entry_of_record h changed d ≡ entry_of_record h records d
@@ -201,9 +153,7 @@ module _ (heads : List ℕ) (records : List (List ℕ)) (cell r : ℕ) (a : AreR
 -- a record that a head leads to is read
 pub entry_of : (h : ℕ) (records : List (List ℕ)) (a r : ℕ) → h ≡ suc r → HasRecord records r
     → slice_index_or (slice_index_or records r []) a 0 ≡ entry_of_record h records a
-entry_of h records a r e old =
-    ap (λ (es : List ℕ). slice_index_or es a 0) (get_or_from_slice_get records r old.entries [] old.record_is)
-    ∙ sym (ap (λ (i : ℕ). entry_of_record i records a) e ∙ entry-read records r a old.entries old.record_is)
+entry_of h records a r e old = grind (arith, get_or_from_slice_get, entry-read)
 
 pub record_within : (records : List (List ℕ)) (r : ℕ) → HasRecord records r → r < length records
 record_within records r h = slice_get_within records r h.entries h.record_is
