@@ -1,5 +1,6 @@
 -- The parents of the nodes lead back along the run's way.
-use Rattle.std.proofs.Common.{◌≡◌, ◌≢◌, ℕ, ◌+◌, ◌-◌, ◌<◌, inl, inr, List, [], ◌∷◌, ◌++◌, refl, ap, sym, ◌∙◌}
+use Rattle.std.proofs.lemmas.Grind.{common_steps}
+use Rattle.std.proofs.Common.{◌≡◌, ◌≢◌, ℕ, ◌+◌, ◌-◌, ◌<◌, inl, inr, List, [], ◌∷◌, ◌++◌, ap, sym, ◌∙◌}
 use Rattle.std.proofs.Common.{subst, true, false, arith, reverse, map}
 use Rattle.std.proofs.lemmas.List.{reverse-append}
 use Rattle.std.proofs.lemmas.Bool.Decides.{nat_tests}
@@ -48,13 +49,7 @@ back_is_one goal nodes id a b c d (goes i m p cells e ne h l f rest) (goes j n q
 reverse-last : (way : List State) (s : State)
     → reverse (map (λ (u : State). u.cell) (way ++ s ∷ []))
     ≡ s.cell ∷ reverse (map (λ (u : State). u.cell) way)
-reverse-last way s =
-    ap reverse (map-last way) ∙ reverse-append (map (λ (u : State). u.cell) way) (s.cell ∷ [])
-  where
-    map-last : (way : List State)
-        → map (λ (u : State). u.cell) (way ++ s ∷ []) ≡ map (λ (u : State). u.cell) way ++ s.cell ∷ []
-    map-last [] = refl
-    map-last (u ∷ way) = ap (λ (cs : List Cell). u.cell ∷ cs) (map-last way)
+reverse-last way s = grind (arith, nat_tests, common_steps, reverse-append)
 
 -- another cell is some moves away
 apart_rank : (u v : Cell) → is_same u v ≡ false → 0 < rank_of (estimate u v)

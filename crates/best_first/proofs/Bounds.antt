@@ -1,15 +1,16 @@
 -- A run takes at most nine states for each cell.
-use Rattle.std.proofs.Common.{◌≡◌, ℕ, zero, suc, ◌+◌, ◌*◌, ◌<◌, ◌≤◌, length, List, [], ◌∷◌, refl, ap, sym}
-use Rattle.std.proofs.Common.{◌∙◌, subst, true, false, arith}
+use Rattle.std.proofs.lemmas.Bool.Decides.{nat_tests}
+use Rattle.std.proofs.lemmas.Grind.{common_steps}
+use Rattle.std.proofs.Common.{◌≡◌, ℕ, zero, suc, ◌*◌, ◌<◌, ◌≤◌, length, List, [], ◌∷◌, refl, ap, sym}
+use Rattle.std.proofs.Common.{◌∙◌, subst, false, arith}
 use Rattle.std.specs.Prelude.{Some, slice_get}
 use Rattle.std.proofs.lemmas.Option.{same_Some}
 use Rattle.grid_moves.specs.declared.Cell.{Cell}
-use Rattle.grid_moves.specs.Grid.{cell_number}
 use Rattle.grid_moves.proofs.Places.{one_cell, number_below}
 use Rattle.search_run.specs.Run.{Taken, IsIn, here, there, IsRun, is_taken}
 use Rattle.search_run.proofs.Leastness.{or_false}
 use Rattle.best_first.specs.declared.state.State.{State}
-use Rattle.best_first.specs.State.{arrival_number, state_number, is_same_state, start_at}
+use Rattle.best_first.specs.State.{state_number, is_same_state, start_at}
 use Rattle.best_first.specs.Rule.{Links, search_rule, LiesOn, IsPosed}
 use Rattle.best_first.proofs.Numbers.{at_most}
 use Rattle.best_first.proofs.Searching.{run_on}
@@ -25,20 +26,12 @@ member (x ∷ xs) (suc i) u h = there x xs (member xs i u h)
 pub one_state : (width height : ℕ) (s t : State) → LiesOn width height s.cell → LiesOn width height t.cell
     → state_number width s ≡ state_number width t → s ≡ t
 one_state width height s t a b e =
-    let p = parts (cell_number width s.cell) (cell_number width t.cell) (arrival_number s.arrival)
-    (arrival_number t.arrival) (arrival_small s.arrival) (arrival_small t.arrival) e in
-    same_state s t (one_cell width s.cell t.cell a.0 b.0 p.0) (one_arrival s.arrival t.arrival p.1)
-  where
-    parts : (m n i j : ℕ) → i < 9 → j < 9 → m * 9 + i ≡ n * 9 + j → (m ≡ n) × (i ≡ j)
-    parts m n i j h k e = (omega arith, omega arith)
+    grind (arith, nat_tests, common_steps, arrival_small, same_state, one_cell, one_arrival)
 
 -- and are below nine times the number of cells
 pub state_below : (width height : ℕ) (s : State) → LiesOn width height s.cell
     → state_number width s < height * width * 9
-state_below width height s a =
-    let n = number_below width height s.cell a.0 a.1 in
-    let small = arrival_small s.arrival in
-    omega arith
+state_below width height s a = grind (arith, nat_tests, common_steps, number_below, arrival_small)
 
 module _ {width height : ℕ} {start goal : Cell} {link : Links}
     (posed : IsPosed width height start goal link) where
@@ -48,10 +41,7 @@ module _ {width height : ℕ} {start goal : Cell} {link : Links}
       → u.state ≡ x.state → ⊥
   later_other x [] n u m e = elim m [ ]
   later_other x (y ∷ some) n u (here z) e =
-      let no = (or_false (is_same_state y.state x.state)
-      (is_taken (search_rule width goal link) some x.state) n).0 in
-      let yes : is_same_state y.state x.state ≡ true = grind (arith, is_same_state-itself) in
-      absurd (cc)
+      grind (arith, nat_tests, common_steps, or_false, is_same_state-itself)
   later_other x (y ∷ some) n u (there z w m) e = later_other x some (or_false (is_same_state y.state x.state)
       (is_taken (search_rule width goal link) some x.state) n).1 u m e
 

@@ -1,5 +1,7 @@
 -- One step on the way back along the parents.
-use Rattle.std.proofs.Common.{◌≡◌, ◌≢◌, ℕ, ◌<◌, List, [], ◌∷◌, ◌++◌, ap, sym, ◌∙◌, subst, append_assoc}
+use Rattle.std.proofs.lemmas.Bool.Decides.{nat_tests}
+use Rattle.std.proofs.lemmas.Grind.{common_steps}
+use Rattle.std.proofs.Common.{◌≡◌, ◌≢◌, ℕ, ◌<◌, List, [], ◌∷◌, ◌++◌}
 use Rattle.std.proofs.Common.{arith}
 use Rattle.std.specs.Prelude.{Some, slice_get}
 use Rattle.root2_cost.specs.declared.Cost.{Cost}
@@ -42,21 +44,7 @@ module _ (goal : Cell) (nodes : List Node) where
         → (w : IsOnTheWay goal nodes first points cost id) → (f : Further id n w.rest w.left)
         → IsOnTheWay goal nodes first (points ++ node_cell n ∷ [])
         (add_costs cost (estimate (node_cell f.parent) (node_cell n))) n.parent
-    one_back points cost id n w f = record {
-      cells = w.cells;
-      total = w.total;
-      is_back = w.is_back;
-      few = w.few;
-      rest = f.rest;
-      left = f.left;
-      rest_is_back = f.rest_is_back;
-      joined = append_assoc points (node_cell n ∷ []) f.rest
-          ∙ ap (λ (cs : List Cell). points ++ cs) (sym f.cells_are) ∙ w.joined;
-      priced = grind arith;
-    }
-      where
-        moved : (a b c : Cost) → add_costs a (add_costs b c) ≡ add_costs (add_costs a c) b
-        moved a b c = grind (arith, same_cost)
+    one_back points cost id n w f = grind (arith, nat_tests, common_steps, same_cost)
 
     -- one cell more, as it is read
     pub step_back : (points later : List Cell) (cost after : Cost) (id : ℕ) (n p : Node) (cell before : Cell)
@@ -65,10 +53,4 @@ module _ (goal : Cell) (nodes : List Node) where
         → later ≡ points ++ cell ∷ [] → after ≡ add_costs cost (estimate before cell)
         → IsOnTheWay goal nodes first later after n.parent
     step_back points later cost after id n p cell before w ne h g c b l a =
-        let f = further id n w.rest w.left w.rest_is_back ne h in
-        let same : f.parent ≡ p = some_node f.parent p (sym f.parent_is ∙ g) in
-        let points_are : points ++ node_cell n ∷ [] ≡ later = grind arith in
-        let cost_is : add_costs cost (estimate (node_cell f.parent) (node_cell n)) ≡ after = grind arith in
-        subst (λ (ps : List Cell). IsOnTheWay goal nodes first ps after n.parent) points_are
-        (subst (λ (d : Cost). IsOnTheWay goal nodes first (points ++ node_cell n ∷ []) d n.parent) cost_is
-        (one_back points cost id n w f))
+        grind (arith, nat_tests, common_steps, further, some_node)
