@@ -1,4 +1,6 @@
 -- How often a number stands in a list of heaps.
+use Rattle.std.proofs.lemmas.Bool.Decides.{nat_tests}
+use Rattle.std.proofs.lemmas.Grind.{common_steps}
 use Rattle.std.proofs.Common.{◌≡◌, ◌≢◌, ℕ, ◌+◌, ◌<◌, ◌≤◌, Bool, true, false, List, length, Option, Some, None}
 use Rattle.std.proofs.Common.{slice_get, cond, refl, sym, ap, arith}
 use Rattle.std.proofs.lemmas.Bool.{eq-eqb, ne_eqb}
@@ -46,10 +48,8 @@ open_count-le open_at i = grind arith
 
 pub flag_from_count : (open_at : List Bool) (i : ℕ) → 1 ≤ open_count open_at i
     → slice_get open_at i ≡ Some true
-flag_from_count open_at i counted = go (slice_get open_at i) refl
-  where
-    go : (o : Option Bool) → slice_get open_at i ≡ o → slice_get open_at i ≡ Some true
-    go o h1 = grind (arith, open_count_past, get_none_past, open_count_closed)
+flag_from_count open_at i counted =
+    grind (arith, nat_tests, common_steps, open_count_past, get_none_past, open_count_closed)
 
 module _ {N : Type 0} where
   -- a link back to a node leaves an entry open

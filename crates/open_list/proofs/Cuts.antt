@@ -1,4 +1,6 @@
 -- What the entries have after one heap is taken out of the list of children that it stands in.
+use Rattle.std.proofs.lemmas.Bool.Decides.{nat_tests}
+use Rattle.std.proofs.lemmas.Grind.{common_steps}
 use Rattle.std.proofs.Common.{◌≡◌, ◌≢◌, ◌⊎◌, ⊎_elim, inl, inr, ℕ, suc, ◌+◌, ◌<◌, ◌≤◌, Bool, List, Some}
 use Rattle.std.proofs.Common.{slice_get, refl, sym, ap, subst, ◌∙◌, arith}
 use Rattle.std.proofs.lemmas.Bool.{cases_eq, cases_lt, eq-eqb, ne_eqb, cond-true, cond-false}
@@ -199,25 +201,14 @@ module _ {N : Type 0} (before : N → N → Bool) (es : List (Entry N)) (id : �
       (cases_eq i id)
     where
       not_next : (low : ℕ) → ((next ≡ NONE) ⊎ (1 ≤ low)) → one_at i next + low ≤ 1 → i ≢ next
-      not_next low next_in most same =
-          let counted : one_at i next ≡ 1 = subst (λ (k : ℕ). one_at i k ≡ 1) same (one_at_same i) in
-          ⊎_elim
-          (λ last. let at_none : one_at i NONE ≡ 1 =
-          subst (λ (k : ℕ). one_at i k ≡ 1) last counted in omega (arith, none))
-          (λ some. omega arith) next_in
+      not_next low next_in most same = grind (arith, nat_tests, common_steps, one_at_same, none)
 
       -- the entry before it stands in this list, so the holder keeps its link
       counted : (low : ℕ) → ((prev ≡ i) ⊎ (1 ≤ low)) → 1 ≤ one_at i prev + low
-      counted low prev_in =
-          ⊎_elim (λ same. let here : one_at i prev ≡ 1 =
-          subst (λ (k : ℕ). one_at i k ≡ 1) (sym same) (one_at_same i) in omega arith)
-          (λ some. omega arith) prev_in
+      counted low prev_in = grind (arith, nat_tests, common_steps, one_at_same)
 
       not_holder : 1 ≤ count_at (heap i n children rest) prev → prev ≢ holder
-      not_holder some same =
-          let here : one_at holder prev ≡ 1 =
-          subst (λ (k : ℕ). one_at holder k ≡ 1) (sym same) (one_at_same holder) in
-          omega (arith, once prev)
+      not_holder some same = grind (arith, nat_tests, common_steps, one_at_same, once prev)
 
       go_down : i ≢ id → IsCut i n children → IsCut holder parent (heap i n children rest)
       go_down not_here sub =

@@ -1,4 +1,6 @@
 -- Two lists of heaps that have each open node once.
+use Rattle.std.proofs.lemmas.Bool.Decides.{nat_tests}
+use Rattle.std.proofs.lemmas.Grind.{common_steps}
 use Rattle.std.proofs.Common.{◌≡◌, ◌≢◌, ℕ, zero, suc, ◌+◌, ◌<◌, ◌≤◌, ◌^◌, Bool, List, length, map, Some}
 use Rattle.std.proofs.Common.{slice_get, refl, sym, ap, subst, ◌∙◌, arith}
 use Rattle.std.specs.Option.{option_map_or}
@@ -76,19 +78,7 @@ module _ {N : Type 0} (before : N → N → Bool) where
 
   pub starts_with : (es : List (Entry N)) (hs : Heaps N) (id : ℕ) → first_id hs ≡ id → id ≢ NONE
       → AreRoots before es hs → StartsWith es hs id
-  starts_with es no_heap id is some held = absurd (some (sym is))
-  starts_with es (heap other node children rest) id is some held =
-      subst (λ (k : ℕ). StartsWith es (heap other node children rest) k) is
-      (record {
-        node = node;
-        children = children;
-        rest = rest;
-        prev = held.0;
-        is = refl;
-        at = held.1;
-        above = held.2;
-        roots = held.3;
-      })
+  starts_with es hs id h1 h2 h3 = grind (arith, nat_tests, common_steps)
 
   pub next_of_start : {es : List (Entry N)} {hs : Heaps N} {id : ℕ} (start : StartsWith es hs id)
       → next_of es id ≡ first_id start.rest

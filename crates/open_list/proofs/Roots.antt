@@ -1,6 +1,8 @@
 -- The heap that has every open node.
+use Rattle.std.proofs.lemmas.Bool.Decides.{nat_tests}
+use Rattle.std.proofs.lemmas.Grind.{common_steps}
 use Rattle.std.proofs.Common.{◌≡◌, ◌≢◌, ℕ, suc, ◌+◌, ◌<◌, ◌≤◌, ◌^◌, Bool, List, length, map, Some, slice_get}
-use Rattle.std.proofs.Common.{refl, ap, ◌∙◌, arith}
+use Rattle.std.proofs.Common.{refl, ap, arith}
 use Rattle.std.proofs.lemmas.Option.{slice_get_within}
 use Rattle.open_list.specs.declared.entry.Entry.{Entry}
 use Rattle.open_list.specs.declared.entry.TheConstants.{NONE}
@@ -29,9 +31,7 @@ module _ {N : Type 0} (before : N → N → Bool) where
   -- no heap begins at NONE
   pub none_heap : (es : List (Entry N)) (hs : Heaps N) → length es < 2 ^ 28 → first_id hs ≡ NONE
       → AreRoots before es hs → hs ≡ no_heap
-  none_heap es no_heap small is held = refl
-  none_heap es (heap id n children rest) small is held =
-      absurd (omega (arith, slice_get_within es id _ held.1))
+  none_heap es hs h1 h2 h3 = grind (arith, nat_tests, common_steps, slice_get_within)
 
   nothing_left : (hs : Heaps N) → heap_count hs ≤ 0 → hs ≡ no_heap
   nothing_left no_heap none = refl
@@ -58,13 +58,7 @@ module _ {N : Type 0} (before : N → N → Bool) where
         node = start.node;
         children = start.children;
         prev = start.prev;
-        at = start.at ∙ ap (λ (hs : Heaps N).
-            Some (let e : Entry N = record {
-              node = start.node;
-              child = first_id start.children;
-              next = first_id hs;
-              prev = start.prev;
-            } in e)) last;
+        at = grind (arith, nat_tests, common_steps);
         above = start.above;
         once = λ i. grind (arith, have.once i);
         fits = omega (arith, have.fits, ap node_count start.is);
