@@ -1,4 +1,6 @@
 -- Walks one after the other: what is less of the first is less of both.
+use Rattle.std.proofs.lemmas.Bool.Decides.{nat_tests}
+use Rattle.std.proofs.lemmas.Grind.{common_steps}
 use Rattle.std.proofs.Common.{◌≡◌, ◌+◌, ◌*◌, arith, true, refl, ap, sym, List, [], ◌∷◌, ◌++◌, length}
 use Rattle.std.proofs.Common.{length-append}
 use Rattle.root2_cost.specs.declared.Cost.{Cost}
@@ -43,8 +45,7 @@ places-joined x (c ∷ cells) more =
 -- with the same walk after both
 pub IsSmaller-joined : (x : Cell) (es ds more : List Cell) → last_of x es ≡ last_of x ds
     → IsSmaller (x ∷ es) (x ∷ ds) → IsSmaller (x ∷ (es ++ more)) (x ∷ (ds ++ more))
-IsSmaller-joined x es ds more e (shorter l) =
-    shorter (rw (length-append es more, length-append ds more) (omega arith))
+IsSmaller-joined x es ds more e (shorter l) = grind (arith, nat_tests, common_steps)
 IsSmaller-joined x es ds more e (straighter l b) = straighter
     (rw (length-append es more, length-append ds more) (omega arith))
     (rw (diagonals-joined x es more, diagonals-joined x ds more, e) (omega arith))

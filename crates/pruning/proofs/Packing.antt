@@ -1,4 +1,5 @@
 -- Words of directions put together and taken apart.
+use Rattle.std.proofs.lemmas.Grind.{common_steps}
 use Rattle.std.proofs.Common.{◌≡◌, ℕ, zero, suc, ◌+◌, ◌-◌, ◌*◌, ◌/◌, ◌%◌, ◌^◌, ◌<◌, ◌≤◌, List, [], ◌∷◌, Bool}
 use Rattle.std.proofs.Common.{false, nat_eq, length, get_or, arith, refl, sym, ap, ◌∙◌}
 use Rattle.std.specs.Prelude.{filter}
@@ -50,11 +51,7 @@ whole w ds h few = h ∙ sym (ap (λ (es : List Dir). word_of es) (shown w ds h 
 pub few_dirs : (n w : ℕ) → length (dirs_of n w) ≤ n
 unfolding dirs_of
 few_dirs zero w = omega arith
-few_dirs (suc n) w = by_test (nat_eq w 0) refl (few_dirs n (w / 16))
-  where
-    by_test : (b : Bool) → nat_eq w 0 ≡ b → length (dirs_of n (w / 16)) ≤ n
-        → length (dirs_of (suc n) w) ≤ suc n
-    by_test b h1 h2 = grind (arith, nat_tests)
+few_dirs (suc n) w = grind (arith, nat_tests, common_steps, few_dirs n (w / 16))
 
 module _ (left : ℕ) (some : 0 < left) where
   -- a word that is not 0 has a first direction
