@@ -1,6 +1,7 @@
 -- Jump links: what each says, and that they suit a search on a map.
 use Rattle.std.proofs.Common.{◌≡◌, ℕ, ◌≤◌, refl, ap, sym, ◌∙◌, subst, Bool, true, false, arith}
 use Rattle.std.proofs.lemmas.Bool.Decides.{nat_tests}
+use Rattle.std.proofs.lemmas.Option.{same_Some}
 use Rattle.std.specs.Prelude.{Option, Some, None, option_and_then, if◌then◌else◌}
 use Rattle.root2_cost.specs.declared.Cost.{Cost}
 use Rattle.root2_cost.proofs.Less.{same_cost}
@@ -40,9 +41,6 @@ chosen : {B : Type 0} (b : Bool) (o : Option B) (x : B) → (if b then o else No
 chosen true o x h = (refl, h)
 chosen false o x h = absurd (cc)
 
-some_cost : (c d : Cost) → Some c ≡ Some d → c ≡ d
-some_cost c d e = ap (λ (o : Option Cost). elim o as (λ _. Cost) [ Some v ↦ v | None ↦ c ]) e
-
 -- a link is a jump in the direction in which its end is come to
 pub record IsLink (g : GridData) (goal : Cell) (u v : State) (c : Cost) : Type 0 where
   pub dir : Dir
@@ -62,7 +60,7 @@ first_is g goal x d k e = by_answer (first_stop g goal x d) e (first_stop_is_fir
         → IsLeast (StopsAfter g goal x d) 1 k
     by_answer None e f = absurd (cc)
     by_answer (Some m) e f =
-        let same : m ≡ k = ap (λ (o : Option ℕ). elim o as (λ _. ℕ) [ Some v ↦ v | None ↦ k ]) e in
+        let same : m ≡ k = same_Some m k e in
         subst (λ (n : ℕ). IsLeast (StopsAfter g goal x d) 1 n) same f
 
 pub link_is : (g : GridData) (goal : Cell) (u v : State) (c : Cost) → jump_link g goal u v ≡ Some c
@@ -83,7 +81,7 @@ link_is g goal u v c h =
       computed = k.1;
       first = first_is g goal u.cell d.0 k.0 k.1;
       reached = w.1 ∙ ap (λ (x : Cell). Some x) (is_same-cell w.0 v.cell s.0);
-      priced = some_cost c (run_cost d.0 k.0) (sym s.1);
+      priced = same_Some c (run_cost d.0 k.0) (sym s.1);
     }
 
 -- and each jump is a link

@@ -4,6 +4,7 @@ use Rattle.std.proofs.Common.{List, [], ◌∷◌, arith}
 use Rattle.std.specs.Prelude.{Option, Some, None, filter}
 use Rattle.std.specs.List.{AllByRecursion}
 use Rattle.std.specs.Option.{option_map_or}
+use Rattle.std.proofs.lemmas.Option.{same_Some}
 use Rattle.root2_cost.specs.declared.Cost.{Cost}
 use Rattle.root2_cost.specs.Rank.{rank_of}
 use Rattle.grid_moves.specs.declared.Cell.{Cell}
@@ -201,16 +202,13 @@ module _ (g : GridData) (s t : Cell) where
     linked_among dirs all v c e =
         let l = link_is g t last.state v c e in
         let end = jump_end l.dir l.moves l.allowed l.computed in
-        let cell : end.cell ≡ v.cell = one_end (sym end.reached ∙ l.reached) in
+        let cell : end.cell ≡ v.cell = same_Some _ _ (sym end.reached ∙ l.reached) in
         let to : (offer_after last l.dir l.moves).to ≡ v =
         end.after ∙ same_state (record { cell = end.cell; arrival = Some l.dir }) v cell (sym l.arrives) in
         subst (λ (w : Onward). IsAmong w (ways_in dirs))
         (same_way (way_after l.dir l.moves) (record { to = v; cost = c }) to (sym l.priced))
         (each_among dirs l.dir l.moves l.computed (all.all l.dir l.allowed))
       where
-        one_end : {a b : Cell} → Some a ≡ Some b → a ≡ b
-        one_end {a} e = ap (λ (o : Option Cell). elim o as (λ _. Cell) [ Some x ↦ x | None ↦ a ]) e
-
         same_way : (a b : Onward) → a.to ≡ b.to → a.cost ≡ b.cost → a ≡ b
         same_way a b e f =
             ap (λ (u : State). let x : Onward = record { to = u; cost = a.cost } in x) e
