@@ -1,4 +1,5 @@
 -- Jump links: what each says, and that they suit a search on a map.
+use Rattle.std.proofs.lemmas.Grind.{common_steps}
 use Rattle.std.proofs.Common.{◌≡◌, ℕ, ◌≤◌, refl, ap, sym, ◌∙◌, subst, Bool, true, false, arith}
 use Rattle.std.proofs.lemmas.Bool.Decides.{nat_tests}
 use Rattle.std.proofs.lemmas.Option.{same_Some}
@@ -12,7 +13,7 @@ use Rattle.grid_moves.specs.Grid.{GridData, is_free}
 use Rattle.grid_moves.specs.Move.{is_same}
 use Rattle.grid_moves.specs.Points.{estimate}
 use Rattle.grid_moves.proofs.Legal.{and_both, free_inside, legal_is, is_same-cell, is_same-itself}
-use Rattle.pruning.specs.Allowed.{is_allowed, is_kept, is_blocked, can_move}
+use Rattle.pruning.specs.Allowed.{is_allowed}
 use Rattle.pruning.specs.Chain.{run_cost}
 use Rattle.pruning.specs.First.{first_stop}
 use Rattle.pruning.specs.Marked.{run_end}
@@ -88,30 +89,12 @@ link_is g goal u v c h =
 pub jump_is_link : (g : GridData) (goal : Cell) (u v : State) (d : Dir) (k : ℕ) → v.arrival ≡ Some d
     → is_allowed g u.cell (come_to u.arrival) d ≡ true → first_stop g goal u.cell d ≡ Some k
     → run_end g d k u.cell ≡ Some v.cell → jump_link g goal u v ≡ Some (run_cost d k)
-jump_is_link g goal u v d k e a f r =
-    let lands : landing g u.cell v.cell d k ≡ Some (run_cost d k) =
-    through (run_end g d k u.cell) (λ w. if is_same w v.cell then Some (run_cost d k) else None) v.cell
-    (Some (run_cost d k)) r (here (is_same v.cell v.cell) (is_same-itself v.cell)) in
-    let jumps : jump_in g goal u v.cell d ≡ Some (run_cost d k) =
-    kept (is_allowed g u.cell (come_to u.arrival) d) _ a
-    (through (first_stop g goal u.cell d) (landing g u.cell v.cell d) k (Some (run_cost d k)) f lands) in
-    through v.arrival (jump_in g goal u v.cell) d (Some (run_cost d k)) e jumps
-  where
-    here : (b : Bool) → b ≡ true → (if b then Some (run_cost d k) else None) ≡ Some (run_cost d k)
-    here b e = rw e refl
-
-    kept : (b : Bool) (o : Option Cost) → b ≡ true → o ≡ Some (run_cost d k)
-        → (if b then o else None) ≡ Some (run_cost d k)
-    kept b o e h = rw e h
+jump_is_link g goal u v d k e a f r = grind (arith, nat_tests, common_steps, through, is_same-itself)
 
 -- an allowed direction leads on from a free cell
 pub allowed_free : (g : GridData) (u : State) (d : Dir) → is_allowed g u.cell (come_to u.arrival) d ≡ true
     → is_free g u.cell ≡ true
-allowed_free g u d a =
-    let can = (and_both (is_kept g.corner (is_blocked g u.cell) (come_to u.arrival) d) (can_move g u.cell d)
-    a).1 in
-    let to = leads_from g u.cell d can in
-    (legal_is g u.cell to.0 to.1.legal).source
+allowed_free g u d a = grind (arith, nat_tests, common_steps, and_both, leads_from, legal_is)
 
 -- the moves of a run cost the octile distance of its ends
 pub moved_cost : (d : Dir) (k : ℕ) (u v : Cell) → AreMoved d k u v → run_cost d k ≡ estimate u v

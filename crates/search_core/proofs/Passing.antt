@@ -1,7 +1,8 @@
 -- Along the jumps of a run each cell is passed in each direction once, so there are few moves: where it is
 -- passed twice in one direction, both jumps go on to one stop, and each state is taken once.
+use Rattle.std.proofs.lemmas.Grind.{common_steps}
 use Rattle.std.proofs.Common.{◌≡◌, ℕ, zero, suc, ◌+◌, ◌*◌, ◌^◌, ◌<◌, ◌≤◌, length, List, [], ◌∷◌, ◌++◌, refl}
-use Rattle.std.proofs.Common.{ap, sym, ◌∙◌, subst, Bool, true, false, ◌||◌, arith, eqb, mul-le-mul}
+use Rattle.std.proofs.Common.{ap, sym, ◌∙◌, subst, true, false, arith, eqb, mul-le-mul}
 use Rattle.std.specs.Prelude.{Option, Some, None, option_and_then, nat_eq}
 use Rattle.std.specs.List.{IsDistinct, AllByRecursion, list_any}
 use Rattle.std.proofs.lemmas.Map.Keys.{IsDistinct-cons}
@@ -49,12 +50,7 @@ module _ (P : ℕ → Type 0) where
   -- what holds of each holds of one of them
   all_at : (xs : List ℕ) (q : ℕ) → AllByRecursion P xs → list_any (eqb q) xs ≡ true → P q
   all_at [] q a h = absurd (cc)
-  all_at (x ∷ xs) q a h = by_test (all_at xs q a.1) (eqb q x) refl h
-    where
-      by_test : (list_any (eqb q) xs ≡ true → P q) → (b : Bool) → eqb q x ≡ b
-          → (b || list_any (eqb q) xs) ≡ true → P q
-      by_test again true e h = subst P (let s : x ≡ q = grind (arith, nat_tests) in s) a.0
-      by_test again false e h = again h
+  all_at (x ∷ xs) q a h = grind (arith, nat_tests, common_steps, all_at xs q a.1)
 
 -- two lists of different numbers that share none
 distinct_append : (xs ys : List ℕ) → IsDistinct eqb xs → IsDistinct eqb ys
