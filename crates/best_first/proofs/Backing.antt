@@ -1,9 +1,10 @@
 -- The parents of the nodes lead back along the run's way.
-use Rattle.std.proofs.Common.{◌≡◌, ◌≢◌, ℕ, ◌+◌, ◌-◌, ◌<◌, inl, inr, List, [], ◌∷◌, ◌++◌, refl, ap, sym, ◌∙◌}
-use Rattle.std.proofs.Common.{subst, Bool, true, false, ◌&&◌, arith, reverse, map}
+use Rattle.std.proofs.lemmas.Grind.{common_steps}
+use Rattle.std.proofs.Common.{◌≡◌, ◌≢◌, ℕ, ◌+◌, ◌-◌, ◌<◌, inl, inr, List, [], ◌∷◌, ◌++◌, ap, sym, ◌∙◌}
+use Rattle.std.proofs.Common.{subst, true, false, arith, reverse, map}
 use Rattle.std.proofs.lemmas.List.{reverse-append}
 use Rattle.std.proofs.lemmas.Bool.Decides.{nat_tests}
-use Rattle.std.specs.Prelude.{Some, slice_get, nat_eq}
+use Rattle.std.specs.Prelude.{Some, slice_get}
 use Rattle.root2_cost.specs.declared.Cost.{Cost}
 use Rattle.root2_cost.specs.Rank.{rank_of}
 use Rattle.root2_cost.specs.Sums.{add_costs, no_cost}
@@ -29,8 +30,7 @@ use Rattle.best_first.proofs.Searching.{start_taken, taken_key}
 -- the way back is one
 pub back_is_one : (goal : Cell) (nodes : List Node) (id : ℕ) (a b : List Cell) (c d : Cost)
     → IsBack goal nodes id a c → IsBack goal nodes id b d → (a ≡ b) × (c ≡ d)
-back_is_one goal nodes id a b c d (stops i m z g) (stops j n y h) =
-    (ap (λ (x : Node). node_cell x ∷ []) (some_node m n (sym g ∙ h)), refl)
+back_is_one goal nodes id a b c d (stops i m z g) (stops j n y h) = grind (arith, nat_tests, some_node)
 back_is_one goal nodes id a b c d (stops i m z g) (goes j n p cells e ne h l f rest) = absurd (ne z)
 back_is_one goal nodes id a b c d (goes j n p cells e ne h l f rest) (stops i m z g) = absurd (ne z)
 back_is_one goal nodes id a b c d (goes i m p cells e ne h l f rest) (goes j n q others o nz g t u more) =
@@ -49,38 +49,11 @@ back_is_one goal nodes id a b c d (goes i m p cells e ne h l f rest) (goes j n q
 reverse-last : (way : List State) (s : State)
     → reverse (map (λ (u : State). u.cell) (way ++ s ∷ []))
     ≡ s.cell ∷ reverse (map (λ (u : State). u.cell) way)
-reverse-last way s =
-    ap reverse (map-last way) ∙ reverse-append (map (λ (u : State). u.cell) way) (s.cell ∷ [])
-  where
-    map-last : (way : List State)
-        → map (λ (u : State). u.cell) (way ++ s ∷ []) ≡ map (λ (u : State). u.cell) way ++ s.cell ∷ []
-    map-last [] = refl
-    map-last (u ∷ way) = ap (λ (cs : List Cell). u.cell ∷ cs) (map-last way)
+reverse-last way s = grind (arith, nat_tests, common_steps, reverse-append)
 
 -- another cell is some moves away
 apart_rank : (u v : Cell) → is_same u v ≡ false → 0 < rank_of (estimate u v)
-apart_rank u v h = some_rank (estimate u v) (by_parts (nat_eq u.x v.x) (nat_eq u.y v.y) refl refl h)
-  where
-    some_rank : (c : Cost) → 0 < c.a + c.b → 0 < rank_of c
-    some_rank c l = omega arith
-
-    columns : nat_eq u.x v.x ≡ false → 0 < (estimate u v).a + (estimate u v).b
-    columns e = let n : u.x ≢ v.x = differ u.x v.x e in omega arith
-      where
-        differ : (m n : ℕ) → nat_eq m n ≡ false → m ≢ n
-        differ m n e f = grind (arith, nat_tests)
-
-    rows : nat_eq u.y v.y ≡ false → 0 < (estimate u v).a + (estimate u v).b
-    rows e = let n : u.y ≢ v.y = differ u.y v.y e in omega arith
-      where
-        differ : (m n : ℕ) → nat_eq m n ≡ false → m ≢ n
-        differ m n e f = grind (arith, nat_tests)
-
-    by_parts : (a b : Bool) → nat_eq u.x v.x ≡ a → nat_eq u.y v.y ≡ b → (a && b) ≡ false
-        → 0 < (estimate u v).a + (estimate u v).b
-    by_parts false b e f g = columns e
-    by_parts true false e f g = rows f
-    by_parts true true e f g = absurd (cc)
+apart_rank u v h = grind (arith, nat_tests)
 
 module _ {layout : Layout} {width height : ℕ} {start goal : Cell} {link : Links}
     (fit : IsSearch width height start goal link) {last : Taken State} {before : List (Taken State)} {at : ℕ}
@@ -126,8 +99,7 @@ module _ {layout : Layout} {width height : ℕ} {start goal : Cell} {link : Link
   back_of (x ∷ []) is among u (there z w m) id n h e = elim m [ ]
   back_of (x ∷ []) is among u (here z) id n h e =
       let at_start : x.state ≡ start_at start = ap (λ (v : Taken State). v.state) is in
-      let first : id ≡ 0 =
-      i.mirrors.only id 0 n i.origin h i.origin_is (e ∙ at_start ∙ sym i.origin_state) in
+      let first : id ≡ 0 = grind (arith, nat_tests) in
       let cost : no_cost ≡ x.cost = sym (ap (λ (v : Taken State). v.cost) is) in
       rw (is_same_state-itself x.state)
       (subst (λ (c : Cost). IsBack goal k.nodes id (x.state.cell ∷ []) c) cost
@@ -148,10 +120,8 @@ module _ {layout : Layout} {width height : ℕ} {start goal : Cell} {link : Link
       n.parent p order.keeps.parent_is at_p in
       let moved = fit.posed.links.moves from.by.state x.state from.offered.step from.offered.linked in
       let priced = fit.posed.links.priced from.by.state x.state from.offered.step from.offered.linked in
-      let cost : add_costs from.by.cost (estimate (node_cell p) (node_cell n)) ≡ x.cost
-      = ap (λ (c : Cell). add_costs from.by.cost (estimate c (node_cell n))) (cell_is p from.by.state at_p)
-      ∙ ap (λ (c : Cell). add_costs from.by.cost (estimate from.by.state.cell c)) (cell_is n x.state e)
-      ∙ ap (λ (c : Cost). add_costs from.by.cost c) (sym priced) ∙ sym from.offered.total in
+      let cost : add_costs from.by.cost (estimate (node_cell p) (node_cell n)) ≡ x.cost =
+      grind (arith, nat_tests, cell_is) in
       let less : rank_left goal p < rank_left goal n
       = falls (rank_left goal p) (rank_left goal n) (rank_of from.by.cost)
       (rank_of (estimate from.by.state.cell x.state.cell))
@@ -161,13 +131,10 @@ module _ {layout : Layout} {width height : ℕ} {start goal : Cell} {link : Link
       ∙ ap (λ (c : Cost). rank_of from.by.cost + rank_of c) priced)
       (apart_rank from.by.state.cell x.state.cell moved) in
       let not_start : id ≢ 0 = λ first.
-      let same : n ≡ i.origin = some_node n i.origin (sym h ∙ ap (λ (j : ℕ). slice_get k.nodes j) first
-      ∙ i.origin_is) in
-      let at_start : x.state ≡ start_at start =
-      sym e ∙ ap (λ (q : Node). state_of layout q) same ∙ i.origin_state in
+      let same : n ≡ i.origin = grind (arith, nat_tests, some_node) in
+      let at_start : x.state ≡ start_at start = grind (arith, nat_tests) in
       let no : is_taken (search_rule width goal link) (y ∷ earlier) (start_at start) ≡ false =
-      ap (λ (s : State). is_taken (search_rule width goal link) (y ∷ earlier) s) (sym at_start)
-      ∙ is.2.waits in
+      grind (arith, nat_tests) in
       let yes = start_taken fit.posed (y ∷ earlier) is.0 in
       absurd (cc) in
       let at_parent : cells_to (y ∷ earlier) from.by.state ≡ cells_to (y ∷ earlier) x.parent =

@@ -1,46 +1,37 @@
 -- A run takes at most nine states for each cell.
-use Rattle.std.proofs.Common.{◌≡◌, ℕ, zero, suc, ◌+◌, ◌*◌, ◌<◌, ◌≤◌, length, List, [], ◌∷◌, refl, ap, sym}
-use Rattle.std.proofs.Common.{◌∙◌, subst, true, false, arith}
-use Rattle.std.specs.Prelude.{Option, Some, None, slice_get}
+use Rattle.std.proofs.lemmas.Bool.Decides.{nat_tests}
+use Rattle.std.proofs.lemmas.Grind.{common_steps}
+use Rattle.std.proofs.Common.{◌≡◌, ℕ, zero, suc, ◌*◌, ◌<◌, ◌≤◌, length, List, [], ◌∷◌, refl, ap, sym}
+use Rattle.std.proofs.Common.{◌∙◌, subst, false, arith}
+use Rattle.std.specs.Prelude.{Some, slice_get}
+use Rattle.std.proofs.lemmas.Option.{same_Some}
 use Rattle.grid_moves.specs.declared.Cell.{Cell}
-use Rattle.grid_moves.specs.Grid.{cell_number}
 use Rattle.grid_moves.proofs.Places.{one_cell, number_below}
 use Rattle.search_run.specs.Run.{Taken, IsIn, here, there, IsRun, is_taken}
 use Rattle.search_run.proofs.Leastness.{or_false}
 use Rattle.best_first.specs.declared.state.State.{State}
-use Rattle.best_first.specs.State.{arrival_number, state_number, is_same_state, start_at}
+use Rattle.best_first.specs.State.{state_number, is_same_state, start_at}
 use Rattle.best_first.specs.Rule.{Links, search_rule, LiesOn, IsPosed}
 use Rattle.best_first.proofs.Numbers.{at_most}
 use Rattle.best_first.proofs.Searching.{run_on}
 use Rattle.best_first.proofs.States.{arrival_small, one_arrival, same_state, is_same_state-itself}
 
-some_taken : (u v : Taken State) → Some u ≡ Some v → u ≡ v
-some_taken u v q = ap (λ (o : Option (Taken State)). elim o as (λ _. Taken State) [ Some w ↦ w | None ↦ u ]) q
-
 -- what stands at a place is in the list
 pub member : (xs : List (Taken State)) (i : ℕ) (u : Taken State) → slice_get xs i ≡ Some u → IsIn u xs
 member [] i u h = absurd (cc)
-member (x ∷ xs) zero u h = subst (λ (w : Taken State). IsIn w (x ∷ xs)) (some_taken x u h) (here xs)
+member (x ∷ xs) zero u h = subst (λ (w : Taken State). IsIn w (x ∷ xs)) (same_Some x u h) (here xs)
 member (x ∷ xs) (suc i) u h = there x xs (member xs i u h)
 
 -- numbers of states on the map tell them apart
 pub one_state : (width height : ℕ) (s t : State) → LiesOn width height s.cell → LiesOn width height t.cell
     → state_number width s ≡ state_number width t → s ≡ t
 one_state width height s t a b e =
-    let p = parts (cell_number width s.cell) (cell_number width t.cell) (arrival_number s.arrival)
-    (arrival_number t.arrival) (arrival_small s.arrival) (arrival_small t.arrival) e in
-    same_state s t (one_cell width s.cell t.cell a.0 b.0 p.0) (one_arrival s.arrival t.arrival p.1)
-  where
-    parts : (m n i j : ℕ) → i < 9 → j < 9 → m * 9 + i ≡ n * 9 + j → (m ≡ n) × (i ≡ j)
-    parts m n i j h k e = (omega arith, omega arith)
+    grind (arith, nat_tests, common_steps, arrival_small, same_state, one_cell, one_arrival)
 
 -- and are below nine times the number of cells
 pub state_below : (width height : ℕ) (s : State) → LiesOn width height s.cell
     → state_number width s < height * width * 9
-state_below width height s a =
-    let n = number_below width height s.cell a.0 a.1 in
-    let small = arrival_small s.arrival in
-    omega arith
+state_below width height s a = grind (arith, nat_tests, common_steps, number_below, arrival_small)
 
 module _ {width height : ℕ} {start goal : Cell} {link : Links}
     (posed : IsPosed width height start goal link) where
@@ -50,11 +41,7 @@ module _ {width height : ℕ} {start goal : Cell} {link : Links}
       → u.state ≡ x.state → ⊥
   later_other x [] n u m e = elim m [ ]
   later_other x (y ∷ some) n u (here z) e =
-      let no = (or_false (is_same_state y.state x.state)
-      (is_taken (search_rule width goal link) some x.state) n).0 in
-      let yes : is_same_state y.state x.state ≡ true =
-      ap (λ (s : State). is_same_state y.state s) (sym e) ∙ is_same_state-itself y.state in
-      absurd (cc)
+      grind (arith, nat_tests, common_steps, or_false, is_same_state-itself)
   later_other x (y ∷ some) n u (there z w m) e = later_other x some (or_false (is_same_state y.state x.state)
       (is_taken (search_rule width goal link) some x.state) n).1 u m e
 
@@ -67,11 +54,11 @@ module _ {width height : ℕ} {start goal : Cell} {link : Links}
   apart_run (x ∷ []) is (suc i) j a b h g e = absurd (cc)
   apart_run (x ∷ y ∷ earlier) is zero zero a b h g e = refl
   apart_run (x ∷ y ∷ earlier) is zero (suc j) a b h g e =
-      let one : x ≡ a = some_taken x a h in
+      let one : x ≡ a = same_Some x a h in
       absurd (later_other x (y ∷ earlier) is.2.waits b (member (y ∷ earlier) j b g)
       (sym e ∙ ap (λ (u : Taken State). u.state) (sym one)))
   apart_run (x ∷ y ∷ earlier) is (suc i) zero a b h g e =
-      let one : x ≡ b = some_taken x b g in
+      let one : x ≡ b = same_Some x b g in
       absurd (later_other x (y ∷ earlier) is.2.waits a (member (y ∷ earlier) i a h)
       (e ∙ ap (λ (u : Taken State). u.state) (sym one)))
   apart_run (x ∷ y ∷ earlier) is (suc i) (suc j) a b h g e =

@@ -1,5 +1,5 @@
 -- Each search on a map has a run that ends, as its links lead to finitely many states.
-use Rattle.std.proofs.Common.{◌≡◌, ℕ, zero, suc, ◌<◌, ◌⊎◌, inl, inr, refl, Bool, true, false, ◌||◌, List, []}
+use Rattle.std.proofs.Common.{◌≡◌, ℕ, zero, suc, ◌<◌, ◌⊎◌, inl, inr, refl, Bool, true, ◌||◌, List, []}
 use Rattle.std.proofs.Common.{◌∷◌, ◌++◌, arith}
 use Rattle.std.specs.Prelude.{Option, Some, None}
 use Rattle.grid_moves.specs.declared.Cell.{Cell}
@@ -87,8 +87,7 @@ module _ (width height : ℕ) (goal : Cell) (link : Links) (links : AreLinks wid
       or_late (is_same_state v s) (is_one_of (search_rule width goal link) all s) (among_one s all i)
     where
       or_late : (a b : Bool) → b ≡ true → (a || b) ≡ true
-      or_late true b e = refl
-      or_late false b e = e
+      or_late a b h1 = grind arith
 
   covered : IsCovered (search_rule width goal link) (states_of_map width height)
   covered u v c e =

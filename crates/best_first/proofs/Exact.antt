@@ -1,25 +1,27 @@
 -- An exact index leads to what is looked up, and stays exact.
+use Rattle.std.proofs.lemmas.Bool.Decides.{nat_tests}
 use Rattle.std.proofs.Common.{◌≡◌, ℕ, zero, suc, ◌+◌, ◌*◌, ◌<◌, ◌≤◌, ◌⊎◌, inl, inr, length, List, [], ◌∷◌}
-use Rattle.std.proofs.Common.{◌++◌, refl, ap, sym, ◌∙◌, subst, Bool, true, false, arith}
-use Rattle.std.specs.Prelude.{Option, Some, None, slice_get, slice_set, slice_index_or, nat_eq, if◌then◌else◌}
+use Rattle.std.proofs.Common.{◌++◌, refl, ap, sym, ◌∙◌, subst, arith}
+use Rattle.std.specs.Prelude.{Option, Some, None, slice_get, slice_set, slice_index_or}
 use Rattle.std.proofs.lemmas.Grind.{common_steps}
 use Rattle.grid_moves.specs.Grid.{cell_number}
 use Rattle.grid_moves.proofs.Places.{one_cell}
 use Rattle.best_first.specs.declared.node.Node.{Node}
 use Rattle.best_first.specs.declared.state.State.{State}
 use Rattle.best_first.specs.declared.state.Layout.{Layout}
-use Rattle.best_first.specs.declared.state.Layout.TheVariants.{ByCell, ByArrival}
-use Rattle.best_first.specs.Index.{entry_for, entry_in, entry_of_record, AreHeads, AreBlank, IsNodeAt}
+use Rattle.best_first.specs.Index.{entry_for, entry_in, AreBlank, IsNodeAt}
 use Rattle.best_first.specs.Index.{IsExact, IsPut}
 use Rattle.best_first.specs.Node.{state_of}
 use Rattle.best_first.specs.Space.{IsPlaced}
 use Rattle.best_first.specs.State.{arrival_number, state_number}
 use Rattle.best_first.specs.Table.{lookup}
-use Rattle.best_first.proofs.Lists.{get-last, get-added, got-added, get-set_same, get-set_other, got-set}
+use Rattle.std.proofs.lemmas.List.{length-set}
+use Rattle.open_list.proofs.Changes.{get_pushed, get-append_left}
+use Rattle.best_first.proofs.Lists.{got-added, get-set_same, get-set_other, got-set}
 use Rattle.best_first.proofs.Lookup.{lookup-found, none_found}
 use Rattle.best_first.proofs.Mirrors.{some_node}
 use Rattle.best_first.proofs.Numbers.{at_most}
-use Rattle.best_first.proofs.Records.{head-is, read_past, length-set}
+use Rattle.best_first.proofs.Records.{head-is, read_past}
 use Rattle.best_first.proofs.States.{one_arrival, same_state, arrival_small}
 
 -- where no cell has a head nothing is found
@@ -31,32 +33,12 @@ blank_head heads b c = by_get (slice_get heads c) refl
     by_value (suc r) g = absurd (b c r g)
 
     by_get : (o : Option ℕ) → slice_get heads c ≡ o → slice_index_or heads c 0 ≡ 0
-    by_get None g = read_past heads c 0 g
-    by_get (Some v) g = by_value v g
+    by_get o h1 = grind (arith, nat_tests, common_steps, read_past, by_value)
 
 -- the index of no nodes
 pub exact_blank : (layout : Layout) (width : ℕ) (heads : List ℕ) → AreBlank heads
     → IsExact layout width [] heads []
-exact_blank layout width heads b = record {
-  heads_are = heads_are layout;
-  few = omega arith;
-  covered = λ c r h. absurd (b c r h);
-  inside = λ id n h. absurd (cc);
-  found = λ id n h. absurd (cc);
-  nowhere_else = λ c a id h. absurd (let z = none layout c a in omega arith);
-}
-  where
-    heads_are : (l : Layout) → AreHeads l heads []
-    heads_are ByCell = tt
-    heads_are ByArrival = record { have = λ c r h. absurd (b c r h); apart = λ c d r h g. absurd (b c r h) }
-
-    at_any : (t : Bool) (h : ℕ) → h ≡ 0 → (if t then h else 0) ≡ 0
-    at_any true h e = e
-    at_any false h e = refl
-
-    none : (l : Layout) (c a : ℕ) → entry_in l heads [] c a ≡ 0
-    none ByCell c a = at_any (nat_eq a 8) (slice_index_or heads c 0) (blank_head heads b c)
-    none ByArrival c a = ap (λ (h : ℕ). entry_of_record h [] a) (blank_head heads b c)
+exact_blank layout width heads b = grind (arith, nat_tests, common_steps, blank_head)
 
 -- states of one cell number and one arrival number are one
 pub one_placed : (width places : ℕ) (s t : State) → IsPlaced width places s.cell
@@ -136,29 +118,17 @@ module _ (layout : Layout) (width : ℕ) (nodes : List Node) (heads : List ℕ) 
 
       lifted : (c a id : ℕ) → IsNodeAt layout width nodes c a id
           → IsNodeAt layout width (nodes ++ n ∷ []) c a id
-      lifted c a id at = record {
-        node = at.node;
-        node_is = get-added nodes n id at.node at.node_is;
-        cell_is = at.cell_is;
-        arrival_is = at.arrival_is;
-      }
+      lifted c a id at = grind (arith, nat_tests, common_steps, get-append_left)
 
       last_at : IsNodeAt layout width (nodes ++ n ∷ []) (cell_number width (state_of layout n).cell)
           (arrival_number (state_of layout n).arrival) (length nodes)
-      last_at = record { node = n; node_is = get-last nodes n; cell_is = refl; arrival_is = refl }
+      last_at = record { node = n; node_is = get_pushed nodes n; cell_is = refl; arrival_is = refl }
 
       covered : (c r : ℕ) → slice_get later_heads c ≡ Some (suc r)
           → (c ≡ cell_number width (state_of layout n).cell)
           ⊎ (c ≡ cell_number width (state_of layout n).cell → ⊥)
           → (a id : ℕ) × (0 ≤ id) × IsNodeAt layout width (nodes ++ n ∷ []) c a id
-      covered c r h (inl e) = (
-        arrival_number (state_of layout n).arrival,
-        length nodes,
-        omega arith,
-        subst
-            (λ (k : ℕ). IsNodeAt layout width (nodes ++ n ∷ []) k (arrival_number (state_of layout n).arrival)
-            (length nodes)) (sym e) last_at,
-      )
+      covered c r h (inl e) = grind (arith, nat_tests, common_steps, last_at)
       covered c r h (inr ne) =
           let old = x.covered c r (sym (p.heads_stay c ne) ∙ h) in
           (old.0, old.1, old.2, lifted c old.0 old.1 old.3)
@@ -195,11 +165,7 @@ module _ (layout : Layout) (width : ℕ) (nodes : List Node) (heads : List ℕ) 
     heads_are = x.heads_are;
     few = (let f = x.few in let s = length-set nodes id n in omega arith);
     covered = λ c r g. let o = x.covered c r g in (o.0, o.1, o.2, kept c o.0 o.1 o.3 (two o.1));
-    inside = λ j m g. elim (got-set nodes j id m n g) [
-      | inl was ↦ x.inside j m was.1
-      | inr here ↦ subst (λ (s : State). IsPlaced width (length heads) s.cell) (same j m here)
-          (x.inside id old h)
-    ];
+    inside = λ j m g. grind (arith, nat_tests, common_steps, got-set);
     found = λ j m g. elim (got-set nodes j id m n g) [
       | inl was ↦ x.found j m was.1
       | inr here ↦ (ap (λ (s : State). entry_in layout heads records (cell_number width s.cell)
@@ -217,23 +183,7 @@ module _ (layout : Layout) (width : ℕ) (nodes : List Node) (heads : List ℕ) 
 
       kept : (c a j : ℕ) → IsNodeAt layout width nodes c a j → (j ≡ id) ⊎ (j ≡ id → ⊥)
           → IsNodeAt layout width (slice_set nodes id n) c a j
-      kept c a j at (inl q) =
-          let one : at.node ≡ old =
-          some_node at.node old (sym at.node_is ∙ ap (λ (i : ℕ). slice_get nodes i) q ∙ h) in
-          let state : state_of layout n ≡ state_of layout at.node =
-          sym e ∙ ap (λ (y : Node). state_of layout y) (sym one) in
-          record {
-            node = n;
-            node_is = ap (λ (i : ℕ). slice_get (slice_set nodes id n) i) q ∙ get-set_same nodes id old n h;
-            cell_is = ap (λ (s : State). cell_number width s.cell) state ∙ at.cell_is;
-            arrival_is = ap (λ (s : State). arrival_number s.arrival) state ∙ at.arrival_is;
-          }
-      kept c a j at (inr q) = record {
-        node = at.node;
-        node_is = get-set_other nodes j id n q ∙ at.node_is;
-        cell_is = at.cell_is;
-        arrival_is = at.arrival_is;
-      }
+      kept c a j h1 h2 = grind (arith, nat_tests, common_steps, some_node, get-set_same, get-set_other)
 
   -- each node's state has a number of its own
   pub own_number : (i j : ℕ) (m n : Node) → slice_get nodes i ≡ Some m → slice_get nodes j ≡ Some n
@@ -255,10 +205,7 @@ module _ (layout : Layout) (width : ℕ) (nodes : List Node) (heads : List ℕ) 
 
   pub number_below : (i : ℕ) (n : Node) → slice_get nodes i ≡ Some n
       → state_number width (state_of layout n) < length heads * 9
-  number_below i n h =
-      let p = (x.inside i n h).within in
-      let s = arrival_small (state_of layout n).arrival in
-      omega arith
+  number_below i n h = grind (arith, nat_tests, common_steps, arrival_small)
 
   -- so there are at most nine nodes for each place
   pub few_nodes : length nodes ≤ length heads * 9

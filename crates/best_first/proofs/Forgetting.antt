@@ -1,5 +1,5 @@
 -- Heads that are set back to 0, node by node.
-use Rattle.std.proofs.Common.{◌≡◌, ℕ, suc, ◌+◌, ◌≤◌, inl, inr, length, List, ap, sym, ◌∙◌, subst, arith}
+use Rattle.std.proofs.Common.{◌≡◌, ℕ, ◌+◌, length, List, arith}
 use Rattle.std.specs.Prelude.{Some, slice_get, slice_set}
 use Rattle.std.proofs.lemmas.Option.{slice_get_within}
 use Rattle.grid_moves.specs.declared.Cell.{Cell}
@@ -20,33 +20,14 @@ module _ (layout : Layout) (width : ℕ) (nodes : List Node) where
       → slice_get nodes first ≡ Some n
       → AreCovered layout width nodes (first + 1)
       (slice_set heads (cell_number width (state_of layout n).cell) 0)
-  covered_next first heads n a g = λ c r h.
-      elim (got-set heads c (cell_number width (state_of layout n).cell) (suc r) 0 h) [
-        | inl was ↦ (let old = a c r was.1 in (
-          old.0,
-          old.1,
-          greater old.1 old.2 (λ e. was.0 (sym old.3.cell_is ∙ ap (λ (m : Node).
-              cell_number width (state_of layout m).cell) (some_node old.3.node n (sym old.3.node_is
-              ∙ ap (λ (i : ℕ). slice_get nodes i) e ∙ g)))),
-          old.3,
-        ))
-        | inr here ↦ absurd (let e = here.1 in omega arith)
-      ]
-    where
-      greater : (id : ℕ) → first ≤ id → (id ≡ first → ⊥) → first + 1 ≤ id
-      greater id l n = omega arith
+  covered_next first heads n a g = grind (arith, got-set, some_node)
 
   -- after all nodes no head is left
   pub covered_none : (heads : List ℕ) → AreCovered layout width nodes (length nodes) heads → AreBlank heads
-  covered_none heads a c r h =
-      let at = a c r h in
-      let within = slice_get_within nodes at.1 at.3.node at.3.node_is in
-      let past = at.2 in
-      omega arith
+  covered_none heads a c r h = grind (arith, slice_get_within)
 
 -- a node's cell is that of its state
 pub cell_placed : (layout : Layout) (width places : ℕ) (n : Node) (cell : Cell)
     → IsPlaced width places (state_of layout n).cell → cell ≡ (state_told n.place).cell
     → IsPlaced width places cell
-cell_placed layout width places n cell p e =
-    subst (λ (c : Cell). IsPlaced width places c) (in_cell layout (state_told n.place) ∙ sym e) p
+cell_placed layout width places n cell p e = grind (arith, in_cell)

@@ -6,7 +6,7 @@ use Rattle.root2_cost.specs.Order.{IsAtMost}
 use Rattle.root2_cost.specs.Sums.{add_costs}
 use Rattle.root2_cost.proofs.Distance.{octile_triangle}
 use Rattle.grid_moves.specs.declared.Cell.{Cell}
-use Rattle.grid_moves.specs.Points.{apart, estimate}
+use Rattle.grid_moves.specs.Points.{estimate}
 use Rattle.grid_moves.proofs.Legal.{is_same-cell}
 use Rattle.grid_moves.proofs.Consistent.{estimate_nothing}
 use Rattle.search_run.specs.Chain.{IsConsistent}
@@ -16,9 +16,7 @@ use Rattle.best_first.proofs.States.{is_same_state-state, is_same_state-itself}
 -- the octile distance obeys the triangle inequality
 pub estimate_triangle : (u v goal : Cell)
     → IsAtMost (estimate u goal) (add_costs (estimate u v) (estimate v goal))
-estimate_triangle u v goal =
-    octile_triangle (apart u.x goal.x) (apart u.y goal.y) (apart u.x v.x) (apart u.y v.y) (apart v.x goal.x)
-    (apart v.y goal.y) (omega arith) (omega arith)
+estimate_triangle u v goal = grind (arith, octile_triangle)
 
 pub consistent : (width height : ℕ) (goal : Cell) (link : Links) → AreLinks width height link
     → IsConsistent (search_rule width goal link)
@@ -37,8 +35,7 @@ on_near width height c on = (omega (arith, on.0), omega (arith, on.1))
 pub short_sum : (width height : ℕ) (c goal : Cell) (cost : Cost) → width ≤ 4096 → height ≤ 4096
     → LiesOn width height c → LiesNear width height goal → cost.a + cost.b ≤ 2 ^ 29
     → HasShortParts (add_costs cost (estimate c goal))
-short_sum width height c goal cost n l a b few =
-    record { straight = omega (arith, a.0, a.1, b.0, b.1); diagonal = omega (arith, a.0, a.1, b.0, b.1) }
+short_sum width height c goal cost n l a b few = grind (arith, a.0, a.1, b.0, b.1)
 
 -- a link costs few moves
 pub short_link : (width height : ℕ) (c d : Cell) → width ≤ 4096 → height ≤ 4096 → LiesOn width height c

@@ -1,29 +1,16 @@
 -- Reading a list after an element was added or changed.
 use Rattle.std.proofs.Common.{◌≡◌, ◌≢◌, ℕ, zero, suc, ◌⊎◌, inl, inr, arith, length, List, [], ◌∷◌, ◌++◌, refl}
 use Rattle.std.proofs.Common.{ap, sym}
-use Rattle.std.specs.Prelude.{Option, Some, None, slice_get, slice_set}
+use Rattle.std.specs.Prelude.{Some, slice_get, slice_set}
+use Rattle.std.proofs.lemmas.Option.{same_Some}
 
 module _ {X : Type 0} where
-  pub get-last : (xs : List X) (y : X) → slice_get (xs ++ y ∷ []) (length xs) ≡ Some y
-  get-last [] y = refl
-  get-last (x ∷ xs) y = get-last xs y
-
-  pub get-added : (xs : List X) (y : X) (i : ℕ) (x : X) → slice_get xs i ≡ Some x
-      → slice_get (xs ++ y ∷ []) i ≡ Some x
-  get-added [] y i x h = absurd (cc)
-  get-added (z ∷ xs) y zero x h = h
-  get-added (z ∷ xs) y (suc i) x h = get-added xs y i x h
-
-  some : (x y : X) → Some x ≡ Some y → x ≡ y
-  some x y e = ap (λ (o : Option X). elim o as (λ _. X) [ Some v ↦ v | None ↦ x ]) e
-
   pub got-added : (xs : List X) (y : X) (i : ℕ) (x : X) → slice_get (xs ++ y ∷ []) i ≡ Some x
       → (slice_get xs i ≡ Some x) ⊎ ((i ≡ length xs) × (x ≡ y))
-  got-added [] y zero x h = inr (refl, some x y (sym h))
+  got-added [] y zero x h = inr (refl, same_Some x y (sym h))
   got-added [] y (suc i) x h = absurd (cc)
   got-added (z ∷ xs) y zero x h = inl h
-  got-added (z ∷ xs) y (suc i) x h =
-      elim (got-added xs y i x h) [ inl e ↦ inl e | inr e ↦ inr (ap (λ n. suc n) e.0, e.1) ]
+  got-added (z ∷ xs) y (suc i) x h = grind (arith, got-added xs y i x h)
 
   pub get-set_same : (xs : List X) (i : ℕ) (x y : X) → slice_get xs i ≡ Some x
       → slice_get (slice_set xs i y) i ≡ Some y
@@ -42,10 +29,7 @@ module _ {X : Type 0} where
   pub got-set : (xs : List X) (i j : ℕ) (x y : X) → slice_get (slice_set xs j y) i ≡ Some x
       → ((i ≢ j) × (slice_get xs i ≡ Some x)) ⊎ ((i ≡ j) × (x ≡ y))
   got-set [] i j x y h = absurd (cc)
-  got-set (z ∷ xs) zero zero x y h = inr (refl, some x y (sym h))
+  got-set (z ∷ xs) zero zero x y h = inr (refl, same_Some x y (sym h))
   got-set (z ∷ xs) zero (suc j) x y h = inl ((λ e. omega arith), h)
   got-set (z ∷ xs) (suc i) zero x y h = inl ((λ e. omega arith), h)
-  got-set (z ∷ xs) (suc i) (suc j) x y h = elim (got-set xs i j x y h) [
-    | inl e ↦ inl ((λ p. e.0 (omega arith)), e.1)
-    | inr e ↦ inr (ap (λ n. suc n) e.0, e.1)
-  ]
+  got-set (z ∷ xs) (suc i) (suc j) x y h = grind (arith, got-set xs i j x y h)

@@ -1,6 +1,10 @@
 -- Where a state's node is found.
-use Rattle.std.proofs.Common.{◌≡◌, ℕ, zero, suc, refl, ap, ◌∙◌, subst, Bool, true, false, List, [], ◌∷◌}
+use Rattle.std.proofs.lemmas.Bool.Decides.{nat_tests}
+use Rattle.std.proofs.lemmas.Grind.{common_steps}
+use Rattle.std.proofs.Common.{arith}
+use Rattle.std.proofs.Common.{◌≡◌, ℕ, suc, refl, subst, Bool, List, [], ◌∷◌}
 use Rattle.std.specs.Prelude.{Option, Some, None, option_map, if◌then◌else◌, slice_get}
+use Rattle.std.proofs.lemmas.Option.{same_Some}
 use Rattle.best_first.specs.declared.node.Node.{Node}
 use Rattle.best_first.specs.declared.state.State.{State}
 use Rattle.best_first.specs.declared.state.Layout.{Layout}
@@ -15,12 +19,6 @@ pub record Found (layout : Layout) (nodes : List Node) (s : State) (id : ℕ) : 
   pub node_is : slice_get nodes id ≡ Some node
   pub state : state_of layout node ≡ s
 
-some_number : (m n : ℕ) → Some m ≡ Some n → m ≡ n
-some_number m n e = ap (λ (o : Option ℕ). elim o as (λ _. ℕ) [ Some v ↦ v | None ↦ m ]) e
-
-some_node : (m n : Node) → Some m ≡ Some n → m ≡ n
-some_node m n e = ap (λ (o : Option Node). elim o as (λ _. Node) [ Some v ↦ v | None ↦ m ]) e
-
 module _ (layout : Layout) where
   pub lookup-found : (nodes : List Node) (s : State) (id : ℕ) → lookup layout nodes s ≡ Some id
       → Found layout nodes s id
@@ -33,7 +31,7 @@ module _ (layout : Layout) where
       later again None e h = absurd (cc)
       later again (Some i) e h =
           let f = again i e in
-          let same : suc i ≡ id = some_number (suc i) id h in
+          let same : suc i ≡ id = same_Some (suc i) id h in
           subst (λ (j : ℕ). Found layout (n ∷ nodes) s j) same
           (record { node = f.node; node_is = f.node_is; state = f.state })
 
@@ -41,11 +39,7 @@ module _ (layout : Layout) where
           → is_same_state (state_of layout n) s ≡ b
           → (if b then Some 0 else option_map (λ i. suc i) (lookup layout nodes s)) ≡ Some id
           → Found layout (n ∷ nodes) s id
-      by_test again true e h =
-          let same : 0 ≡ id = some_number 0 id h in
-          subst (λ (j : ℕ). Found layout (n ∷ nodes) s j) same
-          (record { node = n; node_is = refl; state = is_same_state-state (state_of layout n) s e })
-      by_test again false e h = later again (lookup layout nodes s) refl h
+      by_test h1 b h2 h3 = grind (arith, nat_tests, common_steps, same_Some, is_same_state-state, later)
 
   -- where nothing is found no node is of the state
   pub none_found : (nodes : List Node) (s : State) → lookup layout nodes s ≡ None → (id : ℕ) (n : Node)
@@ -58,18 +52,7 @@ module _ (layout : Layout) where
           → is_same_state (state_of layout x) s ≡ b
           → (if b then Some 0 else option_map (λ i. suc i) (lookup layout nodes s)) ≡ None
           → (i : ℕ) → slice_get (x ∷ nodes) i ≡ Some n → ⊥
-      by_test again true t h i g = absurd (cc)
-      by_test again false t h zero g =
-          let same : x ≡ n = some_node x n g in
-          let yes : is_same_state (state_of layout x) s ≡ true =
-          ap (λ (y : Node). is_same_state (state_of layout y) s) same
-          ∙ ap (λ (u : State). is_same_state u s) e ∙ is_same_state-itself s in
-          absurd (cc)
-      by_test again false t h (suc i) g = by_lookup (lookup layout nodes s) refl h
-        where
-          by_lookup : (o : Option ℕ) → lookup layout nodes s ≡ o → option_map (λ i. suc i) o ≡ None → ⊥
-          by_lookup None l h = again l i g
-          by_lookup (Some j) l h = absurd (cc)
+      by_test h1 b h2 h3 i h4 = grind (arith, nat_tests, common_steps, same_Some, is_same_state-itself)
 
   -- and the other way round
   pub lookup-none : (nodes : List Node) (s : State)

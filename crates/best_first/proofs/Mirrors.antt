@@ -1,7 +1,8 @@
 -- A table that keeps a run goes on keeping it when a node is offered.
 use Rattle.std.proofs.Common.{◌≡◌, ◌≢◌, ℕ, ◌<◌, ◌⊎◌, inl, inr, length, List, [], ◌∷◌, refl, ap, sym, ◌∙◌}
-use Rattle.std.proofs.Common.{subst, Bool, true, false, arith}
-use Rattle.std.specs.Prelude.{Option, Some, None, slice_get}
+use Rattle.std.proofs.Common.{Bool, true, false, arith}
+use Rattle.std.specs.Prelude.{Some, None, slice_get}
+use Rattle.std.proofs.lemmas.Option.{same_Some}
 use Rattle.grid_moves.specs.declared.Cell.{Cell}
 use Rattle.search_run.specs.Run.{Taken, Offer, IsIn, here, there, is_taken}
 use Rattle.search_run.proofs.Leastness.{or_true}
@@ -17,7 +18,7 @@ use Rattle.best_first.proofs.States.{is_same_state-state, is_same_state-itself, 
 use Rattle.best_first.proofs.Lookup.{none_found, lookup-none}
 
 pub some_node : (m n : Node) → Some m ≡ Some n → m ≡ n
-some_node m n e = ap (λ (o : Option Node). elim o as (λ _. Node) [ Some v ↦ v | None ↦ m ]) e
+some_node m n e = same_Some m n e
 
 -- a table in which one slot was changed: the node there is v's now
 pub record Changed (layout : Layout) (v : State) (id : ℕ) (n : Node) (k l : Table) : Type 0 where
@@ -36,9 +37,7 @@ module _ (width : ℕ) (goal : Cell) (link : Links) where
       → is_taken (search_rule width goal link) run u.state ≡ true
   in_taken [] u m = elim m [ ]
   in_taken (x ∷ earlier) u (here e) = rw (is_same_state-itself x.state) refl
-  in_taken (x ∷ earlier) u (there z e m) =
-      or_true (is_same_state x.state u.state) (is_taken (search_rule width goal link) earlier u.state)
-      (in_taken earlier u m)
+  in_taken (x ∷ earlier) u (there z e m) = grind (arith, or_true, in_taken earlier u m)
 
 module _ {layout : Layout} {width : ℕ} {goal : Cell} {link : Links} where
   module _ {run : List (Taken State)} {best : Offers} {k l : Table} {v : State} {id : ℕ} {n : Node}
@@ -48,33 +47,17 @@ module _ {layout : Layout} {width : ℕ} {goal : Cell} {link : Links} where
     -- the slot is no taken state's
     not_here : (j : ℕ) (p : Node) → slice_get k.nodes j ≡ Some p
         → is_taken (search_rule width goal link) run (state_of layout p) ≡ true → j ≢ id
-    not_here j p h y e =
-        let same : state_of layout p ≡ v = ch.was p (sym (ap (λ (i : ℕ). slice_get k.nodes i) e) ∙ h) in
-        let z : is_taken (search_rule width goal link) run (state_of layout p) ≡ false =
-        ap (λ (s : State). is_taken (search_rule width goal link) run s) same ∙ untaken in
-        cc
+    not_here j p h y e = grind arith
 
     -- what a node keeps stays, as its parent's slot was not changed
     keeps_stays : (x : Node) (o : Offer State) → Keeps layout width goal link k.nodes x o
         → is_taken (search_rule width goal link) run o.from ≡ true → Keeps layout width goal link l.nodes x o
-    keeps_stays x o h y =
-        let taken : is_taken (search_rule width goal link) run (state_of layout h.parent) ≡ true =
-        ap (λ (s : State). is_taken (search_rule width goal link) run s) h.from ∙ y in
-        record {
-          key = h.key;
-          short = h.short;
-          parent = h.parent;
-          parent_is = ch.others x.parent (not_here x.parent h.parent h.parent_is taken) ∙ h.parent_is;
-          from = h.from;
-        }
+    keeps_stays x o h y = grind (arith, not_here)
 
     -- another state's node stands in another slot
     elsewhere : (s : State) → is_same_state v s ≡ false → (x : Node) → state_of layout x ≡ s
         → state_of layout x ≡ v → ⊥
-    elsewhere s f x e h =
-        let yes : is_same_state v s ≡ true =
-        ap (λ (t : State). is_same_state t s) (sym h ∙ e) ∙ is_same_state-itself s in
-        cc
+    elsewhere s f x e h = grind (arith, is_same_state-itself)
 
     module _ (after : Offers) {o : Offer State} (keeps : Keeps layout width goal link l.nodes n o)
         (source : is_taken (search_rule width goal link) run o.from ≡ true)
@@ -84,28 +67,11 @@ module _ {layout : Layout} {width : ℕ} {goal : Cell} {link : Links} where
       at_id j = grind arith
 
       here_in_order : IsInOrder layout width goal link run after l id n
-      here_in_order = record {
-        column = column;
-        opened =
-            let z : is_taken (search_rule width goal link) run (state_of layout n) ≡ false =
-            ap (λ (s : State). is_taken (search_rule width goal link) run s) ch.state ∙ untaken in
-            rw z ch.open_here;
-        offer = o;
-        keeps = keeps;
-        led = led;
-        source = source;
-        best_is = λ z. ap (λ (s : State). after s) ch.state ∙ at_v;
-        taken_by = λ u i e. absurd (let y = in_taken width goal link run u i in
-            let z : is_taken (search_rule width goal link) run u.state ≡ false =
-            ap (λ (s : State). is_taken (search_rule width goal link) run s) (e ∙ ch.state) ∙ untaken in cc);
-      }
+      here_in_order = grind (arith, in_taken)
 
       in_order_at : (j : ℕ) (x : Node) → slice_get l.nodes j ≡ Some x → (j ≡ id) ⊎ (j ≢ id)
           → IsInOrder layout width goal link run after l j x
-      in_order_at j x h (inl e) =
-          let same : x ≡ n = some_node x n (sym h ∙ ap (λ (i : ℕ). slice_get l.nodes i) e ∙ ch.here) in
-          subst (λ (i : ℕ). IsInOrder layout width goal link run after l i x) (sym e)
-          (subst (λ (y : Node). IsInOrder layout width goal link run after l id y) (sym same) here_in_order)
+      in_order_at j x h (inl e) = grind (arith, some_node, here_in_order)
       in_order_at j x h (inr ne) =
           let was : slice_get k.nodes j ≡ Some x = sym (ch.others j ne) ∙ h in
           let old = m.in_order j x was in
@@ -126,16 +92,9 @@ module _ {layout : Layout} {width : ℕ} {goal : Cell} {link : Links} where
       only_at : (i j : ℕ) (x y : Node) → slice_get l.nodes i ≡ Some x → slice_get l.nodes j ≡ Some y
           → state_of layout x ≡ state_of layout y → (i ≡ id) ⊎ (i ≢ id) → (j ≡ id) ⊎ (j ≢ id) → i ≡ j
       only_at i j x y h g e (inl a) (inl b) = a ∙ sym b
-      only_at i j x y h g e (inl a) (inr b) =
-          let same : x ≡ n = some_node x n (sym h ∙ ap (λ (q : ℕ). slice_get l.nodes q) a ∙ ch.here) in
-          let at : state_of layout y ≡ v = sym e ∙ ap (λ (q : Node). state_of layout q) same ∙ ch.state in
-          absurd (b (ch.only j y (sym (ch.others j b) ∙ g) at))
-      only_at i j x y h g e (inr a) (inl b) =
-          let same : y ≡ n = some_node y n (sym g ∙ ap (λ (q : ℕ). slice_get l.nodes q) b ∙ ch.here) in
-          let at : state_of layout x ≡ v = e ∙ ap (λ (q : Node). state_of layout q) same ∙ ch.state in
-          absurd (a (ch.only i x (sym (ch.others i a) ∙ h) at))
-      only_at i j x y h g e (inr a) (inr b) =
-          m.only i j x y (sym (ch.others i a) ∙ h) (sym (ch.others j b) ∙ g) e
+      only_at i j x y h g e (inl a) (inr b) = grind (arith, some_node)
+      only_at i j x y h g e (inr a) (inl b) = grind (arith, some_node)
+      only_at i j x y h g e (inr a) (inr b) = grind arith
 
       known_on : (s : State) → lookup layout l.nodes s ≡ None
           → (is_taken (search_rule width goal link) run s ≡ false) × (after s ≡ None)

@@ -1,17 +1,15 @@
 -- Numbers of which no two are equal are at most as many as there are below their bound.
 use Rattle.std.proofs.Common.{◌≡◌, ℕ, zero, suc, ◌<◌, ◌≤◌, length, List, [], ◌∷◌, refl, ap, subst, Bool, true}
 use Rattle.std.proofs.Common.{false, ◌||◌, arith, map, eqb}
-use Rattle.std.specs.Prelude.{Option, Some, None, slice_get}
+use Rattle.std.specs.Prelude.{Some, slice_get}
+use Rattle.std.proofs.lemmas.List.{length-map}
+use Rattle.std.proofs.lemmas.Option.{same_Some}
 use Rattle.std.specs.List.{IsDistinct, AllByRecursion, list_any}
 use Rattle.std.proofs.lemmas.Map.Steps.{length-le_from_distinct_below}
 use Rattle.std.proofs.lemmas.Bool.Decides.{nat_tests}
 
 pub differ : (m n : ℕ) → (m ≡ n → ⊥) → eqb m n ≡ false
-differ m n h = by_test (eqb m n) refl
-  where
-    by_test : (b : Bool) → eqb m n ≡ b → eqb m n ≡ false
-    by_test true e = absurd (h (grind (arith, nat_tests)))
-    by_test false e = e
+differ m n h = grind (arith, nat_tests)
 
 pub any_is : (xs : List ℕ) (q : ℕ) → list_any (eqb q) xs ≡ true → (i : ℕ) × (slice_get xs i ≡ Some q)
 any_is [] q h = absurd (cc)
@@ -31,13 +29,8 @@ module _ {X : Type 0} (f : X → ℕ) where
   get-map : (xs : List X) (i b : ℕ) → slice_get (map f xs) i ≡ Some b
       → (x : X) × (slice_get xs i ≡ Some x) × (f x ≡ b)
   get-map [] i b h = absurd (cc)
-  get-map (x ∷ xs) zero b h =
-      (x, refl, ap (λ (o : Option ℕ). elim o as (λ _. ℕ) [ Some v ↦ v | None ↦ 0 ]) h)
+  get-map (x ∷ xs) zero b h = grind (arith, nat_tests, same_Some)
   get-map (x ∷ xs) (suc i) b h = get-map xs i b h
-
-  length-map : (xs : List X) → length (map f xs) ≡ length xs
-  length-map [] = refl
-  length-map (x ∷ xs) = ap (λ n. suc n) (length-map xs)
 
   all_differ : (x : X) (ys : List X) → ((j : ℕ) (y : X) → slice_get ys j ≡ Some y → f x ≡ f y → ⊥)
       → AllByRecursion (λ n. eqb (f x) n ≡ false) (map f ys)
@@ -55,7 +48,7 @@ module _ {X : Type 0} (f : X → ℕ) where
 
   pub at_most : (xs : List X) (n : ℕ) → AreApart f xs → ((i : ℕ) (x : X) → slice_get xs i ≡ Some x → f x < n)
       → length xs ≤ n
-  at_most xs n apart below = subst (λ m. m ≤ n) (length-map xs)
+  at_most xs n apart below = subst (λ m. m ≤ n) (length-map xs f)
       (length-le_from_distinct_below (map f xs) n (distinct_from xs apart) (λ q h.
       let i = any_is (map f xs) q h in
       let x = get-map xs i.0 q i.1 in

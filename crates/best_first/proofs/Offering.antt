@@ -25,7 +25,8 @@ use Rattle.best_first.specs.Rule.{Links, search_rule}
 use Rattle.best_first.specs.Node.{state_of}
 use Rattle.best_first.specs.Table.{Table, lookup, node_for, added, replaced, is_bettered, offered, offered_at}
 use Rattle.best_first.specs.Mirror.{Offers, with_offer, Keeps, Mirrors}
-use Rattle.best_first.proofs.Lists.{get-last, get-added, got-added, get-set_same, get-set_other}
+use Rattle.open_list.proofs.Changes.{get-append_left, get_pushed, get_pushed_other}
+use Rattle.best_first.proofs.Lists.{get-set_same, get-set_other}
 use Rattle.best_first.proofs.States.{is_same_state-state, is_same_state-itself, same_or_not, told-place}
 use Rattle.best_first.proofs.Lookup.{lookup-found, none_found}
 use Rattle.best_first.proofs.Mirrors.{Changed, mirrors_changed, some_node}
@@ -140,33 +141,16 @@ module _ {layout : Layout} {width : ℕ} {goal : Cell} {link : Links} {run : Lis
     changed_by_adding : lookup layout k.nodes to ≡ None
         → Changed layout to (length k.nodes) new k (added new k)
     changed_by_adding none = record {
-      here = get-last k.nodes new;
-      others = λ j ne. others j ne (slice_get k.nodes j) refl;
+      here = get_pushed k.nodes new;
+      others = λ j ne. get_pushed_other k.nodes new j ne;
       was = λ old h. absurd (let b = slice_get_within k.nodes (length k.nodes) old h in omega arith);
       only = λ j x h e. absurd (none_found layout k.nodes to none j x h e);
       state = new_state;
       open_here =
-          ap (λ (i : ℕ). slice_get (k.open_at ++ true ∷ []) i) (sym m.no_more) ∙ get-last k.open_at true;
-      open_others = λ j ne. open_others j ne (slice_get k.open_at j) refl;
+          ap (λ (i : ℕ). slice_get (k.open_at ++ true ∷ []) i) (sym m.no_more) ∙ get_pushed k.open_at true;
+      open_others = λ j ne. get_pushed_other k.open_at true j (λ e. ne (e ∙ m.no_more));
       no_more = let e = m.no_more in grind (arith, common_steps);
     }
-      where
-        none_past : {X : Type 0} (xs : List X) (y : X) (j : ℕ) → j ≢ length xs → slice_get xs j ≡ None
-            → (o : Option X) → slice_get (xs ++ y ∷ []) j ≡ o → o ≡ None
-        none_past xs y j ne h None s = refl
-        none_past xs y j ne h (Some x) s =
-            absurd (elim (got-added xs y j x s) [ inl i ↦ (cc) | inr i ↦ ne i.0 ])
-
-        others : (j : ℕ) → j ≢ length k.nodes → (o : Option Node) → slice_get k.nodes j ≡ o
-            → slice_get (k.nodes ++ new ∷ []) j ≡ slice_get k.nodes j
-        others j ne None h = none_past k.nodes new j ne h (slice_get (k.nodes ++ new ∷ []) j) refl ∙ sym h
-        others j ne (Some x) h = get-added k.nodes new j x h ∙ sym h
-
-        open_others : (j : ℕ) → j ≢ length k.nodes → (o : Option Bool) → slice_get k.open_at j ≡ o
-            → slice_get (k.open_at ++ true ∷ []) j ≡ slice_get k.open_at j
-        open_others j ne None h = none_past k.open_at true j (λ e. ne (e ∙ m.no_more)) h
-            (slice_get (k.open_at ++ true ∷ []) j) refl ∙ sym h
-        open_others j ne (Some x) h = get-added k.open_at true j x h ∙ sym h
 
     is_open : (id : ℕ) (n : Node) → slice_get k.nodes id ≡ Some n → state_of layout n ≡ to
         → is_taken (search_rule width goal link) run to ≡ false → slice_get k.open_at id ≡ Some true
@@ -276,7 +260,7 @@ module _ {layout : Layout} {width : ℕ} {goal : Cell} {link : Links} {run : Lis
         by_lookup None e =
             let z = m.known to e in
             mirrors_changed m (changed_by_adding e) z.0 new_column (with_offer best to now)
-            (new_keeps (added new k) (get-added k.nodes new way.parent p w.parent_is)) w.parent_taken told
+            (new_keeps (added new k) (get-append_left k.nodes (new ∷ []) way.parent p w.parent_is)) w.parent_taken told
             (at_v None z.1) at_others
         by_lookup (Some id) e =
             let f = lookup-found layout k.nodes to id e in

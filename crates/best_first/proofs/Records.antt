@@ -3,55 +3,22 @@ use Rattle.std.proofs.Common.{◌≡◌, ℕ, zero, suc, ◌<◌, ◌⊎◌, inl
 use Rattle.std.proofs.Common.{sym, ◌∙◌, subst, arith}
 use Rattle.std.specs.Prelude.{Option, Some, None, slice_get, slice_set, slice_index_or}
 use Rattle.std.specs.Option.{option_map_or}
-use Rattle.std.proofs.lemmas.Option.{get_or_from_slice_get, slice_get_within}
+use Rattle.std.proofs.lemmas.List.{length-set, get_or-set_same, get_or-set_other}
+use Rattle.std.proofs.lemmas.Option.{get_or_from_slice_get, slice_get_within, unwrap_or-slice_get}
 use Rattle.best_first.specs.declared.state.Layout.TheVariants.{ByArrival}
 use Rattle.best_first.specs.Index.{entry_of_record, entry_in, HasRecord, AreRecords, IsOpened, IsPut}
-use Rattle.best_first.proofs.Lists.{get-last, get-added, get-set_same, get-set_other, got-set}
+use Rattle.open_list.proofs.Changes.{get_pushed, get-append_left}
+use Rattle.best_first.proofs.Lists.{get-set_same, get-set_other, got-set}
 
--- a list read at a place, by a default or not
-pub read : {X : Type 0} (xs : List X) (i : ℕ) (x : X) → i < length xs
-    → slice_get xs i ≡ Some (slice_index_or xs i x)
-read [] i x h = absurd (omega arith)
-read (y ∷ xs) zero x h = refl
-read (y ∷ xs) (suc i) x h = read xs i x (omega arith)
-
+-- a list read past its end
 pub read_past : {X : Type 0} (xs : List X) (i : ℕ) (x : X) → slice_get xs i ≡ None → slice_index_or xs i x ≡ x
-read_past [] i x h = refl
-read_past (y ∷ xs) zero x h = absurd (cc)
-read_past (y ∷ xs) (suc i) x h = read_past xs i x h
-
-pub length-set : {X : Type 0} (xs : List X) (i : ℕ) (x : X) → length (slice_set xs i x) ≡ length xs
-length-set [] i x = refl
-length-set (y ∷ xs) zero x = refl
-length-set (y ∷ xs) (suc i) x = ap (λ n. suc n) (length-set xs i x)
-
-pub read_set_same : (xs : List ℕ) (i x : ℕ) → i < length xs → slice_index_or (slice_set xs i x) i 0 ≡ x
-read_set_same [] i x h = absurd (omega arith)
-read_set_same (y ∷ xs) zero x h = refl
-read_set_same (y ∷ xs) (suc i) x h = read_set_same xs i x (omega arith)
-
-pub read_set_other : (xs : List ℕ) (i j x : ℕ) → (j ≡ i → ⊥) → slice_index_or (slice_set xs i x) j 0
-    ≡ slice_index_or xs j 0
-read_set_other [] i j x n = refl
-read_set_other (y ∷ xs) zero zero x n = absurd (n refl)
-read_set_other (y ∷ xs) zero (suc j) x n = refl
-read_set_other (y ∷ xs) (suc i) zero x n = refl
-read_set_other (y ∷ xs) (suc i) (suc j) x n = read_set_other xs i j x (λ e. n (ap (λ k. suc k) e))
+read_past xs i x h = sym (unwrap_or-slice_get xs i x) ∙ rw h refl
 
 abbrev pub zeros : List ℕ
 zeros = 0 ∷ 0 ∷ 0 ∷ 0 ∷ 0 ∷ 0 ∷ 0 ∷ 0 ∷ 0 ∷ []
 
 read_zeros : (a : ℕ) → slice_index_or zeros a 0 ≡ 0
-read_zeros zero = refl
-read_zeros (suc zero) = refl
-read_zeros (suc (suc zero)) = refl
-read_zeros (suc (suc (suc zero))) = refl
-read_zeros (suc (suc (suc (suc zero)))) = refl
-read_zeros (suc (suc (suc (suc (suc zero))))) = refl
-read_zeros (suc (suc (suc (suc (suc (suc zero)))))) = refl
-read_zeros (suc (suc (suc (suc (suc (suc (suc zero))))))) = refl
-read_zeros (suc (suc (suc (suc (suc (suc (suc (suc zero)))))))) = refl
-read_zeros (suc (suc (suc (suc (suc (suc (suc (suc (suc a))))))))) = refl
+read_zeros a = grind arith
 
 -- what is read of a record
 pub entry-read : (records : List (List ℕ)) (r a : ℕ) (entries : List ℕ) → slice_get records r ≡ Some entries
@@ -62,6 +29,9 @@ entry-read records r a entries e = rw e refl
 module _ (heads : List ℕ) (cell : ℕ) where
   pub head-is : (h : ℕ) → slice_get heads cell ≡ Some h → slice_index_or heads cell 0 ≡ h
   head-is h e = get_or_from_slice_get heads cell h 0 e
+
+  pub got_head : (h : ℕ) → slice_index_or heads cell 0 ≡ suc h → slice_get heads cell ≡ Some (suc h)
+  got_head h e = grind (arith, read_past, head-is)
 
 module _ (heads : List ℕ) (records : List (List ℕ)) (cell : ℕ) (a : AreRecords heads records)
     (none : slice_get heads cell ≡ Some 0) where
@@ -80,12 +50,12 @@ module _ (heads : List ℕ) (records : List (List ℕ)) (cell : ℕ) (a : AreRec
     have = λ c r h. elim (got-set heads c cell (suc r) (suc (length records)) h) [
       | inl was ↦ (let old = a.have c r was.1 in record {
         entries = old.entries;
-        record_is = get-added records zeros r old.entries old.record_is;
+        record_is = get-append_left records (zeros ∷ []) r old.entries old.record_is;
         nine = old.nine;
       })
       | inr new ↦ (let r_is : r ≡ length records = omega (arith, new.1) in record {
         entries = zeros;
-        record_is = ap (λ (i : ℕ). slice_get more i) r_is ∙ get-last records zeros;
+        record_is = ap (λ (i : ℕ). slice_get more i) r_is ∙ get_pushed records zeros;
         nine = refl;
       })
     ];
@@ -105,51 +75,34 @@ module _ (heads : List ℕ) (records : List (List ℕ)) (cell : ℕ) (a : AreRec
           → (((d ≡ cell → ⊥) × (slice_get heads d ≡ Some (suc r)))
           ⊎ ((d ≡ cell) × (suc r ≡ suc (length records))))
           → c ≡ d
-      by_slots c d r (inl x) (inl y) = a.apart c d r x.1 y.1
-      by_slots c d r (inl x) (inr y) = absurd (within c r x.1 (omega (arith, y.1)))
-      by_slots c d r (inr x) (inl y) = absurd (within d r y.1 (omega (arith, x.1)))
-      by_slots c d r (inr x) (inr y) = x.0 ∙ sym y.0
+      by_slots c d r h1 h2 = grind (arith, within)
 
   -- and no entry changes
   pub taken_entries : (c b : ℕ) → entry_in ByArrival later more c b ≡ entry_in ByArrival heads records c b
   taken_entries c b = elim (at_cell c) [
     | inl e ↦ (ap (λ (i : ℕ). entry_in ByArrival later more i b) e
         ∙ ap (λ (h : ℕ). entry_of_record h more b) (head-is later cell (suc (length records)) head_here)
-        ∙ entry-read more (length records) b zeros (get-last records zeros) ∙ read_zeros b
+        ∙ entry-read more (length records) b zeros (get_pushed records zeros) ∙ read_zeros b
         ∙ sym (ap (λ (i : ℕ). entry_in ByArrival heads records i b) e
         ∙ ap (λ (h : ℕ). entry_of_record h records b) (head-is heads cell 0 none)))
-    | inr n ↦ (ap (λ (h : ℕ). entry_of_record h more b) (read_set_other heads cell c (suc (length records)) n)
+    | inr n ↦ (ap (λ (h : ℕ). entry_of_record h more b) (get_or-set_other heads cell c (suc (length records)) 0 n)
         ∙ by_head (slice_index_or heads c 0) refl)
   ]
     where
       at_cell : (i : ℕ) → (i ≡ cell) ⊎ (i ≡ cell → ⊥)
       at_cell i = grind arith
 
-      get_head : (h : ℕ) → slice_index_or heads c 0 ≡ suc h → slice_get heads c ≡ Some (suc h)
-      get_head h e = by_get (slice_get heads c) refl
-        where
-          by_get : (o : Option ℕ) → slice_get heads c ≡ o → o ≡ Some (suc h)
-          by_get None g = absurd (let z = read_past heads c 0 g in omega arith)
-          by_get (Some v) g = ap (λ (n : ℕ). Some n) (sym (head-is heads c v g) ∙ e)
-
       by_head : (h : ℕ) → slice_index_or heads c 0 ≡ h → entry_of_record h more b
           ≡ entry_of_record h records b
       by_head zero e = refl
       by_head (suc r) e =
-          let old = a.have c r (get_head r e) in
-          entry-read more r b old.entries (get-added records zeros r old.entries old.record_is)
+          let old = a.have c r (got_head heads c r e) in
+          entry-read more r b old.entries (get-append_left records (zeros ∷ []) r old.entries old.record_is)
           ∙ sym (entry-read records r b old.entries old.record_is)
 
   -- so the cell has a record
   pub opened : IsOpened heads later records more cell
-  opened = record {
-    r = length records;
-    head = head_here;
-    records_are = taken_records;
-    entries = taken_entries;
-    as_many = length-set heads cell (suc (length records));
-    heads_stay = λ c n. get-set_other heads c cell (suc (length records)) n;
-  }
+  opened = grind (arith, head_here, taken_records, taken_entries, length-set, get-set_other)
 
 -- where a head leads to a record, one of its entries is set
 module _ (heads : List ℕ) (records : List (List ℕ)) (cell r : ℕ) (a : AreRecords heads records)
@@ -173,68 +126,34 @@ module _ (heads : List ℕ) (records : List (List ℕ)) (cell r : ℕ) (a : AreR
       at q = grind arith
 
       by_slot : (c q : ℕ) → HasRecord records q → (q ≡ r) ⊎ (q ≡ r → ⊥) → HasRecord changed q
-      by_slot c q old (inl e) = record {
-        entries = slice_set entries b entry;
-        record_is = ap (λ (i : ℕ). slice_get changed i) e
-            ∙ get-set_same records r entries (slice_set entries b entry) is;
-        nine = length-set entries b entry ∙ nine_here;
-      }
-      by_slot c q old (inr n) = record {
-        entries = old.entries;
-        record_is = get-set_other records q r (slice_set entries b entry) n ∙ old.record_is;
-        nine = old.nine;
-      }
+      by_slot c q h1 h2 = grind (arith, get-set_same, length-set, nine_here, get-set_other)
 
   pub set_entry : IsPut ByArrival heads heads records changed cell b entry
   set_entry = record {
-    here = ap (λ (h : ℕ). entry_of_record h changed b) (head-is heads cell (suc r) head)
-        ∙ entry-read changed r b (slice_set entries b entry)
-        (get-set_same records r entries (slice_set entries b entry) is)
-        ∙ read_set_same entries b entry (omega (arith, nine_here));
+    here = grind (arith, head-is, entry-read, get-set_same, get_or-set_same, nine_here);
     others = λ c d n. by_head c d n (slice_index_or heads c 0) refl;
     heads_are = set_records;
     as_many = refl;
     heads_stay = λ c n. refl;
   }
     where
-      get_head : (c h : ℕ) → slice_index_or heads c 0 ≡ suc h → slice_get heads c ≡ Some (suc h)
-      get_head c h e = by_get (slice_get heads c) refl
-        where
-          by_get : (o : Option ℕ) → slice_get heads c ≡ o → o ≡ Some (suc h)
-          by_get None g = absurd (let z = read_past heads c 0 g in omega arith)
-          by_get (Some v) g = ap (λ (n : ℕ). Some n) (sym (head-is heads c v g) ∙ e)
-
       two : (i j : ℕ) → (i ≡ j) ⊎ (i ≡ j → ⊥)
       two i j = grind arith
 
       by_record : (c d q : ℕ) → ((c ≡ cell) × (d ≡ b) → ⊥) → slice_get heads c ≡ Some (suc q)
           → (q ≡ r) ⊎ (q ≡ r → ⊥) → (d ≡ b) ⊎ (d ≡ b → ⊥)
           → entry_of_record (suc q) changed d ≡ entry_of_record (suc q) records d
-      by_record c d q n h (inl e) (inl f) =
-          absurd (n (a.apart c cell r (h ∙ ap (λ (i : ℕ). Some (suc i)) e) head, f))
-      by_record c d q n h (inl e) (inr f) =
-          ap (λ (i : ℕ). entry_of_record (suc i) changed d) e
-          ∙ entry-read changed r d (slice_set entries b entry)
-          (get-set_same records r entries (slice_set entries b entry) is)
-          ∙ read_set_other entries b d entry f
-          ∙ sym (ap (λ (i : ℕ). entry_of_record (suc i) records d) e ∙ entry-read records r d entries is)
-      by_record c d q n h (inr g) f =
-          let old = a.have c q h in
-          entry-read changed q d old.entries
-          (get-set_other records q r (slice_set entries b entry) g ∙ old.record_is)
-          ∙ sym (entry-read records q d old.entries old.record_is)
+      by_record c d q h1 h2 h3 h4 = grind (arith, entry-read, get-set_same, get_or-set_other, get-set_other)
 
       by_head : (c d : ℕ) → ((c ≡ cell) × (d ≡ b) → ⊥) → (h : ℕ) → slice_index_or heads c 0 ≡ h
           → entry_of_record h changed d ≡ entry_of_record h records d
       by_head c d n zero e = refl
-      by_head c d n (suc q) e = by_record c d q n (get_head c q e) (two q r) (two d b)
+      by_head c d n (suc q) e = by_record c d q n (got_head heads c q e) (two q r) (two d b)
 
 -- a record that a head leads to is read
 pub entry_of : (h : ℕ) (records : List (List ℕ)) (a r : ℕ) → h ≡ suc r → HasRecord records r
     → slice_index_or (slice_index_or records r []) a 0 ≡ entry_of_record h records a
-entry_of h records a r e old =
-    ap (λ (es : List ℕ). slice_index_or es a 0) (get_or_from_slice_get records r old.entries [] old.record_is)
-    ∙ sym (ap (λ (i : ℕ). entry_of_record i records a) e ∙ entry-read records r a old.entries old.record_is)
+entry_of h records a r e old = grind (arith, get_or_from_slice_get, entry-read)
 
 pub record_within : (records : List (List ℕ)) (r : ℕ) → HasRecord records r → r < length records
 record_within records r h = slice_get_within records r h.entries h.record_is
@@ -245,16 +164,12 @@ pub opened_before : (heads : List ℕ) (records : List (List ℕ)) (cell h : ℕ
 opened_before heads records cell zero a e n = absurd (n refl)
 opened_before heads records cell (suc r) a e n = record {
   r = r;
-  head = get_head (slice_get heads cell) refl;
+  head = got_head heads cell r e;
   records_are = a;
   entries = λ c b. refl;
   as_many = refl;
   heads_stay = λ c m. refl;
 }
-  where
-    get_head : (o : Option ℕ) → slice_get heads cell ≡ o → o ≡ Some (suc r)
-    get_head None g = absurd (let z = read_past heads cell 0 g in omega arith)
-    get_head (Some v) g = ap (λ (m : ℕ). Some m) (sym (head-is heads cell v g) ∙ e)
 
 -- an entry set after a record was opened
 pub put_opened : (heads later : List ℕ) (records more after : List (List ℕ)) (cell b entry : ℕ)

@@ -1,14 +1,15 @@
 -- The next node that is popped is the run's next state, and where none is left no state waits.
-use Rattle.std.proofs.Common.{◌≡◌, ◌≢◌, ℕ, ◌<◌, ◌≤◌, ◌⊎◌, inl, inr, List, ◌∷◌, refl, ap, sym, ◌∙◌, subst}
+use Rattle.std.proofs.Common.{◌≡◌, ◌≢◌, ℕ, ◌≤◌, ◌⊎◌, inl, inr, List, ◌∷◌, refl, ap, sym, ◌∙◌, subst}
 use Rattle.std.proofs.Common.{Bool, true, false, ◌&&◌, ◌||◌, not, arith}
 use Rattle.std.specs.Prelude.{Option, Some, None, slice_get, slice_set, nat_eq, nat_lt}
 use Rattle.std.proofs.lemmas.Bool.Decides.{nat_tests}
 use Rattle.std.proofs.lemmas.Grind.{common_steps}
+use Rattle.std.proofs.lemmas.Option.{same_Some}
 use Rattle.root2_cost.specs.declared.Cost.{Cost}
 use Rattle.root2_cost.specs.Laws.{HasShortParts}
-use Rattle.root2_cost.specs.Order.{is_less, IsLess}
+use Rattle.root2_cost.specs.Order.{is_less}
 use Rattle.root2_cost.specs.Rank.{rank_of}
-use Rattle.root2_cost.proofs.Less.{IsLess-total, IsLess-irreflexive, IsLess-asymmetric, same_cost}
+use Rattle.root2_cost.proofs.Less.{same_cost}
 use Rattle.root2_cost.proofs.Ranking.{less_ranks}
 use Rattle.grid_moves.specs.declared.Cell.{Cell}
 use Rattle.search_run.specs.Run.{Taken, Offer, IsIn, here, there, is_taken, least_offer, sum_at, IsNext}
@@ -27,50 +28,11 @@ use Rattle.best_first.proofs.States.{is_same_state-state, is_same_state-itself, 
 use Rattle.best_first.proofs.Lookup.{lookup-found, none_found}
 use Rattle.best_first.proofs.Mirrors.{some_node}
 
-some_offer : (a b : Offer State) → Some a ≡ Some b → a ≡ b
-some_offer a b e = ap (λ (o : Option (Offer State)). elim o as (λ _. Offer State) [ Some v ↦ v | None ↦ a ]) e
-
 -- what does not go before by keys and places does not by sums and numbers
 keys_order : (p q : Cost) (i j m n : ℕ) → HasShortParts p → HasShortParts q → (j ≤ i → n ≤ m)
     → (nat_lt (rank_of p) (rank_of q) || (nat_eq (rank_of p) (rank_of q) && nat_lt i j)) ≡ false
     → (is_less p q || (nat_eq p.a q.a && nat_eq p.b q.b && nat_lt m n)) ≡ false
-keys_order p q i j m n s t order e = elim (IsLess-total p q) [
-  | inl less ↦ absurd (not_below (rank_of p) (rank_of q) (or_false _ _ e).0 (less_ranks p q s less))
-  | inr (inl more) ↦ by_parts (nat_eq p.a q.a) (nat_eq p.b q.b) refl refl (is_less p q) refl more
-  | inr (inr same) ↦ rw (← same) (rw (not_less_itself p)
-      (tie (nat_eq p.a p.a) (nat_eq p.b p.b) (order (not_tied same (or_false _ _ e).1))))
-]
-  where
-    not_below : (a b : ℕ) → nat_lt a b ≡ false → a < b → ⊥
-    not_below a b h l = grind (arith, nat_tests)
-
-    not_less_itself : (c : Cost) → is_less c c ≡ false
-    not_less_itself c = by_test (is_less c c) refl
-      where
-        by_test : (b : Bool) → is_less c c ≡ b → is_less c c ≡ false
-        by_test true h = absurd (IsLess-irreflexive c h)
-        by_test false h = h
-
-    equal_and : (a b i j : ℕ) → a ≡ b → (nat_eq a b && nat_lt i j) ≡ false → j ≤ i
-    equal_and a b i j h l = grind (arith, nat_tests)
-
-    not_tied : p ≡ q → (nat_eq (rank_of p) (rank_of q) && nat_lt i j) ≡ false → j ≤ i
-    not_tied same h = equal_and (rank_of p) (rank_of q) i j (ap rank_of same) h
-
-    tie : (a b : Bool) → n ≤ m → (a && b && nat_lt m n) ≡ false
-    tie false b l = refl
-    tie true false l = refl
-    tie true true l = grind (arith, nat_tests)
-
-    by_parts : (a b : Bool) → nat_eq p.a q.a ≡ a → nat_eq p.b q.b ≡ b → (c : Bool) → is_less p q ≡ c
-        → IsLess q p
-        → (c || (a && b && nat_lt m n)) ≡ false
-    by_parts a b f g true h more = absurd (IsLess-asymmetric p q h more)
-    by_parts false b f g false h more = refl
-    by_parts true false f g false h more = refl
-    by_parts true true f g false h more = absurd (
-        let same : p ≡ q = same_cost p q (grind (arith, nat_tests)) (grind (arith, nat_tests)) in
-        IsLess-irreflexive q (rw same at more))
+keys_order p q i j m n s t order e = grind (arith, nat_tests, common_steps, or_false, less_ranks, same_cost)
 
 module _ {layout : Layout} {width : ℕ} {goal : Cell} {link : Links} {run : List (Taken State)} {k : Table}
     (m : Mirrors layout width goal link run (least_offer (search_rule width goal link) run) k) where
@@ -99,7 +61,7 @@ module _ {layout : Layout} {width : ℕ} {goal : Cell} {link : Links} {run : Lis
             node = f.node;
             node_is = f.node_is;
             state = f.state;
-            offer = some_offer order.offer o (sym (order.best_is untaken)
+            offer = same_Some order.offer o (sym (order.best_is untaken)
                 ∙ ap (λ (u : State). least_offer (search_rule width goal link) run u) f.state ∙ h);
             is_open = order.opened ∙ rw untaken refl;
           }
@@ -212,7 +174,7 @@ module _ {layout : Layout} {width : ℕ} {goal : Cell} {link : Links} {run : Lis
             let z : is_taken (search_rule width goal link) run (state_of layout x) ≡ false =
             ap (λ (s : State). is_taken (search_rule width goal link) run s) (sym e) ∙ untaken in
             let one : order.offer ≡ (m.in_order i x h).offer
-            = some_offer order.offer (m.in_order i x h).offer (sym (order.best_is untaken)
+            = same_Some order.offer (m.in_order i x h).offer (sym (order.best_is untaken)
             ∙ ap (λ (s : State). least_offer (search_rule width goal link) run s) e
             ∙ (m.in_order i x h).best_is z) in
             (ap (λ (o : Offer State). o.cost) one, ap (λ (o : Offer State). o.from) one)

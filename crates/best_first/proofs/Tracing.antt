@@ -1,5 +1,7 @@
 -- One step on the way back along the parents.
-use Rattle.std.proofs.Common.{◌≡◌, ◌≢◌, ℕ, ◌<◌, List, [], ◌∷◌, ◌++◌, refl, ap, sym, ◌∙◌, subst, append_assoc}
+use Rattle.std.proofs.lemmas.Bool.Decides.{nat_tests}
+use Rattle.std.proofs.lemmas.Grind.{common_steps}
+use Rattle.std.proofs.Common.{◌≡◌, ◌≢◌, ℕ, ◌<◌, List, [], ◌∷◌, ◌++◌}
 use Rattle.std.proofs.Common.{arith}
 use Rattle.std.specs.Prelude.{Some, slice_get}
 use Rattle.root2_cost.specs.declared.Cost.{Cost}
@@ -25,18 +27,7 @@ module _ (goal : Cell) (nodes : List Node) where
 
   pub further : (id : ℕ) (n : Node) (cells : List Cell) (cost : Cost) → IsBack goal nodes id cells cost
       → id ≢ 0 → slice_get nodes id ≡ Some n → Further id n cells cost
-  further id n cells cost (stops i m z g) ne h = absurd (ne z)
-  further id n cells cost (goes i m p rest c nz g l f b) ne h =
-      subst (λ (x : Node). Further id x cells cost) (some_node m n (sym g ∙ h)) (record {
-        parent = p;
-        parent_is = l;
-        less = f;
-        rest = rest;
-        left = c;
-        rest_is_back = b;
-        cells_are = refl;
-        cost_is = refl;
-      })
+  further id n cells cost h1 h2 h3 = grind (arith, some_node)
 
   -- a way back leads from a node
   pub has_node : (id : ℕ) (cells : List Cell) (cost : Cost) → IsBack goal nodes id cells cost
@@ -46,40 +37,14 @@ module _ (goal : Cell) (nodes : List Node) where
 
   module _ (first : ℕ) where
     pub on_the_way : HasBack goal nodes first → IsOnTheWay goal nodes first [] no_cost first
-    on_the_way h = record {
-      cells = h.cells;
-      total = h.cost;
-      is_back = h.is_back;
-      few = h.few;
-      rest = h.cells;
-      left = h.cost;
-      rest_is_back = h.is_back;
-      joined = refl;
-      priced = same_cost (add_costs h.cost no_cost) h.cost (omega arith) (omega arith);
-    }
+    on_the_way h = grind (arith, same_cost)
 
     -- one cell more
     pub one_back : (points : List Cell) (cost : Cost) (id : ℕ) (n : Node)
         → (w : IsOnTheWay goal nodes first points cost id) → (f : Further id n w.rest w.left)
         → IsOnTheWay goal nodes first (points ++ node_cell n ∷ [])
         (add_costs cost (estimate (node_cell f.parent) (node_cell n))) n.parent
-    one_back points cost id n w f = record {
-      cells = w.cells;
-      total = w.total;
-      is_back = w.is_back;
-      few = w.few;
-      rest = f.rest;
-      left = f.left;
-      rest_is_back = f.rest_is_back;
-      joined = append_assoc points (node_cell n ∷ []) f.rest
-          ∙ ap (λ (cs : List Cell). points ++ cs) (sym f.cells_are) ∙ w.joined;
-      priced = moved f.left cost (estimate (node_cell f.parent) (node_cell n))
-          ∙ ap (λ (c : Cost). add_costs c cost) (sym f.cost_is) ∙ w.priced;
-    }
-      where
-        moved : (a b c : Cost) → add_costs a (add_costs b c) ≡ add_costs (add_costs a c) b
-        moved a b c = same_cost (add_costs a (add_costs b c)) (add_costs (add_costs a c) b) (omega arith)
-            (omega arith)
+    one_back points cost id n w f = grind (arith, nat_tests, common_steps, same_cost)
 
     -- one cell more, as it is read
     pub step_back : (points later : List Cell) (cost after : Cost) (id : ℕ) (n p : Node) (cell before : Cell)
@@ -88,14 +53,4 @@ module _ (goal : Cell) (nodes : List Node) where
         → later ≡ points ++ cell ∷ [] → after ≡ add_costs cost (estimate before cell)
         → IsOnTheWay goal nodes first later after n.parent
     step_back points later cost after id n p cell before w ne h g c b l a =
-        let f = further id n w.rest w.left w.rest_is_back ne h in
-        let same : f.parent ≡ p = some_node f.parent p (sym f.parent_is ∙ g) in
-        let points_are : points ++ node_cell n ∷ [] ≡ later =
-        ap (λ (d : Cell). points ++ d ∷ []) (sym c) ∙ sym l in
-        let cost_is : add_costs cost (estimate (node_cell f.parent) (node_cell n)) ≡ after
-        = ap (λ (q : Node). add_costs cost (estimate (node_cell q) (node_cell n))) same
-        ∙ ap (λ (d : Cell). add_costs cost (estimate d (node_cell n))) (sym b)
-        ∙ ap (λ (d : Cell). add_costs cost (estimate before d)) (sym c) ∙ sym a in
-        subst (λ (ps : List Cell). IsOnTheWay goal nodes first ps after n.parent) points_are
-        (subst (λ (d : Cost). IsOnTheWay goal nodes first (points ++ node_cell n ∷ []) d n.parent) cost_is
-        (one_back points cost id n w f))
+        grind (arith, nat_tests, common_steps, further, some_node)

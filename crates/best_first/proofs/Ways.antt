@@ -1,8 +1,11 @@
 -- A taken state's offers over its links make the least offers those after it.
-use Rattle.std.proofs.Common.{◌≡◌, ℕ, ◌⊎◌, inl, inr, List, [], ◌∷◌, refl, ap, sym, ◌∙◌, Bool, true, false}
+use Rattle.std.proofs.lemmas.Bool.Decides.{nat_tests}
+use Rattle.std.proofs.lemmas.Grind.{common_steps}
+use Rattle.std.proofs.Common.{arith}
+use Rattle.std.proofs.Common.{◌≡◌, ℕ, ◌⊎◌, inl, inr, List, [], ◌∷◌, refl, ap, sym, ◌∙◌, Bool, false}
 use Rattle.std.specs.Prelude.{Option, Some, None, if◌then◌else◌}
+use Rattle.std.proofs.lemmas.Option.{same_Some}
 use Rattle.root2_cost.specs.declared.Cost.{Cost}
-use Rattle.root2_cost.specs.Order.{is_less}
 use Rattle.root2_cost.specs.Sums.{add_costs}
 use Rattle.grid_moves.specs.declared.Cell.{Cell}
 use Rattle.grid_moves.specs.Move.{is_same}
@@ -14,18 +17,13 @@ use Rattle.best_first.specs.Mirror.{Offers}
 use Rattle.best_first.specs.Ways.{Onward, IsAmong, first, later, with_onward, with_all}
 use Rattle.best_first.proofs.States.{is_same_state-state, is_same_state-itself, same_or_not}
 
-some_cost : (c d : Cost) → Some c ≡ Some d → c ≡ d
-some_cost c d e = ap (λ (o : Option Cost). elim o as (λ _. Cost) [ Some v ↦ v | None ↦ c ]) e
-
 -- what is so of the first way, and of one among the others, is so of one among all
 pub of_among : (P : Onward → Type 0) {w e : Onward} {ways : List Onward} → P e → (IsAmong w ways → P w)
     → IsAmong w (e ∷ ways) → P w
-of_among P p others (first z) = p
-of_among P p others (later z y q) = others q
+of_among P h1 h2 h3 = grind (arith, nat_tests, common_steps)
 
 lesser-none : (o : Option (Offer State)) → lesser o None ≡ o
-lesser-none None = refl
-lesser-none (Some o) = refl
+lesser-none o = grind (arith, nat_tests, common_steps)
 
 module _ (width : ℕ) (goal : Cell) (link : Links) (y : Taken State) where
   -- each of the ways is a link of the taken state
@@ -38,40 +36,16 @@ module _ (width : ℕ) (goal : Cell) (link : Links) (y : Taken State) where
 
     -- offering the same once more changes nothing
     itself : (b : Bool) → (if b then made else made) ≡ made
-    itself true = refl
-    itself false = refl
+    itself b = grind (arith, nat_tests, common_steps)
 
     again : (b : Option (Offer State)) → lesser (lesser b made) made ≡ lesser b made
-    again None = itself (is_less (add_costs y.cost c) (add_costs y.cost c))
-    again (Some o) = by_test (is_less (add_costs y.cost c) o.cost) refl
-      where
-        by_test : (v : Bool) → is_less (add_costs y.cost c) o.cost ≡ v
-            → lesser (if v then made else Some o) made ≡ (if v then made else Some o)
-        by_test true e = itself (is_less (add_costs y.cost c) (add_costs y.cost c))
-        by_test false e = rw e refl
+    again b = grind (arith, nat_tests, common_steps, itself)
 
     -- over one of its links
     one_over : (best : Offers) (w : Onward) → link.step y.state w.to ≡ Some w.cost
         → ((w ≡ record { to = s; cost = c }) × (with_onward y best w s ≡ lesser (best s) made))
         ⊎ (with_onward y best w s ≡ best s)
-    one_over best w l = elim (same_or_not (is_same_state w.to s)) [
-      | inl t ↦ (let one : w.to ≡ s = is_same_state-state w.to s t in
-          let cost : w.cost ≡ c = some_cost w.cost c (sym l ∙ ap (λ (u : State). link.step y.state u) one
-          ∙ linked) in
-          inl (
-            same_way w (record { to = s; cost = c }) one cost,
-            rw t
-                (ap
-                (λ (d : Cost). let o : Offer State = record { cost = add_costs y.cost d; from = y.state } in
-                lesser (best s) (Some o)) cost),
-          ))
-      | inr f ↦ inr (rw f refl)
-    ]
-      where
-        same_way : (v w : Onward) → v.to ≡ w.to → v.cost ≡ w.cost → v ≡ w
-        same_way v w e f =
-            ap (λ (u : State). let x : Onward = record { to = u; cost = v.cost } in x) e
-            ∙ ap (λ (d : Cost). let x : Onward = record { to = w.to; cost = d } in x) f
+    one_over best w l = grind (arith, nat_tests, common_steps, same_or_not, is_same_state-state, same_Some)
 
     -- once offered it stays so
     stays_made : (ways : List Onward) (best : Offers) (b : Option (Offer State)) → AreOfLinks ways
@@ -138,25 +112,5 @@ module _ (width : ℕ) (goal : Cell) (link : Links) (y : Taken State) where
       → is_taken (search_rule width goal link) (y ∷ earlier) s ≡ false
       → with_all y (least_offer (search_rule width goal link) earlier) ways s
       ≡ least_offer (search_rule width goal link) (y ∷ earlier) s
-  offers_after earlier ways open_ended l enough s untaken = by_link (link.step y.state s) refl
-    where
-      best : Offers
-      best = least_offer (search_rule width goal link) earlier
-
-      by_link : (o : Option Cost) → link.step y.state s ≡ o
-          → with_all y (least_offer (search_rule width goal link) earlier) ways s
-          ≡ least_offer (search_rule width goal link) (y ∷ earlier) s
-      by_link None e =
-          none_made s e ways (least_offer (search_rule width goal link) earlier) l
-          ∙ sym (lesser-none (least_offer (search_rule width goal link) earlier s)) ∙ rw (open_ended, e) refl
-      by_link (Some c) e =
-          let after : lesser (least_offer (search_rule width goal link) earlier s)
-          (Some (record { cost = add_costs y.cost c; from = y.state }))
-          ≡ least_offer (search_rule width goal link) (y ∷ earlier) s = rw (open_ended, e) refl in
-          elim (enough s c untaken e) [
-            | inl i ↦ is_made s c e ways (least_offer (search_rule width goal link) earlier) l i ∙ after
-            | inr same ↦ elim (either s c e ways (least_offer (search_rule width goal link) earlier) l) [
-              | inl g ↦ g ∙ after
-              | inr g ↦ g ∙ sym same
-            ]
-          ]
+  offers_after earlier ways open_ended l enough s untaken =
+      grind (arith, nat_tests, common_steps, none_made, lesser-none, is_made, either)

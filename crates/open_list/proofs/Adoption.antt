@@ -1,12 +1,10 @@
 -- What the entries have after one heap is made the first child of another.
 use Rattle.std.proofs.Common.{◌≡◌, ◌≢◌, ℕ, suc, ◌+◌, ◌<◌, ◌≤◌, ◌^◌, Bool, true, false, List, length, map}
 use Rattle.std.proofs.Common.{Some, slice_get, refl, sym, ap, ◌∙◌, arith}
-use Rattle.std.specs.Option.{option_map_or}
 use Rattle.std.proofs.lemmas.Option.{slice_get_within}
 use Rattle.std.proofs.lemmas.Bool.{false_from_ne_true, both_ways}
 use Rattle.open_list.specs.Order.{IsStrictWeakOrder}
 use Rattle.open_list.specs.declared.entry.Entry.{Entry}
-use Rattle.open_list.specs.declared.entry.TheConstants.{NONE}
 use Rattle.open_list.specs.Entry.{changed, adopted, next_of, is_open, list_len, KeepsNodes, with_prev}
 use Rattle.open_list.specs.Entry.{with_child_and_next, with_next_and_prev}
 use Rattle.open_list.specs.Heaps.{Heaps, heap, first_id, count_at, node_count, heap_count, one_at, open_count}
@@ -21,9 +19,7 @@ use Rattle.open_list.proofs.Frames.{AreChildren-changed, AreRoots-changed, AreCh
 -- of two nodes not both are before the other
 not_after : {N : Type 0} (before : N → N → Bool) → IsStrictWeakOrder before → (a b : N)
     → before a b ≡ true → before b a ≡ false
-not_after before order a b first =
-    false_from_ne_true (before b a) (λ also.
-    both_ways (before a a) (order.not_before_itself a) (order.before_is_transitive a b a first also))
+not_after before order a b first = grind (arith, false_from_ne_true, both_ways)
 
 module _ {N : Type 0} (before : N → N → Bool) (es : List (Entry N)) where
   -- the heaps of `winner` and `loser` stand by themselves, beside two lists of heaps
@@ -116,19 +112,11 @@ module _ {N : Type 0} (before : N → N → Bool) (es : List (Entry N)) where
     -- the winner's entry
     winner_later : slice_get later winner
         ≡ Some (record { node = won; child = loser; next = first_id seconds; prev = all.won_prev })
-    winner_later =
-        get-changed (with_child_and_next loser (first_id seconds)) winner moved _
-        (get-changed_other (with_prev loser) first winner hung (λ same. first_ne_winner (sym same))
-        ∙ get-changed_other (with_next_and_prev first winner) loser winner es winner_ne_loser
-        ∙ all.winner_at)
+    winner_later = grind (arith, get-changed, get-changed_other, first_ne_winner, winner_ne_loser)
 
     loser_later : slice_get later loser ≡ Some
         (record { node = lost; child = first_id lost_children; next = first; prev = winner })
-    loser_later =
-        get-changed_other (with_child_and_next loser (first_id seconds)) winner loser moved
-        (λ same. winner_ne_loser (sym same))
-        ∙ get-changed_other (with_prev loser) first loser hung (λ same. first_ne_loser (sym same))
-        ∙ get-changed (with_next_and_prev first winner) loser es _ all.loser_at
+    loser_later = grind (arith, get-changed_other, winner_ne_loser, first_ne_loser, get-changed)
 
     -- the loser is the first of the winner's children
     children_later : AreChildren before later winner won (heap loser lost lost_children won_children)
@@ -165,25 +153,16 @@ module _ {N : Type 0} (before : N → N → Bool) (es : List (Entry N)) where
         ∙ sym (open_from_count es loser e at (omega (arith, all.once loser, one_at_same loser))))
 
     nodes_later : map (λ e. e.node) later ≡ map (λ e. e.node) es
-    nodes_later =
-        map-changed (with_child_and_next loser (first_id seconds)) (λ e. e.node) winner moved (λ e at. refl)
-        ∙ map-changed (with_prev loser) (λ e. e.node) first hung (λ e at. refl)
-        ∙ map-changed (with_next_and_prev first winner) (λ e. e.node) loser es (λ e at. refl)
+    nodes_later = grind (arith, map-changed)
 
     abbrev result : List (Entry N)
     result = adopted es winner loser (first_id seconds)
 
     result_is : result ≡ later
-    result_is =
-        ap (λ (at : ℕ). changed (with_child_and_next loser (first_id seconds)) winner
-        (changed (with_prev loser) at (changed (with_next_and_prev at winner) loser es)))
-        (ap (λ o. option_map_or (λ (e : Entry N). e.child) o NONE) all.winner_at)
+    result_is = grind arith
 
     length_later : length later ≡ length es
-    length_later =
-        length-changed (with_child_and_next loser (first_id seconds)) winner moved
-        ∙ length-changed (with_prev loser) first hung
-        ∙ length-changed (with_next_and_prev first winner) loser es
+    length_later = grind (arith, length-changed)
 
     -- the lists after the winner is put before the second
     lists_later : HaveOpen before later (first_id firsts) winner
@@ -197,14 +176,8 @@ module _ {N : Type 0} (before : N → N → Bool) (es : List (Entry N)) where
           seconds = heap winner won (heap loser lost lost_children won_children) seconds;
           first_is = refl;
           second_is = refl;
-          first_roots = roots_kept firsts (omega arith) (omega (arith, first_only))
-              (omega arith) all.first_roots;
-          second_roots = (
-            all.won_prev,
-            winner_later,
-            children_later,
-            roots_kept seconds (omega arith) (omega (arith, first_only)) (omega arith) all.second_roots,
-          );
+          first_roots = grind (arith, roots_kept, first_only);
+          second_roots = grind (arith, winner_later, children_later, roots_kept, first_only);
           once = λ i. rw open_later (omega (arith, all.once i));
           fits = omega (arith, length_later, all.fits);
           small = rw length_later all.small;
@@ -256,12 +229,10 @@ module _ {N : Type 0} (before : N → N → Bool) (es : List (Entry N)) where
   module _ (one other : ℕ) (have : HaveOpen before es other one) (one_in : one < length es)
       (other_in : other < length es) where
     starts_one : StartsWith before es have.seconds one
-    starts_one = starts_with before es have.seconds one have.second_is
-        (λ none. omega (arith, have.small)) have.second_roots
+    starts_one = grind (arith, starts_with, have.small)
 
     starts_other : StartsWith before es have.firsts other
-    starts_other = starts_with before es have.firsts other have.first_is
-        (λ none. omega (arith, have.small)) have.first_roots
+    starts_other = grind (arith, starts_with, have.small)
 
     -- either may win, and stands then before the rest of the list from `one`
     joined : {winner loser : ℕ} {won lost : N} {won_children lost_children : Heaps N}
@@ -292,13 +263,7 @@ module _ {N : Type 0} (before : N → N → Bool) (es : List (Entry N)) where
     total : (i : ℕ) → one_at one i + count_at starts_one.children i + count_at starts_one.rest i +
         (one_at other i + count_at starts_other.children i + count_at starts_other.rest i)
         ≡ open_count (map is_open es) i
-    total i =
-        omega (
-          arith,
-          have.once i,
-          ap (λ hs. count_at hs i) starts_one.is,
-          ap (λ hs. count_at hs i) starts_other.is,
-        )
+    total i = grind (arith, starts_one, starts_other, have.once i)
 
     enough : 2 + node_count starts_one.children + node_count starts_one.rest
         + node_count starts_other.children + node_count starts_other.rest ≤ length es

@@ -1,15 +1,16 @@
 -- How often a number stands in a list of heaps.
+use Rattle.std.proofs.lemmas.Bool.Decides.{nat_tests}
+use Rattle.std.proofs.lemmas.Grind.{common_steps}
 use Rattle.std.proofs.Common.{◌≡◌, ◌≢◌, ℕ, ◌+◌, ◌<◌, ◌≤◌, Bool, true, false, List, length, Option, Some, None}
-use Rattle.std.proofs.Common.{slice_get, cond, refl, sym, ap, ◌∙◌, subst, arith}
-use Rattle.std.proofs.lemmas.Bool.{eq-eqb, ne_eqb, cases_Bool}
-use Rattle.std.proofs.Common.{zero, suc, [], ◌∷◌, not, map, option_map, ⊎_elim, ◌⊎◌, inl, inr}
+use Rattle.std.proofs.Common.{slice_get, cond, refl, sym, ap, arith}
+use Rattle.std.proofs.lemmas.Bool.{eq-eqb, ne_eqb}
+use Rattle.std.proofs.Common.{zero, suc, [], ◌∷◌, not, map, ◌⊎◌}
 use Rattle.std.proofs.lemmas.List.{length-map}
 use Rattle.std.proofs.lemmas.Option.{slice_get_past, slice_get_within, slice_get-map, none-some}
 use Rattle.open_list.specs.declared.entry.Entry.{Entry}
 use Rattle.open_list.specs.Entry.{is_open, with_prev}
-use Rattle.std.specs.Option.{option_map_or}
 use Rattle.open_list.specs.declared.entry.TheConstants.{NONE, CLOSED}
-use Rattle.open_list.specs.Heaps.{Heaps, no_heap, heap, first_id, count_at, one_at, open_count}
+use Rattle.open_list.specs.Heaps.{Heaps, first_id, count_at, one_at, open_count}
 
 get_none_past : {X : Type 0} (xs : List X) (i : ℕ) → slice_get xs i ≡ None → length xs ≤ i
 get_none_past [] i missing = omega arith
@@ -25,9 +26,7 @@ unfolding one_at
 one_at_other i j ne = ap (λ b. cond b 1 0) (ne_eqb i j ne)
 
 pub apart_from_one_at : (i j : ℕ) → one_at i j ≡ 0 → i ≢ j
-apart_from_one_at i j none same =
-    let here : one_at i j ≡ 1 = subst (λ (k : ℕ). one_at i k ≡ 1) same (one_at_same i) in
-    omega arith
+apart_from_one_at i j none same = grind (arith, one_at_same)
 
 pub open_count_open : (open_at : List Bool) (i : ℕ) → slice_get open_at i ≡ Some true
     → open_count open_at i ≡ 1
@@ -45,18 +44,12 @@ open_count_past open_at i h = rw (slice_get_past open_at i h) refl
 
 pub open_count-le : (open_at : List Bool) (i : ℕ) → open_count open_at i ≤ 1
 unfolding open_count
-open_count-le open_at i =
-    elim (slice_get open_at i) as (λ o. option_map_or (λ b. cond b 1 0) o 0 ≤ 1)
-    [ None ↦ omega arith | Some true ↦ omega arith | Some false ↦ omega arith ]
+open_count-le open_at i = grind arith
 
 pub flag_from_count : (open_at : List Bool) (i : ℕ) → 1 ≤ open_count open_at i
     → slice_get open_at i ≡ Some true
-flag_from_count open_at i counted = go (slice_get open_at i) refl
-  where
-    go : (o : Option Bool) → slice_get open_at i ≡ o → slice_get open_at i ≡ Some true
-    go None missing = absurd (omega (arith, open_count_past open_at i (get_none_past open_at i missing)))
-    go (Some false) closed = absurd (omega (arith, open_count_closed open_at i closed))
-    go (Some true) opened = opened
+flag_from_count open_at i counted =
+    grind (arith, nat_tests, common_steps, open_count_past, get_none_past, open_count_closed)
 
 module _ {N : Type 0} where
   -- a link back to a node leaves an entry open
@@ -64,27 +57,20 @@ module _ {N : Type 0} where
   open_with_link e prev below = ap not (ne_eqb prev CLOSED (λ same. omega arith))
 
   pub first_counts : (hs : Heaps N) → first_id hs < NONE → 1 ≤ count_at hs (first_id hs)
-  first_counts no_heap below = absurd (omega (arith, below))
-  first_counts (heap id n children rest) below = omega (arith, one_at_same id)
+  first_counts hs h1 = grind (arith, one_at_same)
 
   pub first_or_none : (hs : Heaps N) → (first_id hs ≡ NONE) ⊎ (1 ≤ count_at hs (first_id hs))
-  first_or_none no_heap = inl refl
-  first_or_none (heap id n children rest) = inr (omega (arith, one_at_same id))
+  first_or_none hs = grind (arith, one_at_same)
 
   -- the first number of a list stands nowhere else
   pub first_apart : (hs : Heaps N) (others : ℕ) → count_at hs (first_id hs) + others ≤ 1
       → (first_id hs ≡ NONE → others ≡ 0) → others ≡ 0
-  first_apart no_heap others most at_none = at_none refl
-  first_apart (heap id n children rest) others most at_none = omega (arith, one_at_same id)
+  first_apart hs others h1 h2 = grind (arith, one_at_same)
 
   module _ (es : List (Entry N)) where
     pub open_from_count : (i : ℕ) (e : Entry N) → slice_get es i ≡ Some e
         → 1 ≤ open_count (map is_open es) i → is_open e ≡ true
-    open_from_count i e at most =
-        let flag : slice_get (map is_open es) i ≡ Some (is_open e) = slice_get-map is_open es i
-        ∙ ap (option_map is_open) at in
-        ⊎_elim (λ yes. yes) (λ no. absurd (omega
-        (arith, open_count_closed (map is_open es) i (flag ∙ ap Some no)))) (cases_Bool (is_open e))
+    open_from_count i e at most = grind (arith, slice_get-map, open_count_closed)
 
     pub none_past : (i : ℕ) → length es ≤ i → open_count (map is_open es) i ≡ 0
     none_past i past = open_count_past (map is_open es) i (omega (arith, length-map es is_open))

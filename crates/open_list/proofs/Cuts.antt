@@ -1,4 +1,6 @@
 -- What the entries have after one heap is taken out of the list of children that it stands in.
+use Rattle.std.proofs.lemmas.Bool.Decides.{nat_tests}
+use Rattle.std.proofs.lemmas.Grind.{common_steps}
 use Rattle.std.proofs.Common.{◌≡◌, ◌≢◌, ◌⊎◌, ⊎_elim, inl, inr, ℕ, suc, ◌+◌, ◌<◌, ◌≤◌, Bool, List, Some}
 use Rattle.std.proofs.Common.{slice_get, refl, sym, ap, subst, ◌∙◌, arith}
 use Rattle.std.proofs.lemmas.Bool.{cases_eq, cases_lt, eq-eqb, ne_eqb, cond-true, cond-false}
@@ -57,26 +59,19 @@ module _ {N : Type 0} (before : N → N → Bool) (es : List (Entry N)) (id : �
       → ((i : ℕ) → one_at holder i + count_at hs i + count_at others i ≤ 1) → count_at others NONE ≡ 0
       → AreElsewhere others
   elsewhere holder parent hs others cut once none = record {
-    no_prev = ⊎_elim (λ same. let here =
-        subst (λ (k : ℕ). one_at holder k ≡ 1) (sym same) (one_at_same holder) in omega (arith, once prev))
-        (λ inside. omega (arith, once prev)) cut.prev_in;
-    no_next = ⊎_elim (λ same. subst (λ (k : ℕ). count_at others k ≡ 0) (sym same) none)
-        (λ inside. omega (arith, once next)) cut.next_in;
+    no_prev = grind (arith, one_at_same, once prev);
+    no_next = grind (arith, once next);
     no_id = omega (arith, cut.counts id, one_at_same id, once id);
   }
 
   -- the entry of `holder`, unless it is one of the other two
   holder_after : (holder : ℕ) → holder ≢ id → holder ≢ next
       → slice_get later holder ≡ slice_get unlinked holder
-  holder_after holder not_id not_next =
-      get-changed_other (with_next NONE) id holder linked not_id
-      ∙ get-changed_other (with_prev prev) next holder unlinked not_next
+  holder_after holder not_id not_next = grind (arith, get-changed_other)
 
   holder_unlinked : (holder : ℕ) (e : Entry N) → slice_get es holder ≡ Some e → prev ≡ holder
       → slice_get unlinked holder ≡ Some (relinked id next e)
-  holder_unlinked holder e found same =
-      subst (λ (k : ℕ). slice_get (changed (relinked id next) k es) holder ≡ Some (relinked id next e))
-      (sym same) (get-changed (relinked id next) holder es e found)
+  holder_unlinked holder e found same = grind (arith, get-changed)
 
   -- its link to the first child
   pub child_link : (holder : ℕ) (parent : N) (hs : Heaps N) (cut : IsCut holder parent hs) (n : N)
@@ -166,8 +161,7 @@ module _ {N : Type 0} (before : N → N → Bool) (es : List (Entry N)) (id : �
         held = subst (λ (k : ℕ). AreChildren before later k parent rest) (sym prev_is)
             (AreChildren-changed before (with_next NONE) id linked prev parent rest
             (omega (arith, once id)) moved);
-        above = children_kept id node children (omega arith) (omega arith) (omega (arith, once id))
-            (subst (λ (m : N). AreChildren before es id m children) node_is held.2);
+        above = grind (arith, children_kept, children, held, once id);
         at_id =
             get-changed (with_next NONE) id linked _
             (get-changed_other (with_prev prev) next id unlinked (apart_from_one_at id next (omega arith))
@@ -178,10 +172,7 @@ module _ {N : Type 0} (before : N → N → Bool) (es : List (Entry N)) (id : �
         counts = λ i. omega arith;
         sizes = omega arith;
         prev_in = inl (sym prev_is);
-        next_in = ⊎_elim (λ last. inl (sym next_is ∙ last))
-            (λ some. inr (subst (λ (k : ℕ). 1 ≤ count_at (heap id n children rest) k) next_is
-            (omega arith)))
-            (first_or_none rest);
+        next_in = grind (arith, children, first_or_none);
         new_link = λ _. (refl, next_is);
         same_link = λ other. absurd (other (sym prev_is));
       }
@@ -210,25 +201,14 @@ module _ {N : Type 0} (before : N → N → Bool) (es : List (Entry N)) (id : �
       (cases_eq i id)
     where
       not_next : (low : ℕ) → ((next ≡ NONE) ⊎ (1 ≤ low)) → one_at i next + low ≤ 1 → i ≢ next
-      not_next low next_in most same =
-          let counted : one_at i next ≡ 1 = subst (λ (k : ℕ). one_at i k ≡ 1) same (one_at_same i) in
-          ⊎_elim
-          (λ last. let at_none : one_at i NONE ≡ 1 =
-          subst (λ (k : ℕ). one_at i k ≡ 1) last counted in omega (arith, none))
-          (λ some. omega arith) next_in
+      not_next low next_in most same = grind (arith, nat_tests, common_steps, one_at_same, none)
 
       -- the entry before it stands in this list, so the holder keeps its link
       counted : (low : ℕ) → ((prev ≡ i) ⊎ (1 ≤ low)) → 1 ≤ one_at i prev + low
-      counted low prev_in =
-          ⊎_elim (λ same. let here : one_at i prev ≡ 1 =
-          subst (λ (k : ℕ). one_at i k ≡ 1) (sym same) (one_at_same i) in omega arith)
-          (λ some. omega arith) prev_in
+      counted low prev_in = grind (arith, nat_tests, common_steps, one_at_same)
 
       not_holder : 1 ≤ count_at (heap i n children rest) prev → prev ≢ holder
-      not_holder some same =
-          let here : one_at holder prev ≡ 1 =
-          subst (λ (k : ℕ). one_at holder k ≡ 1) (sym same) (one_at_same holder) in
-          omega (arith, once prev)
+      not_holder some same = grind (arith, nat_tests, common_steps, one_at_same, once prev)
 
       go_down : i ≢ id → IsCut i n children → IsCut holder parent (heap i n children rest)
       go_down not_here sub =

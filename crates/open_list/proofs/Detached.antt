@@ -1,6 +1,6 @@
 -- One heap is taken from below the root.
 use Rattle.std.proofs.Common.{◌≡◌, ◌≢◌, ⊎_elim, ℕ, ◌+◌, ◌<◌, ◌≤◌, Bool, true, List, length, map, Some}
-use Rattle.std.proofs.Common.{slice_get, nat_eq, refl, sym, ap, subst, ◌∙◌, arith}
+use Rattle.std.proofs.Common.{slice_get, refl, sym, ap, subst, ◌∙◌, arith}
 use Rattle.std.specs.Option.{option_map_or}
 use Rattle.std.proofs.lemmas.Bool.{cond_both}
 use Rattle.std.proofs.lemmas.Option.{slice_get_within}
@@ -17,14 +17,10 @@ use Rattle.open_list.proofs.Roots.{HoldsAll, holds_all, none_open}
 use Rattle.open_list.proofs.Cuts as cuts
 
 is_open-relinked : {N : Type 0} (old new : ℕ) (e : Entry N) → is_open (relinked old new e) ≡ is_open e
-is_open-relinked old new e =
-    cond_both (nat_eq e.child old) (record e { child = new }) (record e { next = new })
-    (λ x. is_open x ≡ is_open e) (λ _. refl) (λ _. refl)
+is_open-relinked old new e = grind (arith, cond_both)
 
 node-relinked : {N : Type 0} (old new : ℕ) (e : Entry N) → (relinked old new e).node ≡ e.node
-node-relinked old new e =
-    cond_both (nat_eq e.child old) (record e { child = new }) (record e { next = new })
-    (λ x. x.node ≡ e.node) (λ _. refl) (λ _. refl)
+node-relinked old new e = grind (arith, cond_both)
 
 module _ {N : Type 0} (before : N → N → Bool) (es : List (Entry N)) (root id : ℕ)
     (all : IsHeap before es root) (open_id : open_count (map is_open es) id ≡ 1) (below : id ≢ root) where
@@ -65,10 +61,7 @@ module _ {N : Type 0} (before : N → N → Bool) (es : List (Entry N)) (root id
 
   -- the link back leads to the root or to another open node
   prev_counted : 1 ≤ one_at root e.prev + count_at tree.children e.prev
-  prev_counted =
-      ⊎_elim (λ same. let here : one_at root e.prev ≡ 1 =
-      subst (λ (k : ℕ). one_at root k ≡ 1) (sym same) (one_at_same root) in omega arith)
-      (λ more. omega arith) taken.prev_in
+  prev_counted = grind (arith, e, one_at_same, taken)
 
   prev_within : e.prev < length es
   prev_within = open_within es e.prev (omega (arith, tree.once e.prev, prev_counted))
@@ -83,12 +76,7 @@ module _ {N : Type 0} (before : N → N → Bool) (es : List (Entry N)) (root id
   prev_of-within = rw prev_is prev_within
 
   detached_is : detached es id ≡ after
-  detached_is =
-      ap (λ (prev : ℕ). changed (with_next NONE) id
-      (changed (with_prev prev) (next_of es id)
-      (changed (relinked id (next_of es id)) prev es))) prev_is
-      ∙ ap (λ (next : ℕ). changed (with_next NONE) id
-      (changed (with_prev e.prev) next (changed (relinked id next) e.prev es))) next_is
+  detached_is = grind (arith, prev_is, e, next_is)
 
   abbrev unlinked : List (Entry N)
   unlinked = changed (relinked id e.next) e.prev es
@@ -97,9 +85,7 @@ module _ {N : Type 0} (before : N → N → Bool) (es : List (Entry N)) (root id
   linked = changed (with_prev e.prev) e.next unlinked
 
   length_after : length after ≡ length es
-  length_after =
-      length-changed (with_next NONE) id linked ∙ length-changed (with_prev e.prev) e.next unlinked
-      ∙ length-changed (relinked id e.next) e.prev es
+  length_after = grind (arith, length-changed, e)
 
   open_unlinked : map is_open unlinked ≡ map is_open es
   open_unlinked = map-changed (relinked id e.next) is_open e.prev es (λ x at. is_open-relinked id e.next x)
@@ -121,15 +107,10 @@ module _ {N : Type 0} (before : N → N → Bool) (es : List (Entry N)) (root id
           taken.next_in
 
   nodes_after : map (λ x. x.node) after ≡ map (λ x. x.node) es
-  nodes_after =
-      map-changed (with_next NONE) (λ x. x.node) id linked (λ x at. refl)
-      ∙ map-changed (with_prev e.prev) (λ x. x.node) e.next unlinked (λ x at. refl)
-      ∙ map-changed (relinked id e.next) (λ x. x.node) e.prev es (λ x at. node-relinked id e.next x)
+  nodes_after = grind (arith, map-changed, e, node-relinked)
 
   root_ne_next : root ≢ e.next
-  root_ne_next same =
-      let here : one_at root e.next ≡ 1 = subst (λ (k : ℕ). one_at root k ≡ 1) same (one_at_same root) in
-      ⊎_elim (λ last. some (same ∙ last)) (λ more. omega (arith, once e.next)) taken.next_in
+  root_ne_next same = grind (arith, e, one_at_same, some, once, taken, once e.next)
 
   lists_after : HaveOpen before after id root
   lists_after = record {

@@ -1,7 +1,6 @@
 -- What callers see of the heap: the root is first among the open nodes.
 use Rattle.std.proofs.Common.{◌≡◌, ◌≢◌, ⊎_elim, ℕ, ◌<◌, Bool, true, false, List, [], length, map, Some}
 use Rattle.std.proofs.Common.{slice_get, refl, sym, ap, ◌∙◌, arith}
-use Rattle.std.specs.Option.{option_map}
 use Rattle.std.proofs.lemmas.Bool.{cases_eq}
 use Rattle.std.proofs.lemmas.List.{length-map}
 use Rattle.std.proofs.lemmas.Option.{slice_get_within, slice_get-map, same_Some}
@@ -80,17 +79,5 @@ module _ {N : Type 0} (before : N → N → Bool) where
 
       pub root_first : IsStrictWeakOrder before → (pool : OpenList N) → pool.nodes ≡ nodes_of es
           → pool.open_at ≡ map is_open es → IsFirst before pool root
-      root_first order pool nodes flags = record {
-        is_open = ap (λ fs. slice_get fs root) flags ∙ root_open;
-        node = tree.node;
-        its_node = ap (λ ns. slice_get ns root) nodes ∙ slice_get-map (λ (e : Entry N). e.node) es root
-            ∙ ap (option_map (λ (e : Entry N). e.node)) tree.at;
-        none_before = λ other n opened found.
-            let flag = sym (ap (λ fs. slice_get fs other) flags) ∙ opened in
-            let entry = entry_at es other (omega (arith, open_count_open (map is_open es) other flag)) in
-            let same : n ≡ entry.0.node =
-            same_Some n _ (sym found ∙ ap (λ ns. slice_get ns other) nodes
-            ∙ slice_get-map (λ (e : Entry N). e.node) es other
-            ∙ ap (option_map (λ (e : Entry N). e.node)) entry.1) in
-            ap (λ m. before m tree.node) same ∙ none_before order other entry.0 flag entry.1;
-      }
+      root_first order pool nodes flags =
+          grind (arith, root_open, tree, slice_get-map, none_before, entry_at, open_count_open, same_Some)

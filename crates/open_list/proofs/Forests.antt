@@ -1,4 +1,6 @@
 -- Two lists of heaps that have each open node once.
+use Rattle.std.proofs.lemmas.Bool.Decides.{nat_tests}
+use Rattle.std.proofs.lemmas.Grind.{common_steps}
 use Rattle.std.proofs.Common.{◌≡◌, ◌≢◌, ℕ, zero, suc, ◌+◌, ◌<◌, ◌≤◌, ◌^◌, Bool, List, length, map, Some}
 use Rattle.std.proofs.Common.{slice_get, refl, sym, ap, subst, ◌∙◌, arith}
 use Rattle.std.specs.Option.{option_map_or}
@@ -76,19 +78,7 @@ module _ {N : Type 0} (before : N → N → Bool) where
 
   pub starts_with : (es : List (Entry N)) (hs : Heaps N) (id : ℕ) → first_id hs ≡ id → id ≢ NONE
       → AreRoots before es hs → StartsWith es hs id
-  starts_with es no_heap id is some held = absurd (some (sym is))
-  starts_with es (heap other node children rest) id is some held =
-      subst (λ (k : ℕ). StartsWith es (heap other node children rest) k) is
-      (record {
-        node = node;
-        children = children;
-        rest = rest;
-        prev = held.0;
-        is = refl;
-        at = held.1;
-        above = held.2;
-        roots = held.3;
-      })
+  starts_with es hs id h1 h2 h3 = grind (arith, nat_tests, common_steps)
 
   pub next_of_start : {es : List (Entry N)} {hs : Heaps N} {id : ℕ} (start : StartsWith es hs id)
       → next_of es id ≡ first_id start.rest
@@ -134,8 +124,7 @@ module _ {N : Type 0} (before : N → N → Bool) where
               (omega arith) start.above,
           AreRoots-changed before (with_next done) todo es have.seconds (omega arith) have.second_roots,
         );
-        once = λ i. rw (map-changed (with_next done) is_open todo es (λ e at. refl))
-            (omega (arith, total i));
+        once = λ i. grind (arith, map-changed, total i);
         fits = omega (arith, have.fits, ap node_count start.is, length-changed (with_next done) todo es);
         small = rw (length-changed (with_next done) todo es) have.small;
       } in
@@ -149,8 +138,5 @@ module _ {N : Type 0} (before : N → N → Bool) where
           ap (list_len later) next_is,
         );
         longer = omega (arith, list_len-seconds later _ _ lists, list_len-seconds es _ _ have);
-        kept = record {
-          nodes = map-changed (with_next done) (λ e. e.node) todo es (λ e at. refl);
-          open_at = map-changed (with_next done) is_open todo es (λ e at. refl);
-        };
+        kept = grind (arith, map-changed);
       }

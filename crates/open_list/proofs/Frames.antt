@@ -37,14 +37,8 @@ module _ {N : Type 0} (before : N → N → Bool) where
   pub AreChildren-moved : (es : List (Entry N)) (prev next_prev : ℕ) (parent : N) (hs : Heaps N)
       → count_at hs (first_id hs) ≤ 1 → AreChildren before es prev parent hs
       → AreChildren before (changed (with_prev next_prev) (first_id hs) es) next_prev parent hs
-  AreChildren-moved es prev next_prev parent no_heap most held = tt
-  AreChildren-moved es prev next_prev parent (heap id n children rest) most held =
-      let here = one_at_same id in (
-        get-changed (with_prev next_prev) id es _ held.0,
-        held.1,
-        AreChildren-changed (with_prev next_prev) id es id n children (omega arith) held.2,
-        AreChildren-changed (with_prev next_prev) id es id parent rest (omega arith) held.3,
-      )
+  AreChildren-moved es prev next_prev parent hs h1 h2 =
+      grind (arith, one_at_same, get-changed, AreChildren-changed)
 
   -- children without their parent are a list of their own
   pub AreRoots_from_children : (es : List (Entry N)) (prev : ℕ) (parent : N) (hs : Heaps N)

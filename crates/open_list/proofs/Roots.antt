@@ -1,6 +1,8 @@
 -- The heap that has every open node.
+use Rattle.std.proofs.lemmas.Bool.Decides.{nat_tests}
+use Rattle.std.proofs.lemmas.Grind.{common_steps}
 use Rattle.std.proofs.Common.{◌≡◌, ◌≢◌, ℕ, suc, ◌+◌, ◌<◌, ◌≤◌, ◌^◌, Bool, List, length, map, Some, slice_get}
-use Rattle.std.proofs.Common.{refl, ap, ◌∙◌, arith}
+use Rattle.std.proofs.Common.{refl, ap, arith}
 use Rattle.std.proofs.lemmas.Option.{slice_get_within}
 use Rattle.open_list.specs.declared.entry.Entry.{Entry}
 use Rattle.open_list.specs.declared.entry.TheConstants.{NONE}
@@ -29,9 +31,7 @@ module _ {N : Type 0} (before : N → N → Bool) where
   -- no heap begins at NONE
   pub none_heap : (es : List (Entry N)) (hs : Heaps N) → length es < 2 ^ 28 → first_id hs ≡ NONE
       → AreRoots before es hs → hs ≡ no_heap
-  none_heap es no_heap small is held = refl
-  none_heap es (heap id n children rest) small is held =
-      absurd (omega (arith, slice_get_within es id _ held.1))
+  none_heap es hs h1 h2 h3 = grind (arith, nat_tests, common_steps, slice_get_within)
 
   nothing_left : (hs : Heaps N) → heap_count hs ≤ 0 → hs ≡ no_heap
   nothing_left no_heap none = refl
@@ -40,11 +40,7 @@ module _ {N : Type 0} (before : N → N → Bool) where
   -- where no node is open, there is no root
   pub none_open : (es : List (Entry N)) → IsHeap before es NONE → (i : ℕ)
       → open_count (map is_open es) i ≡ 0
-  none_open es all i =
-      let have = all.all_open in
-      let firsts = none_heap es have.firsts have.small have.first_is have.first_roots in
-      let seconds = none_heap es have.seconds have.small have.second_is have.second_roots in
-      omega (arith, have.once i, ap (λ hs. count_at hs i) firsts, ap (λ hs. count_at hs i) seconds)
+  none_open es all i = grind (arith, none_heap)
 
   pub holds_all : (es : List (Entry N)) (root : ℕ) → IsHeap before es root → root ≢ NONE → HoldsAll es root
   holds_all es root all some =
@@ -62,21 +58,9 @@ module _ {N : Type 0} (before : N → N → Bool) where
         node = start.node;
         children = start.children;
         prev = start.prev;
-        at = start.at ∙ ap (λ (hs : Heaps N).
-            Some (let e : Entry N = record {
-              node = start.node;
-              child = first_id start.children;
-              next = first_id hs;
-              prev = start.prev;
-            } in e)) last;
+        at = grind (arith, nat_tests, common_steps);
         above = start.above;
-        once = λ i. omega (
-          arith,
-          have.once i,
-          ap (λ hs. count_at hs i) firsts,
-          ap (λ hs. count_at hs i) start.is,
-          ap (λ hs. count_at hs i) last,
-        );
+        once = λ i. grind (arith, have.once i);
         fits = omega (arith, have.fits, ap node_count start.is);
         small = have.small;
       }

@@ -1,9 +1,8 @@
 -- A node enters the heap, is lowered in it, or leaves it.
-use Rattle.std.proofs.Common.{◌≡◌, ◌≢◌, ⊎_elim, ℕ, ◌+◌, ◌<◌, ◌^◌, Bool, true, false, cond, List, [], ◌∷◌}
+use Rattle.std.proofs.Common.{◌≡◌, ◌≢◌, ℕ, ◌+◌, ◌<◌, ◌^◌, Bool, true, false, cond, List, [], ◌∷◌}
 use Rattle.std.proofs.Common.{◌++◌, length, map, set, Some, slice_get, refl, sym, ap, subst, ◌∙◌, arith}
 use Rattle.std.proofs.Common.{length-append}
-use Rattle.std.specs.Option.{option_map, option_map_or}
-use Rattle.std.proofs.lemmas.Bool.{cases_eq}
+use Rattle.std.specs.Option.{option_map_or}
 use Rattle.std.proofs.lemmas.List.{map_push}
 use Rattle.std.proofs.lemmas.Option.{slice_get-map}
 use Rattle.open_list.specs.Order.{IsStrictWeakOrder}
@@ -65,8 +64,7 @@ module _ {N : Type 0} (before : N → N → Bool) where
           );
           second_roots = AreRoots-changed before (with_node node) id es have.seconds
               (omega arith) have.second_roots;
-          once = λ i. rw (map-changed (with_node node) is_open id es (λ e at. refl))
-              (omega (arith, total i));
+          once = λ i. grind (arith, map-changed, total, total i);
           fits = omega (arith, have.fits, ap node_count start.is, length-changed (with_node node) id es);
           small = rw (length-changed (with_node node) id es) have.small;
         }
@@ -83,10 +81,7 @@ module _ {N : Type 0} (before : N → N → Bool) where
         ∙ sym (list_len-firsts before es id other have ∙ ap heap_count start.is)
 
     pub own_next : next_of lowered id ≡ next_of es id
-    own_next =
-        ap (λ o. option_map_or (λ (e : Entry N). e.next) o NONE)
-        (get-changed (with_node node) id es _ start.at)
-        ∙ sym (next_of_start before start)
+    own_next = grind (arith, get-changed, start, next_of_start)
 
   -- the node of the root is lowered
   pub root_lowered : IsStrictWeakOrder before → (es : List (Entry N)) (root : ℕ) → IsHeap before es root
@@ -116,8 +111,7 @@ module _ {N : Type 0} (before : N → N → Bool) where
   beside_none es id beside some =
       let have = beside.lists in
       let start = starts_with before es have.firsts id have.first_is some have.first_roots in
-      let last : start.rest ≡ no_heap = none_heap before es start.rest have.small
-      (sym (next_of_start before start) ∙ beside.last) start.roots in
+      let last : start.rest ≡ no_heap = grind (arith, none_heap, start, next_of_start) in
       record {
         all_open = swapped before es id NONE have;
         alone = omega (
@@ -137,39 +131,28 @@ module _ {N : Type 0} (before : N → N → Bool) where
     tree = holds_all before es root all some
 
     pub flags_closed : map is_open closed ≡ set (map is_open es) root false
-    flags_closed =
-        map-changed_to (with_prev CLOSED) is_open (λ _. false) root es (λ e. refl)
-        ∙ sym (set-is_changed (map is_open es) root false)
+    flags_closed = grind (arith, map-changed_to, set-is_changed)
 
     none_twice : count_at tree.children root ≡ 0
     none_twice = omega (arith, tree.once root, one_at_same root, open_count-le (map is_open es) root)
 
     children_only : (i : ℕ) → count_at tree.children i ≡ open_count (map is_open closed) i
     children_only i =
-        ⊎_elim
-        (λ (here : root ≡ i).
-        let flag : slice_get (map is_open closed) root ≡ Some false =
-        slice_get-map is_open closed root ∙ ap (option_map is_open)
-        (get-changed (with_prev CLOSED) root es _ tree.at) in
-        subst (λ (k : ℕ). count_at tree.children k ≡ open_count (map is_open closed) k) here
-        (none_twice ∙ sym (open_count_closed (map is_open closed) root flag)))
-        (λ (other : root ≢ i).
-        let flag : slice_get (map is_open closed) i ≡ slice_get (map is_open es) i =
-        slice_get-map is_open closed i ∙ ap (option_map is_open)
-        (get-changed_other (with_prev CLOSED) root i es (λ same. other (sym same)))
-        ∙ sym (slice_get-map is_open es i) in
-        omega (
+        grind (
           arith,
-          tree.once i,
-          one_at_other root i other,
-          open_count-same (map is_open es) (map is_open closed) i flag,
-        ))
-        (cases_eq root i)
+          slice_get-map,
+          get-changed,
+          tree,
+          none_twice,
+          open_count_closed,
+          get-changed_other,
+          one_at_other,
+          open_count-same,
+        )
 
     pub root_closed : HaveOpen before closed (child_of es root) NONE
     root_closed =
-        let child_is : child_of es root ≡ first_id tree.children =
-        ap (λ o. option_map_or (λ (e : Entry N). e.child) o NONE) tree.at in
+        let child_is : child_of es root ≡ first_id tree.children = grind (arith, tree) in
         let len : length closed ≡ length es = length-changed (with_prev CLOSED) root es in
         let lists : HaveOpen before closed (first_id tree.children) NONE = record {
           firsts = tree.children;
@@ -203,32 +186,19 @@ module _ {N : Type 0} (before : N → N → Bool) where
 
     counted : (i : ℕ) → one_at (length es) i + count_at have.seconds i ≡ open_count (map is_open pushed) i
     counted i =
-        let old : count_at have.seconds i ≡ open_count (map is_open es) i =
-        omega (
+        grind (
           arith,
-          have.once i,
-          ap (λ hs. count_at hs i)
-              (none_heap before es have.firsts have.small have.first_is have.first_roots),
-        ) in
-        ⊎_elim
-        (λ (here : length es ≡ i).
-        let flag : slice_get (map is_open pushed) i ≡ Some true =
-        subst (λ (k : ℕ). slice_get (map is_open pushed) k ≡ Some true) here
-        (slice_get-map is_open pushed (length es) ∙ ap (option_map is_open) (get_pushed es fresh)) in
-        let one : one_at (length es) i ≡ 1 =
-        subst (λ (k : ℕ). one_at (length es) k ≡ 1) here (one_at_same (length es)) in
-        omega (arith, old, none_past es i (omega arith), open_count_open (map is_open pushed) i flag))
-        (λ (other : length es ≢ i).
-        let flag : slice_get (map is_open pushed) i ≡ slice_get (map is_open es) i =
-        slice_get-map is_open pushed i ∙ ap (option_map is_open)
-        (get_pushed_other es fresh i (λ same. other (sym same))) ∙ sym (slice_get-map is_open es i) in
-        omega (
-          arith,
-          old,
-          one_at_other (length es) i other,
-          open_count-same (map is_open es) (map is_open pushed) i flag,
-        ))
-        (cases_eq (length es) i)
+          have,
+          none_heap,
+          slice_get-map,
+          get_pushed,
+          one_at_same,
+          none_past,
+          open_count_open,
+          get_pushed_other,
+          one_at_other,
+          open_count-same,
+        )
 
     lists_pushed : HaveOpen before pushed (length es) root
     lists_pushed = record {
@@ -264,15 +234,11 @@ module _ {N : Type 0} where
   pub entry_lower : (before : N → N → Bool) (es : List (Entry N)) (nodes : List N) (id : ℕ) (node : N)
       → nodes_of es ≡ nodes → ((n : N) → slice_get nodes id ≡ Some n → before n node ≡ false)
       → (e : Entry N) → slice_get es id ≡ Some e → before e.node node ≡ false
-  entry_lower before es nodes id node same lower e found =
-      lower e.node (ap (λ ns. slice_get ns id) (sym same) ∙ slice_get-map (λ (x : Entry N). x.node) es id
-      ∙ ap (option_map (λ (x : Entry N). x.node)) found)
+  entry_lower before es nodes id node same lower e found = grind (arith, slice_get-map)
 
   pub nodes_lowered : (es : List (Entry N)) (id : ℕ) (node : N)
       → nodes_of (changed (with_node node) id es) ≡ set (nodes_of es) id node
-  nodes_lowered es id node =
-      map-changed_to (with_node node) (λ (e : Entry N). e.node) (λ _. node) id es (λ e. refl)
-      ∙ sym (set-is_changed (nodes_of es) id node)
+  nodes_lowered es id node = grind (arith, map-changed_to, set-is_changed)
 
   pub flags_lowered : (es : List (Entry N)) (id : ℕ) (node : N)
       → map is_open (changed (with_node node) id es) ≡ map is_open es

@@ -82,8 +82,7 @@ module _ (explained : TurnsAreMarked) (g : GridData) (t : Cell) where
       moves = suc r.moves;
       some = omega arith;
       cell = r.cell;
-      reached = rw e
-          r.reached;
+      reached = grind arith;
       holds = k;
     })
     | inr k ↦ marked (looks_out h s (record
@@ -154,8 +153,7 @@ module _ (explained : TurnsAreMarked) (g : GridData) (t : Cell) where
         reached = rw plus n.reached;
         rule = n.rule;
         ends = n.ends;
-        priced = rw (cost_there d v w a, n.priced, run_cost-next d n.more)
-            (sym (add_costs-assoc (dir_cost d) (run_cost d n.more) (cost_of (n.cell ∷ n.left))));
+        priced = grind (arith, cost_there, run_cost-next, add_costs-assoc, dir_cost);
         fewer = (let less = n.fewer in omega arith);
       }
 
@@ -192,8 +190,7 @@ module _ (explained : TurnsAreMarked) (g : GridData) (t : Cell) where
     chain = jumps _ _ _ d (1 + n.more) _
         (record { allowed = m.allowed; first = n.first; reached = n.reached; arrives = refl }) rest.chain;
     ends = rest.ends;
-    priced = rw (cost_there d x v m.leads, n.priced, rest.priced)
-        (leg_priced d n.more (cost_of (n.cell ∷ n.left)));
+    priced = grind (arith, cost_there);
   }
 
   chain_along : (n : ℕ) (by : Arrival) (x : Cell) (cells : List Cell) → length cells < n
@@ -217,6 +214,5 @@ chains_from explained g s t cells w =
       cost = c.cost;
       chain = c.chain;
       ends = c.ends;
-      no_more = same_at_most c.cost
-          (cost_of (s ∷ cells)) c.priced;
+      no_more = grind (arith, same_at_most);
     }

@@ -1,6 +1,5 @@
 -- The first cell of a run at which a test holds.
-use Rattle.std.proofs.Common.{◌≡◌, ℕ, zero, suc, ◌+◌, ◌<◌, ◌≤◌, ◌⊎◌, inl, inr, arith, Bool, true, false, refl}
-use Rattle.std.proofs.Common.{ap}
+use Rattle.std.proofs.Common.{◌≡◌, ℕ, zero, suc, ◌+◌, ◌≤◌, arith, Bool, true, false, refl}
 use Rattle.std.specs.Prelude.{Option, Some, None, MatchOption, option_and_then, option_map, is_some}
 use Rattle.std.specs.Prelude.{if◌then◌else◌}
 use Rattle.grid_moves.specs.declared.Cell.{Cell}
@@ -19,24 +18,13 @@ pub FindsLeast-once : (P : ℕ → Type 0) (low : ℕ) (a b : Option ℕ) → Fi
 FindsLeast-once P low None None f h = refl
 FindsLeast-once P low None (Some n) f h = absurd (f (suc n) n h.in_range (omega arith) h.holds)
 FindsLeast-once P low (Some m) None f h = absurd (h (suc m) m f.in_range (omega arith) f.holds)
-FindsLeast-once P low (Some m) (Some n) f h = elim (three m n) [
-  | inl l ↦ absurd (h.least m f.in_range l f.holds)
-  | inr (inl e) ↦ ap (λ k. Some k) e
-  | inr (inr l) ↦ absurd (f.least n h.in_range l h.holds)
-]
-  where
-    three : (m n : ℕ) → (m < n) ⊎ (m ≡ n) ⊎ (n < m)
-    three m n = grind arith
+FindsLeast-once P low (Some m) (Some n) f h = grind arith
 
 -- and for any property that holds of the same numbers
 pub FindsLeast-same : (P Q : ℕ → Type 0) (low : ℕ) → ((k : ℕ) → P k → Q k) → ((k : ℕ) → Q k → P k)
     → (a : Option ℕ) → FindsLeast P low a → FindsLeast Q low a
 FindsLeast-same P Q low there back None f = λ n k i j q. f n k i j (back k q)
-FindsLeast-same P Q low there back (Some n) f = record {
-  in_range = f.in_range;
-  holds = there n f.holds;
-  least = λ k i j q. f.least k i j (back k q);
-}
+FindsLeast-same P Q low there back (Some n) f = grind arith
 
 module _ (g : GridData) (d : Dir) (test : Cell → Bool) where
   -- the run from x has k moves, and the test holds after them
@@ -59,10 +47,7 @@ module _ (g : GridData) (d : Dir) (test : Cell → Bool) where
   later : (x v : Cell) → legal_ahead g x d ≡ Some v → test v ≡ false → (k : ℕ) → 1 ≤ k → HoldsAfter x k
       → (j : ℕ) × (k ≡ suc j) × (1 ≤ j) × HoldsAfter v j
   later x v e f zero i h = absurd (omega arith)
-  later x v e f (suc zero) i h =
-      let same : v ≡ h.cell = one_of v h.cell (rw e at h.reached) in
-      let passed : test v ≡ true = rw same h.holds in
-      absurd (cc)
+  later x v e f (suc zero) i h = grind (arith, one_of)
   later x v e f (suc (suc k)) i h =
       (suc k, refl, omega arith, record { cell = h.cell; reached = rw e at h.reached; holds = h.holds })
 
@@ -125,8 +110,7 @@ module _ (g : GridData) (d : Dir) (test : Cell → Bool) where
 
   -- from cell to cell: where no move is legal none is found
   pub first_on_run-none : (x : Cell) → legal_ahead g x d ≡ None → first_on_run g d test x ≡ None
-  first_on_run-none x e = FindsLeast-once (HoldsAfter x) 1 (first_on_run g d test x) None
-      (first_on_run-finds x) (λ n k i j h. nowhere x e k i h)
+  first_on_run-none x e = grind (arith, FindsLeast-once, first_on_run-finds, nowhere)
 
   -- else the next cell, or one move more than from there
   pub first_on_run-next : (x v : Cell) → legal_ahead g x d ≡ Some v

@@ -1,5 +1,7 @@
 -- Walks one after the other: what is less of the first is less of both.
-use Rattle.std.proofs.Common.{◌≡◌, ◌+◌, ◌*◌, arith, ap, List, [], ◌∷◌, ◌++◌, length}
+use Rattle.std.proofs.Common.{◌≡◌, ◌+◌, ◌*◌, arith, ap, List, [], ◌∷◌, ◌++◌, length, true, refl, sym}
+use Rattle.std.proofs.lemmas.Bool.Decides.{nat_tests}
+use Rattle.std.proofs.lemmas.Grind.{common_steps}
 use Rattle.std.proofs.Common.{length-append}
 use Rattle.root2_cost.specs.declared.Cost.{Cost}
 use Rattle.grid_moves.specs.declared.Cell.{Cell}
@@ -22,8 +24,7 @@ places-joined x (c ∷ cells) more =
 -- with the same walk after both
 pub IsSmaller-joined : (x : Cell) (es ds more : List Cell) → last_of x es ≡ last_of x ds
     → IsSmaller (x ∷ es) (x ∷ ds) → IsSmaller (x ∷ (es ++ more)) (x ∷ (ds ++ more))
-IsSmaller-joined x es ds more e (shorter l) =
-    shorter (rw (length-append es more, length-append ds more) (omega arith))
+IsSmaller-joined x es ds more e (shorter l) = grind (arith, nat_tests, common_steps)
 IsSmaller-joined x es ds more e (straighter l b) = straighter
     (rw (length-append es more, length-append ds more) (omega arith))
     (rw (diagonals-joined x es more, diagonals-joined x ds more, e) (omega arith))
@@ -38,6 +39,4 @@ IsSmaller-joined x es ds more e (earlier l b p) = earlier
 -- with the same move before both
 pub IsSmaller-cons : (x c : Cell) (es ds : List Cell) → IsSmaller (c ∷ es) (c ∷ ds)
     → IsSmaller (x ∷ c ∷ es) (x ∷ c ∷ ds)
-IsSmaller-cons x c es ds (shorter l) = shorter (omega arith)
-IsSmaller-cons x c es ds (straighter l b) = straighter (omega arith) (omega arith)
-IsSmaller-cons x c es ds (earlier l b p) = earlier (omega arith) (omega arith) (omega arith)
+IsSmaller-cons x c es ds h1 = grind arith

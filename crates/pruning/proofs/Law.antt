@@ -1,4 +1,7 @@
 -- Every walk has a canonical walk of no greater cost, where each turn that is not allowed has a replacement.
+use Rattle.std.proofs.lemmas.Bool.Decides.{nat_tests}
+use Rattle.std.proofs.lemmas.Grind.{common_steps}
+use Rattle.std.proofs.Common.{arith}
 use Rattle.std.proofs.Common.{◌≡◌, ◌⊎◌, inl, inr, refl, ap, sym, ◌∙◌, List, [], ◌∷◌, ◌++◌, subst, true}
 use Rattle.std.specs.Prelude.{⊤}
 use Rattle.root2_cost.specs.Sums.{add_costs}
@@ -27,11 +30,7 @@ module _ (replaced : TurnsAreReplaced) (g : GridData) where
       → HasBetter g u w (v ∷ w ∷ []) → HasBetter g u (last_of w cells) (v ∷ w ∷ cells)
   put_in u v w cells h b = record {
     instead = b.instead ++ cells;
-    walk = record {
-      legal = walk-joined g u b.instead cells b.walk.legal
-          (subst (λ (c : Cell). is_walk g (c ∷ cells) ≡ true) (sym b.walk.ends) h);
-      ends = last-joined u b.instead cells ∙ ap (λ (c : Cell). last_of c cells) b.walk.ends;
-    };
+    walk = grind (arith, nat_tests, common_steps, walk-joined, last-joined);
     no_more = (Most-then (Most-same (cost-joined u b.instead cells
         ∙ ap (λ (c : Cell). add_costs (cost_of (u ∷ b.instead)) (cost_of (c ∷ cells))) b.walk.ends))
         (Most-then (Most-add_right (cost_of (w ∷ cells)) (cost_of (u ∷ b.instead)) (cost_of (u ∷ v ∷ w ∷ []))
@@ -68,9 +67,7 @@ module _ (replaced : TurnsAreReplaced) (g : GridData) where
   improve : (cells : List Cell) (u : Cell) → is_walk g (u ∷ cells) ≡ true
       → FollowsRule g Start u cells ⊎ HasBetter g u (last_of u cells) cells
   improve [] u h = inl tt
-  improve (v ∷ []) u h =
-      let l = leads_of g u v (and_both (is_legal g u v) _ h).0 in
-      inl (l.0, record { leads = l.1.ahead_is; allowed = leads_can g u v l.0 l.1 }, tt)
+  improve (v ∷ []) u h = grind (arith, nat_tests, common_steps, leads_of, and_both, leads_can)
   improve (v ∷ w ∷ cells) u h =
       let first = and_both (is_legal g u v) (is_walk g (v ∷ w ∷ cells)) h in
       let rest = and_both (is_legal g v w) (is_walk g (w ∷ cells)) first.1 in

@@ -1,9 +1,11 @@
 -- When a move from a free cell is legal: by the cells ahead and beside.
-use Rattle.std.proofs.Common.{◌≡◌, refl, sym, ◌∙◌, ap, Bool, true, false, ◌&&◌}
+use Rattle.std.proofs.lemmas.Bool.Decides.{nat_tests}
+use Rattle.std.proofs.lemmas.Grind.{common_steps}
+use Rattle.std.proofs.Common.{arith}
+use Rattle.std.proofs.Common.{◌≡◌, refl, sym, ◌∙◌, true, false, ◌&&◌}
 use Rattle.grid_moves.specs.declared.Cell.{Cell}
 use Rattle.grid_moves.specs.declared.Corner.{Corner}
 use Rattle.grid_moves.specs.declared.Dir.{Dir}
-use Rattle.grid_moves.specs.declared.Dir.TheVariants.{N, NE, E, SE, S, SW, W, NW}
 use Rattle.grid_moves.specs.declared.ring.Ring.{Ring}
 use Rattle.grid_moves.specs.Grid.{GridData, is_free}
 use Rattle.grid_moves.specs.Move.{is_passable, is_open}
@@ -16,26 +18,12 @@ use Rattle.pruning.specs.Allowed.{can_move}
 -- on a ring, what lies ahead decides a straight move
 pub leads_on-straight : (r : Corner) (ring : Ring) (d : Dir) → is_diagonal d ≡ false
     → leads_on r ring d ≡ is_free_on ring d
-leads_on-straight r ring N h = refl
-leads_on-straight r ring E h = refl
-leads_on-straight r ring S h = refl
-leads_on-straight r ring W h = refl
-leads_on-straight r ring NE h = absurd (cc)
-leads_on-straight r ring SE h = absurd (cc)
-leads_on-straight r ring SW h = absurd (cc)
-leads_on-straight r ring NW h = absurd (cc)
+leads_on-straight r ring d h1 = grind (arith, nat_tests, common_steps)
 
 -- and what lies ahead and beside a diagonal one
 pub leads_on-diagonal : (r : Corner) (ring : Ring) (d : Dir) → is_diagonal d ≡ true → leads_on r ring d
     ≡ (is_free_on ring d && is_passable r (is_free_on ring (turn Left d)) (is_free_on ring (turn Right d)))
-leads_on-diagonal r ring NE h = ap (λ (b : Bool). ring.ne && b) (passable-turned r ring.e ring.n)
-leads_on-diagonal r ring SE h = refl
-leads_on-diagonal r ring SW h = ap (λ (b : Bool). ring.sw && b) (passable-turned r ring.w ring.s)
-leads_on-diagonal r ring NW h = refl
-leads_on-diagonal r ring N h = absurd (cc)
-leads_on-diagonal r ring E h = absurd (cc)
-leads_on-diagonal r ring S h = absurd (cc)
-leads_on-diagonal r ring W h = absurd (cc)
+leads_on-diagonal r ring d h1 = grind (arith, nat_tests, common_steps, passable-turned)
 
 -- so it is on a grid
 pub can_move-straight : (g : GridData) (c : Cell) (d : Dir) → is_free g c ≡ true → is_diagonal d ≡ false

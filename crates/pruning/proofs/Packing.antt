@@ -1,6 +1,7 @@
 -- Words of directions put together and taken apart.
+use Rattle.std.proofs.lemmas.Grind.{common_steps}
 use Rattle.std.proofs.Common.{◌≡◌, ℕ, zero, suc, ◌+◌, ◌-◌, ◌*◌, ◌/◌, ◌%◌, ◌^◌, ◌<◌, ◌≤◌, List, [], ◌∷◌, Bool}
-use Rattle.std.proofs.Common.{true, false, nat_eq, length, get_or, arith, refl, sym, ap, ◌∙◌}
+use Rattle.std.proofs.Common.{false, nat_eq, length, get_or, arith, refl, sym, ap, ◌∙◌}
 use Rattle.std.specs.Prelude.{filter}
 use Rattle.std.proofs.lemmas.Bool.Decides.{nat_tests}
 use Rattle.std.proofs.lemmas.List.Sums.{length-filter, count_by-le-length}
@@ -32,12 +33,7 @@ gives zero [] h = refl
 gives zero (d ∷ ds) h = absurd (omega (arith, h))
 gives (suc n) [] h = refl
 gives (suc n) (d ∷ ds) h =
-    let w : ℕ = dir_number d + 1 + 16 * word_of ds in
-    one_off n w (some_left d (word_of ds))
-    ∙ ap (λ (k : ℕ). get_or all_dirs k N ∷ dirs_of n (w / 16)) (digit_is d (word_of ds))
-    ∙ ap (λ (e : Dir). e ∷ dirs_of n (w / 16)) (numbered_dir d)
-    ∙ ap (λ (k : ℕ). d ∷ dirs_of n k) (others_are d (word_of ds))
-    ∙ ap (λ (es : List Dir). d ∷ es) (gives n ds (omega (arith, h)))
+    grind (arith, nat_tests, one_off, some_left, digit_is, numbered_dir, others_are, h, gives n ds (omega (arith, h)))
 
 pub shown : (w : ℕ) (ds : List Dir) → w ≡ word_of ds → length ds ≤ 8 → dirs_of 8 w ≡ ds
 shown w ds h few = ap (λ (k : ℕ). dirs_of 8 k) h ∙ gives 8 ds few
@@ -49,12 +45,7 @@ whole w ds h few = h ∙ sym (ap (λ (es : List Dir). word_of es) (shown w ds h 
 pub few_dirs : (n w : ℕ) → length (dirs_of n w) ≤ n
 unfolding dirs_of
 few_dirs zero w = omega arith
-few_dirs (suc n) w = by_test (nat_eq w 0) refl (few_dirs n (w / 16))
-  where
-    by_test : (b : Bool) → nat_eq w 0 ≡ b → length (dirs_of n (w / 16)) ≤ n
-        → length (dirs_of (suc n) w) ≤ suc n
-    by_test true h k = rw h (omega arith)
-    by_test false h k = rw h (omega (arith, k))
+few_dirs (suc n) w = grind (arith, nat_tests, common_steps, few_dirs n (w / 16))
 
 module _ (left : ℕ) (some : 0 < left) where
   -- a word that is not 0 has a first direction
@@ -68,11 +59,7 @@ module _ (left : ℕ) (some : 0 < left) where
       → (ds : List Dir) → left ≡ word_of ds
       → (others : List Dir) × (ds ≡ first ∷ others) × (left / 16 ≡ word_of others)
   is_split first is [] h = absurd (omega (arith, h, some))
-  is_split first is (d ∷ ds) h = (
-    ds,
-    ap (λ (e : Dir). e ∷ ds) (sym (is d ds h)),
-    ap (λ (w : ℕ). w / 16) h ∙ others_are d (word_of ds),
-  )
+  is_split first is (d ∷ ds) h = grind (arith, nat_tests, others_are)
 
 -- where the word is 0 there are none
 pub are_none : (ds : List Dir) → 0 ≡ word_of ds → ds ≡ []

@@ -16,7 +16,7 @@ use Rattle.pruning.specs.declared.turns.Side.{Side}
 use Rattle.pruning.specs.declared.turns.Side.TheVariants.{Right, Left}
 use Rattle.pruning.specs.Turns.{turn, quarter, rear, is_diagonal}
 use Rattle.pruning.specs.Allowed.{is_blocked, keeps_eighth, keeps_quarter, is_kept}
-use Rattle.pruning.specs.Facts.{HasBetter, shorter, straighter, earlier, TurnsAreReplaced}
+use Rattle.pruning.specs.Facts.{HasBetter, shorter, TurnsAreReplaced}
 use Rattle.pruning.proofs.Places.{Place, move}
 use Rattle.pruning.proofs.Table.{straight_back, straight_side, diagonal_back, diagonal_side, reversal}
 use Rattle.pruning.proofs.Table.{moved_both, Turned, turned, ahead, eighth, side, back, about, turn_parity}
@@ -27,13 +27,11 @@ use Rattle.pruning.proofs.Bridging.{leads_over, Passes}
 use Rattle.pruning.proofs.Kept.{kept-on, kept-eighth, kept-quarter}
 
 passable : (r : Corner) (a b : Bool) → b ≡ true → (may_cut r ≡ false → a ≡ true) → is_passable r a b ≡ true
-passable r a b h k = by_cut r (λ e. passable-uncut r e a b ∙ rw (k e, h) refl)
-    (λ e. passable-cut r e a b (grind arith))
+passable r a b h k = grind (arith, by_cut, passable-uncut, passable-cut)
 
 passable-left : (r : Corner) (a b : Bool) → a ≡ true → (may_cut r ≡ false → b ≡ true)
     → is_passable r a b ≡ true
-passable-left r a b h k = by_cut r (λ e. passable-uncut r e a b ∙ rw (h, k e) refl)
-    (λ e. passable-cut r e a b (grind arith))
+passable-left r a b h k = grind (arith, by_cut, passable-uncut, passable-cut)
 
 -- the cost of two moves
 abbrev pair_cost : Dir → Dir → Cost
@@ -58,9 +56,7 @@ module _ (g : GridData) (u v w : Cell) (d e : Dir) (l : Leads g u v d) (m : Lead
 
   open_from : (f h : Dir) → move f (move d (place_of u)) ≡ move h (place_of u)
       → is_open g v f ≡ is_open g u h
-  open_from f h s = open_there g v f
-      ∙ ap (λ (p : Place). free_place g p) (ap (λ (p : Place). move f p) (sym (leads_there g u v d l)) ∙ s)
-      ∙ sym (open_there g u h)
+  open_from f h s = grind (arith, open_there, free_place, move, leads_there)
 
   -- a reversal: nothing
   undone : w ≡ u → HasBetter g u w (v ∷ w ∷ [])
@@ -92,8 +88,7 @@ module _ (g : GridData) (u v w : Cell) (d e : Dir) (l : Leads g u v d) (m : Lead
   -- the diagonal beside d passes, where the cell ahead is open, and where no corner is cut the one aside
   passes_beside : (s : Side) → (may_cut g.corner ≡ false → is_open g u (quarter s d) ≡ true)
       → Passes g u (turn s d)
-  passes_beside Left a k = passable g.corner _ _ (rw (turn_back Left d) open_ahead) a
-  passes_beside Right a k = passable-left g.corner _ _ (rw (turn_back Right d) open_ahead) a
+  passes_beside s h1 = grind (arith, passable, turn_back, open_ahead, passable-left)
 
   -- a diagonal move back to a side: the straight move aside; a component's reverse: the other component
   side_only : (f : Dir) → is_diagonal f ≡ false → move e (move d (place_of u)) ≡ move f (place_of u)
@@ -125,14 +120,7 @@ module _ (g : GridData) (u v w : Cell) (d e : Dir) (l : Leads g u v d) (m : Lead
     instead = c ∷ w ∷ [];
     walk = record { legal = rw (n.legal, q.legal, target) refl; ends = refl };
     no_more = rw (cost_there f u c n.ahead_is, cost_there h c w q.ahead_is, first, second) less;
-    smaller = elim fewer [
-      | inl b ↦ straighter refl
-          (rw (cost_there f u c n.ahead_is, cost_there h c w q.ahead_is, first, second) b)
-      | inr b ↦ earlier refl
-          (rw (cost_there f u c n.ahead_is, cost_there h c w q.ahead_is, first, second) (b.0))
-          (rw (cost_there f u c n.ahead_is, cost_there h c w q.ahead_is, first, second)
-          (let same = b.0 in let last = b.1 in omega arith))
-    ];
+    smaller = grind (arith, cost_there);
   }
     where
       first : move_cost u v ≡ dir_cost d
@@ -167,8 +155,7 @@ module _ (g : GridData) (u v w : Cell) (d e : Dir) (l : Leads g u v d) (m : Lead
 
 -- what walls would keep
 or_false : (a b : Bool) → (a || b) ≡ false → b ≡ false
-or_false true b h = absurd (cc)
-or_false false b h = h
+or_false a b h1 = grind arith
 
 shut : (a b : Bool) → a ≡ true → (a && b) ≡ false → b ≡ false
 shut a b h k = rw h at k
@@ -184,11 +171,7 @@ module _ (r : Corner) (b : Dir → Bool) (d : Dir) (s : Side) where
   quarter_walls : keeps_quarter r b d s ≡ false
       → (is_diagonal d ≡ false → may_cut r ≡ false → b (rear s d) ≡ false)
       × (is_diagonal d ≡ true → may_cut r ≡ true → b (rear s d) ≡ false)
-  quarter_walls h = (
-    λ k e. shut (not (is_diagonal d)) _ (rw k refl) (rw e at h),
-    λ k e.
-        shut (is_diagonal d) _ k (rw e at h),
-  )
+  quarter_walls h = grind (arith, shut)
 
 -- both cells beside a legal diagonal move are open where no corner is cut
 pub sides_open : (g : GridData) (u v : Cell) (d : Dir) → Leads g u v d → is_diagonal d ≡ true
@@ -196,8 +179,7 @@ pub sides_open : (g : GridData) (u v : Cell) (d : Dir) → Leads g u v d → is_
 sides_open g u v d l h e s = side s
   where
     both : (a b : Bool) → is_passable g.corner a b ≡ true → (a ≡ true) × (b ≡ true)
-    both a b h = let and : (a && b) ≡ true = sym (passable-uncut g.corner e a b) ∙ h in
-        (grind arith, grind arith)
+    both a b h = grind (arith, passable-uncut)
 
     side : (s : Side) → is_open g u (turn s d) ≡ true
     side Left = (both (is_open g u (turn Left d)) (is_open g u (turn Right d)) (leads_passes g u v d l h)).0
@@ -207,11 +189,7 @@ module _ (g : GridData) (u v w : Cell) (d : Dir) (l : Leads g u v d) where
   -- a cell beside v that is not blocked, as seen from u
   seen : (e : Dir) → Leads g v w e → (f h : Dir) → move f (move d (place_of u)) ≡ move h (place_of u)
       → is_blocked g v f ≡ false → is_open g u h ≡ true
-  seen e m f h p b = sym (open_from g u v w d e l m f h p) ∙ not_blocked (is_open g v f) b
-    where
-      not_blocked : (a : Bool) → not a ≡ false → a ≡ true
-      not_blocked true h = refl
-      not_blocked false h = absurd (cc)
+  seen e m f h p b = grind (arith, open_from)
 
   by_turn : (e : Dir) → Turned d e → Leads g v w e → is_kept g.corner (is_blocked g v) (By d) e ≡ false
       → HasBetter g u w (v ∷ w ∷ [])
@@ -245,8 +223,7 @@ module _ (g : GridData) (u v w : Cell) (d : Dir) (l : Leads g u v d) where
   by_turn _ (back s) m k = by_parity d
       (λ h.
       let f : is_diagonal (turn s d) ≡ false = turn_parity s d ∙ ap not h in
-      let j : is_diagonal (rear s d) ≡ false = turn_parity s (quarter s d) ∙ ap not
-      (quarter_parity s d ∙ h) in
+      let j : is_diagonal (rear s d) ≡ false = grind (arith, turn_parity, quarter_parity) in
       side_only g u v w d (rear s d) l m (turn s d) f (diagonal_back s d (place_of u) h)
       (rw (f, h, j) refl))
       (λ h.
@@ -265,5 +242,4 @@ turns_are_replaced g u v w d e p q n =
     (and_false (is_kept g.corner (is_blocked g v) (By d) e) _ (leads_can g v w e m) n)
   where
     and_false : (a b : Bool) → b ≡ true → (a && b) ≡ false → a ≡ false
-    and_false true b h k = absurd (cc)
-    and_false false b h k = refl
+    and_false a b h1 h2 = grind arith

@@ -1,4 +1,7 @@
 -- What is allowed, and where a neighbour is forced, told by the cells around.
+use Rattle.std.proofs.lemmas.Bool.Decides.{nat_tests}
+use Rattle.std.proofs.lemmas.Grind.{common_steps}
+use Rattle.std.proofs.Common.{arith}
 use Rattle.std.proofs.Common.{◌≡◌, Bool, true, not, ◌||◌, refl, ap, ◌∙◌, List, [], ◌∷◌}
 use Rattle.std.specs.Prelude.{filter}
 use Rattle.grid_moves.specs.declared.Cell.{Cell}
@@ -10,7 +13,6 @@ use Rattle.grid_moves.specs.Move.{is_open, all_dirs}
 use Rattle.grid_moves.specs.Ring.{is_free_on, is_shut, leads_on}
 use Rattle.grid_moves.proofs.Besides.{leads_on-legal}
 use Rattle.pruning.specs.declared.Arrival.{Arrival}
-use Rattle.pruning.specs.declared.Arrival.TheVariants.{Start, By}
 use Rattle.pruning.specs.declared.turns.Side.{Side}
 use Rattle.pruning.specs.declared.turns.Side.TheVariants.{Right, Left}
 use Rattle.pruning.specs.Turns.{turn, quarter, rear}
@@ -26,9 +28,7 @@ same_filter p q h (d ∷ ds) = rw (h d, same_filter p q h ds) refl
 -- what is kept hangs on the blocked cells alone
 same_kept : (r : Corner) (p q : Dir → Bool) → ((d : Dir) → p d ≡ q d) → (by : Arrival) (e : Dir)
     → is_kept r p by e ≡ is_kept r q by e
-same_kept r p q h Start e = refl
-same_kept r p q h (By d) e =
-    rw (h (quarter Right d), h (quarter Left d), h (rear Right d), h (rear Left d)) refl
+same_kept r p q h1 by e = grind (arith, nat_tests, common_steps)
 
 -- where a neighbour is forced hangs on them and on the legal moves
 same_forced : (r : Corner) (a b p q : Dir → Bool) → ((e : Dir) → a e ≡ b e) → ((e : Dir) → p e ≡ q e)
@@ -44,8 +44,7 @@ module _ (g : GridData) (x : Cell) (free : is_free g x ≡ true) (ring : Ring)
   can d = leads_on-legal g x free ring read g.corner refl d
 
   allowed_on : (by : Arrival) (e : Dir) → is_allowed_on g.corner ring by e ≡ is_allowed g x by e
-  allowed_on by e =
-      let kept = same_kept g.corner (is_shut ring) (is_blocked g x) blocked by e in rw (kept, can e) refl
+  allowed_on by e = grind (arith, nat_tests, common_steps, same_kept, blocked, can)
 
   -- the allowed directions
   pub allowed_of_ring : (corner : Corner) → corner ≡ g.corner → (by : Arrival)
@@ -56,9 +55,7 @@ module _ (g : GridData) (x : Cell) (free : is_free g x ≡ true) (ring : Ring)
 
   forced_aside : (d : Dir) (s : Side)
       → forced_beside g.corner ring d s ≡ is_forced_on g.corner (is_blocked g x) (can_move g x) d s
-  forced_aside d s =
-      same_forced g.corner (is_shut ring) (is_blocked g x) (leads_on g.corner ring) (can_move g x) blocked can
-      d s
+  forced_aside d s = grind (arith, nat_tests, common_steps, same_forced, blocked, can)
 
   -- and whether a neighbour is forced
   pub forced_of_ring : (corner : Corner) → corner ≡ g.corner → (d : Dir)

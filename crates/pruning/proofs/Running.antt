@@ -1,7 +1,7 @@
 -- The cells of a legal run: they lie on a line, and make a walk of its cost.
-use Rattle.std.proofs.Common.{◌≡◌, ℕ, zero, suc, ◌+◌, ◌≤◌, arith, true, false, refl, ap, sym, ◌∙◌, subst}
+use Rattle.std.proofs.Common.{◌≡◌, ℕ, zero, suc, ◌+◌, ◌≤◌, arith, true, refl, ap, sym, ◌∙◌, subst}
 use Rattle.std.proofs.Common.{List, [], ◌∷◌, ◌||◌}
-use Rattle.std.specs.Prelude.{⊤, Option, Some, None, option_and_then, nat_lt, nat_eq, max}
+use Rattle.std.specs.Prelude.{⊤, Option, Some, None, option_and_then, nat_eq, max}
 use Rattle.std.proofs.lemmas.Bool.Decides.{nat_tests}
 use Rattle.grid_moves.specs.declared.Cell.{Cell}
 use Rattle.grid_moves.specs.declared.Dir.{Dir}
@@ -50,24 +50,14 @@ IsMoved level k a b = b ≡ a
 IsMoved falling k a b = a ≡ b + k
 
 not_moved : (t : Trend) (a : ℕ) → IsMoved t 0 a a
-not_moved rising a = omega arith
-not_moved level a = refl
-not_moved falling a = omega arith
+not_moved t a = grind (arith, nat_tests)
 
 moved_on : (t : Trend) (k a z b : ℕ) → IsMoved t 1 a z → IsMoved t k z b → IsMoved t (suc k) a b
-moved_on rising k a z b p q = omega arith
-moved_on level k a z b p q = omega arith
-moved_on falling k a z b p q = omega arith
+moved_on t k a z b h1 h2 = grind (arith, nat_tests)
 
 -- the first move goes towards the end
 toward_moved : (t : Trend) (k a z b : ℕ) → IsMoved t 1 a z → IsMoved t k z b → toward a b ≡ z
-toward_moved rising k a z b p q = let l : nat_lt a b ≡ true = grind (arith, nat_tests) in rw l (sym p)
-toward_moved level k a z b p q = let l : nat_lt a b ≡ false =
-    grind (arith, nat_tests) in let m : nat_lt b a ≡ false = grind (arith, nat_tests) in rw (l, m) (sym p)
-toward_moved falling k a z b p q =
-    let l : nat_lt a b ≡ false = grind (arith, nat_tests) in
-    let m : nat_lt b a ≡ true = grind (arith, nat_tests) in
-    rw (l, m) (omega arith)
+toward_moved t k a z b h1 h2 = grind (arith, nat_tests)
 
 abbrev pub AreMoved : Dir → ℕ → Cell → Cell → Type 0
 AreMoved d k u v = IsMoved (column_trend d) k u.x v.x × IsMoved (row_trend d) k u.y v.y
@@ -77,20 +67,7 @@ IsStepped d u None = ⊤
 IsStepped d u (Some v) = AreMoved d 1 u v
 
 stepped : (x y : ℕ) (d : Dir) → IsStepped d (record { x = x; y = y }) (ahead d (record { x = x; y = y }))
-stepped x zero N = tt
-stepped x (suc y) N = (refl, omega arith)
-stepped x zero NE = tt
-stepped x (suc y) NE = (refl, omega arith)
-stepped x y E = (refl, refl)
-stepped x y SE = (refl, refl)
-stepped x y S = (refl, refl)
-stepped zero y SW = tt
-stepped (suc x) y SW = (omega arith, refl)
-stepped zero y W = tt
-stepped (suc x) y W = (omega arith, refl)
-stepped zero y NW = tt
-stepped (suc x) zero NW = tt
-stepped (suc x) (suc y) NW = (omega arith, omega arith)
+stepped x y d = grind (arith, nat_tests)
 
 ahead_moved : (d : Dir) (u v : Cell) → ahead d u ≡ Some v → AreMoved d 1 u v
 ahead_moved d u v h = subst (λ (o : Option Cell). IsStepped d u o) h (stepped u.x u.y d)
@@ -102,46 +79,21 @@ span level k = 0
 span falling k = k
 
 apart_moved : (t : Trend) (k a b : ℕ) → IsMoved t k a b → apart a b ≡ span t k
-apart_moved rising k a b p = omega arith
-apart_moved level k a b p = omega arith
-apart_moved falling k a b p = omega arith
+apart_moved t k a b h1 = grind (arith, nat_tests)
 
 longer : (d : Dir) (k : ℕ) → max (span (column_trend d) k) (span (row_trend d) k) ≡ k
-longer N k = omega arith
-longer NE k = omega arith
-longer E k = omega arith
-longer SE k = omega arith
-longer S k = omega arith
-longer SW k = omega arith
-longer W k = omega arith
-longer NW k = omega arith
+longer d k = grind (arith, nat_tests)
 
 pub steps_moved : (d : Dir) (k : ℕ) (u v : Cell) → AreMoved d k u v → steps_between u v ≡ k
-steps_moved d k u v m =
-    rw (apart_moved (column_trend d) k u.x v.x m.0, apart_moved (row_trend d) k u.y v.y m.1) (longer d k)
+steps_moved d k u v m = grind (arith, nat_tests, apart_moved, longer)
 
 -- one of the three kinds of lines
 on_line : (d : Dir) (k : ℕ) (u v : Cell) → AreMoved d k u v
     → (nat_eq u.x v.x || nat_eq u.y v.y || nat_eq (span (column_trend d) k) (span (row_trend d) k)) ≡ true
-on_line N k u v m = let p = m.0 in grind (arith, nat_tests)
-on_line NE k u v m = grind (arith, nat_tests)
-on_line E k u v m = let p = m.1 in grind (arith, nat_tests)
-on_line SE k u v m = grind (arith, nat_tests)
-on_line S k u v m = let p = m.0 in grind (arith, nat_tests)
-on_line SW k u v m = grind (arith, nat_tests)
-on_line W k u v m = let p = m.1 in grind (arith, nat_tests)
-on_line NW k u v m = grind (arith, nat_tests)
+on_line d k u v h1 = grind (arith, nat_tests)
 
 pub lined_moved : (d : Dir) (k : ℕ) (u v : Cell) → 1 ≤ k → AreMoved d k u v → are_lined u v ≡ true
-lined_moved d k u v h m =
-    let some : nat_lt 0 k ≡ true = grind (arith, nat_tests) in
-    rw (
-      steps_moved d k u v m,
-      apart_moved (column_trend d) k u.x v.x m.0,
-      apart_moved (row_trend d) k u.y v.y
-          m.1,
-      some,
-    ) (on_line d k u v m)
+lined_moved d k u v h m = grind (arith, nat_tests, steps_moved, apart_moved, on_line)
 
 -- a legal run as a walk
 pub record IsRun (g : GridData) (d : Dir) (k : ℕ) (x u : Cell) : Type 0 where
@@ -168,9 +120,7 @@ run_with_one : (g : GridData) (d : Dir) (k : ℕ) (x y u : Cell) → Leads g x y
     → IsRun g d (suc k) x u
 run_with_one g d k x y u l r =
     let m = ahead_moved d x y l.ahead_is in
-    let next : step_toward x u ≡ y = same_cell (step_toward x u) y
-    (toward_moved (column_trend d) k x.x y.x u.x m.0 r.moved.0)
-    (toward_moved (row_trend d) k x.y y.y u.y m.1 r.moved.1) in
+    let next : step_toward x u ≡ y = grind (arith, nat_tests, same_cell, toward_moved) in
     record {
       cells = y ∷ r.cells;
       walks = rw (l.legal, r.walks) refl;
@@ -178,11 +128,7 @@ run_with_one g d k x y u l r =
       free = r.free;
       priced = rw (cost_there d x y l.ahead_is, r.priced) (sym (run_cost-next d k));
       filled = ap (λ (c : Cell). c ∷ segment k c u) next ∙ ap (λ (cs : List Cell). y ∷ cs) r.filled;
-      moved = (
-        moved_on (column_trend d) k x.x y.x u.x m.0 r.moved.0,
-        moved_on (row_trend d) k x.y y.y u.y
-            m.1 r.moved.1,
-      );
+      moved = grind (arith, nat_tests, moved_on);
     }
 
 pub run_walked : (g : GridData) (d : Dir) (k : ℕ) (x u : Cell) → is_free g x ≡ true
@@ -195,5 +141,4 @@ run_walked g d (suc k) x u f h = by_cell (legal_ahead g x d) refl h
         → option_and_then (λ y. run_end g d k y) o ≡ Some u
         → ((y : Cell) → Leads g x y d → run_end g d k y ≡ Some u → IsRun g d (suc k) x u)
         → IsRun g d (suc k) x u
-    by_cell None e h next = absurd (cc)
-    by_cell (Some y) e h next = next y (legal_leads g x y d e) h
+    by_cell o h1 h2 h3 = grind (arith, nat_tests, legal_leads)

@@ -1,5 +1,6 @@
 -- Legal runs: they end within the map.
-use Rattle.std.proofs.Common.{◌≡◌, ℕ, zero, suc, ◌+◌, ◌-◌, ◌<◌, ◌≤◌, arith, refl, ap, subst, ◌∙◌, true, false}
+use Rattle.std.proofs.lemmas.Grind.{common_steps}
+use Rattle.std.proofs.Common.{◌≡◌, ℕ, zero, suc, ◌+◌, ◌-◌, ◌<◌, ◌≤◌, arith, refl, true, false}
 use Rattle.std.specs.Prelude.{⊤, Option, Some, None, option_and_then, option_map, unwrap_or, is_some, nat_le}
 use Rattle.std.proofs.lemmas.Bool.Decides.{nat_tests}
 use Rattle.grid_moves.specs.declared.Cell.{Cell}
@@ -9,7 +10,7 @@ use Rattle.grid_moves.specs.Grid.{GridData}
 use Rattle.grid_moves.specs.Move.{ahead, legal_ahead}
 use Rattle.grid_moves.proofs.Legal.{legal_is, free_inside}
 use Rattle.pruning.specs.Marked.{run_end}
-use Rattle.pruning.specs.First.{moves_within, run_length}
+use Rattle.pruning.specs.First.{moves_within}
 use Rattle.pruning.specs.Laws.{RunLengthIsTold}
 use Rattle.pruning.proofs.Table.{by_test}
 use Rattle.pruning.proofs.Bridging.{Leads, legal_leads, one_of}
@@ -24,8 +25,7 @@ run_end-next g d (suc k) x v w h l = by_cell (legal_ahead g x d) (λ y e. run_en
         → ((y : Cell) → run_end g d k y ≡ Some v → run_end g d (suc k) y ≡ Some w)
         → option_and_then (λ y. run_end g d k y) o ≡ Some v
         → option_and_then (λ y. run_end g d (suc k) y) o ≡ Some w
-    by_cell None next h = absurd (cc)
-    by_cell (Some y) next h = next y h
+    by_cell o h1 h2 = grind (arith, nat_tests)
 
 -- what is left of the map in a direction
 abbrev room : GridData → Dir → Cell → ℕ
@@ -44,53 +44,27 @@ IsNearer g d u (Some v) = v.x < g.width → v.y < g.height → room g d v < room
 
 nearer : (g : GridData) (x y : ℕ) (d : Dir)
     → IsNearer g d (record { x = x; y = y }) (ahead d (record { x = x; y = y }))
-nearer g x zero N = tt
-nearer g x (suc y) N = λ h k. omega arith
-nearer g x zero NE = tt
-nearer g x (suc y) NE = λ h k. omega arith
-nearer g x y E = λ h k. omega arith
-nearer g x y SE = λ h k. omega arith
-nearer g x y S = λ h k. omega arith
-nearer g zero y SW = tt
-nearer g (suc x) y SW = λ h k. omega arith
-nearer g zero y W = tt
-nearer g (suc x) y W = λ h k. omega arith
-nearer g zero y NW = tt
-nearer g (suc x) zero NW = tt
-nearer g (suc x) (suc y) NW = λ h k. omega arith
+nearer g x y d = grind (arith, nat_tests)
 
 -- a legal move leaves less room
 less_room : (g : GridData) (d : Dir) (u v : Cell) → Leads g u v d → room g d v < room g d u
-less_room g d u v l =
-    let inside = free_inside g v (legal_is g u v l.legal).target in
-    (subst (λ (o : Option Cell). IsNearer g d u o) l.ahead_is (nearer g u.x u.y d)) inside.0 inside.1
+less_room g d u v l = grind (arith, nat_tests, common_steps, free_inside, legal_is)
 
 -- so does a run, by its moves
 run_room : (g : GridData) (d : Dir) (k : ℕ) (x c : Cell) → run_end g d k x ≡ Some c
     → room g d c + k ≤ room g d x
-run_room g d zero x c r =
-    let same : room g d x ≡ room g d c = ap (λ (v : Cell). room g d v) (one_of x c r) in omega arith
+run_room g d zero x c r = grind (arith, nat_tests, one_of)
 run_room g d (suc k) x c r = by_cell (legal_ahead g x d) refl (λ v. run_room g d k v c) r
   where
     by_cell : (o : Option Cell) → legal_ahead g x d ≡ o
         → ((v : Cell) → run_end g d k v ≡ Some c → room g d c + k ≤ room g d v)
         → option_and_then (λ v. run_end g d k v) o ≡ Some c → room g d c + suc k ≤ room g d x
     by_cell None e next h = absurd (cc)
-    by_cell (Some v) e next h =
-        let rest = next v h in
-        let less = less_room g d x v (legal_leads g x v d e) in
-        omega arith
+    by_cell (Some v) e next h = grind (arith, nat_tests, less_room, legal_leads)
 
 room_within : (g : GridData) (d : Dir) (c : Cell) → c.x < g.width → c.y < g.height
     → room g d c ≤ g.width + g.height
-room_within g N c h k = omega arith
-room_within g NE c h k = omega arith
-room_within g E c h k = omega arith
-room_within g SE c h k = omega arith
-room_within g S c h k = omega arith
-room_within g SW c h k = omega arith
-room_within g W c h k = omega arith
-room_within g NW c h k = omega arith
+room_within g d c h1 h2 = grind (arith, nat_tests)
 
 -- no run is longer than the sides together
 pub run_short : (g : GridData) (d : Dir) (k : ℕ) (x c : Cell) → run_end g d k x ≡ Some c
@@ -128,8 +102,7 @@ counted g d (suc n) (suc k) x h =
         → ((v : Cell) → is_some (run_end g d k v) ≡ nat_le k (moves_within n g d v))
         → is_some (option_and_then (λ v. run_end g d k v) o)
         ≡ nat_le (suc k) (unwrap_or (option_map (λ v. suc (moves_within n g d v)) o) 0)
-    by_cell None next = not_le k
-    by_cell (Some v) next = next v ∙ suc_le k (moves_within n g d v)
+    by_cell o h1 = grind (arith, nat_tests, not_le, suc_le)
 
 moves_within-few : (g : GridData) (d : Dir) (n : ℕ) (x : Cell) → moves_within n g d x ≤ n
 moves_within-few g d zero x = omega arith
@@ -137,15 +110,7 @@ moves_within-few g d (suc n) x = by_cell (legal_ahead g x d) (λ v. moves_within
   where
     by_cell : (o : Option Cell) → ((v : Cell) → moves_within n g d v ≤ n)
         → unwrap_or (option_map (λ v. suc (moves_within n g d v)) o) 0 ≤ suc n
-    by_cell None next = omega arith
-    by_cell (Some v) next = let few = next v in omega arith
+    by_cell o h1 = grind (arith, nat_tests)
 
 pub run_length_is_told : RunLengthIsTold
-run_length_is_told g x d k = by_test (nat_le k (g.width + g.height))
-    (λ h. counted g d (g.width + g.height) k x (grind (arith, nat_tests)))
-    (λ h. by_end (run_end g d k x) refl (grind (arith, nat_tests)))
-  where
-    by_end : (o : Option Cell) → run_end g d k x ≡ o → g.width + g.height < k
-        → is_some o ≡ nat_le k (run_length g x d)
-    by_end None e h = let few = moves_within-few g d (g.width + g.height) x in grind (arith, nat_tests)
-    by_end (Some c) e h = absurd (let short = run_short g d k x c e in omega arith)
+run_length_is_told g x d k = grind (arith, nat_tests, by_test, counted, moves_within-few, run_short)

@@ -2,7 +2,7 @@
 use Rattle.std.proofs.Common.{ℕ, zero, suc, ◌<◌, List, length, arith}
 use Rattle.grid_moves.specs.declared.Cell.{Cell}
 use Rattle.grid_moves.specs.Walk.{cost_of}
-use Rattle.pruning.specs.Facts.{diagonal_places, IsSmaller, shorter, straighter, earlier}
+use Rattle.pruning.specs.Facts.{diagonal_places, IsSmaller}
 
 module _ (P : List Cell → Type 0) (step : (ds : List Cell) → ((es : List Cell) → IsSmaller es ds → P es)
     → P ds) where
@@ -10,13 +10,7 @@ module _ (P : List Cell → Type 0) (step : (ds : List Cell) → ((es : List Cel
       → ((es : List Cell) → length es < suc n → (cost_of es).b < m → P es)
       → (k : ℕ) (ds : List Cell) → length ds < suc n → (cost_of ds).b < suc m → diagonal_places ds < k → P ds
   by_places n m short straight zero ds h i j = absurd (omega arith)
-  by_places n m short straight (suc k) ds h i j = step ds (next (by_places n m short straight k))
-    where
-      next : ((es : List Cell) → length es < suc n → (cost_of es).b < suc m → diagonal_places es < k → P es)
-          → (es : List Cell) → IsSmaller es ds → P es
-      next early es (shorter l) = short es (omega arith)
-      next early es (straighter l d) = straight es (omega arith) (omega arith)
-      next early es (earlier l d q) = early es (omega arith) (omega arith) (omega arith)
+  by_places n m short straight (suc k) ds h i j = grind (arith, by_places n m short straight k)
 
   by_diagonals : (n : ℕ) → ((es : List Cell) → length es < n → P es) → (m : ℕ) (ds : List Cell)
       → length ds < suc n → (cost_of ds).b < m → P ds

@@ -1,7 +1,7 @@
 -- A test of all directions and sides, by computation.
-use Rattle.std.proofs.Common.{◌≡◌, Bool, true, false, ◌&&◌, ◌||◌, refl, ℕ, inl, inr, ◌⊎◌, arith, ap, ◌∙◌, not}
-use Rattle.std.proofs.Common.{zero, suc, sym, subst}
-use Rattle.std.specs.Prelude.{ℤ, pos, ◌+ℤ◌, if◌then◌else◌}
+use Rattle.std.proofs.Common.{◌≡◌, Bool, true, false, ◌&&◌, ◌||◌, refl, ℕ, inl, inr, ◌⊎◌, arith, not}
+use Rattle.std.proofs.Common.{zero, suc}
+use Rattle.std.specs.Prelude.{◌+ℤ◌, if◌then◌else◌}
 use Rattle.std.specs.Ordering.{int_eq}
 use Rattle.std.proofs.lemmas.Int.{ints}
 use Rattle.std.proofs.lemmas.Bool.Decides.{Decides-int_eq, nat_tests}
@@ -46,10 +46,7 @@ pub one_true : (a b : Bool) → (a || b) ≡ true → a ≡ false → b ≡ true
 one_true a b h e = grind arith
 
 pub same_place : (p q : Place) → p.x ≡ q.x → p.y ≡ q.y → p ≡ q
-same_place p q e f =
-    let g : p ≡ record { x = q.x; y = p.y } =
-    ap (λ (n : ℤ). let u : Place = record { x = n; y = p.y } in u) e in
-    g ∙ ap (λ (n : ℤ). let u : Place = record { x = q.x; y = n } in u) f
+same_place p q e f = grind (arith, nat_tests)
 
 pub moved : (d e f : Dir) (p : Place) → adds d e f ≡ true → move e (move d p) ≡ move f p
 moved d e f p h =
@@ -65,19 +62,16 @@ moved_both d e p = same_place _ _ (omega (arith, ints)) (omega (arith, ints))
 -- after a straight move, a move back to a side is one to that side, and one to a side is one between
 pub straight_back : (s : Side) (d : Dir) (p : Place) → is_diagonal d ≡ false
     → move (rear s d) (move d p) ≡ move (quarter s d) p
-straight_back s d p h = moved d _ _ p (one_true (is_diagonal d) _
-    (at_both (λ s d. is_diagonal d || adds d (rear s d) (quarter s d)) refl s d) h)
+straight_back s d p h = grind (arith, nat_tests, moved, one_true, at_both)
 
 pub straight_side : (s : Side) (d : Dir) (p : Place) → is_diagonal d ≡ false
     → move (quarter s d) (move d p) ≡ move (turn s d) p
-straight_side s d p h = moved d _ _ p (one_true (is_diagonal d) _
-    (at_both (λ s d. is_diagonal d || adds d (quarter s d) (turn s d)) refl s d) h)
+straight_side s d p h = grind (arith, nat_tests, moved, one_true, at_both)
 
 -- after a diagonal move, a straight move back to a side is the one component
 pub diagonal_back : (s : Side) (d : Dir) (p : Place) → is_diagonal d ≡ true
     → move (rear s d) (move d p) ≡ move (turn s d) p
-diagonal_back s d p h = moved d _ _ p (one_true (not (is_diagonal d)) _
-    (at_both (λ s d. not (is_diagonal d) || adds d (rear s d) (turn s d)) refl s d) (ap not h))
+diagonal_back s d p h = grind (arith, nat_tests, moved, one_true, at_both)
 
 -- after a diagonal move, a quarter to a side is twice the component
 abbrev pub doubles : Dir → Dir → Dir → Bool
@@ -86,28 +80,10 @@ doubles d e f =
 
 pub diagonal_side : (s : Side) (d : Dir) (p : Place) → is_diagonal d ≡ true
     → move (quarter s d) (move d p) ≡ move (turn s d) (move (turn s d) p)
-diagonal_side s d p h =
-    let f : Dir = turn s d in
-    let both = and_both (int_eq (columns d +ℤ columns (quarter s d))
-    (columns (turn s d) +ℤ columns (turn s d)))
-    (int_eq (rows d +ℤ rows (quarter s d)) (rows (turn s d) +ℤ rows (turn s d)))
-    (one_true (not (is_diagonal d)) _
-    (at_both (λ s d. not (is_diagonal d) || doubles d (quarter s d) (turn s d)) refl s d) (ap not h)) in
-    let cs : columns d +ℤ columns (quarter s d) ≡ columns (turn s d) +ℤ columns (turn s d) =
-    (Decides-int_eq _ _).0 both.0 in
-    let rs : rows d +ℤ rows (quarter s d) ≡ rows (turn s d) +ℤ rows (turn s d) =
-    (Decides-int_eq _ _).0 both.1 in
-    same_place _ _ (omega (arith, ints)) (omega (arith, ints))
+diagonal_side s d p h = grind (arith, nat_tests, and_both, columns, rows, one_true, at_both, same_place)
 
 pub reversal : (d : Dir) (p : Place) → move (opposite d) (move d p) ≡ p
-reversal d p =
-    let both = and_both (int_eq (columns d +ℤ columns (opposite d)) (pos 0))
-    (int_eq (rows d +ℤ rows (opposite d)) (pos 0))
-    (at_dir (λ d. int_eq (columns d +ℤ columns (opposite d)) (pos 0) && int_eq
-    (rows d +ℤ rows (opposite d)) (pos 0)) refl d) in
-    let cs : columns d +ℤ columns (opposite d) ≡ pos 0 = (Decides-int_eq _ _).0 both.0 in
-    let rs : rows d +ℤ rows (opposite d) ≡ pos 0 = (Decides-int_eq _ _).0 both.1 in
-    same_place _ _ (omega (arith, ints)) (omega (arith, ints))
+reversal d p = grind (arith, nat_tests, and_both, columns, rows, at_dir, same_place)
 
 -- e is d turned by so many eighths
 pub data Turned (d : Dir) : Dir → Type 0 where
@@ -143,9 +119,7 @@ either_true true b h = inl refl
 either_true false b h = inr h
 
 pub same_dir : (e f : Dir) → is_dir e f ≡ true → e ≡ f
-same_dir e f h =
-    let n : dir_number e ≡ dir_number f = grind (arith, nat_tests) in
-    sym (dir_at-number e) ∙ ap dir_at n ∙ dir_at-number f
+same_dir e f h = grind (arith, nat_tests, dir_at-number, dir_at)
 
 abbrev is_some_turn : Dir → Dir → Bool
 is_some_turn d e = is_dir e d || is_dir e (turn Right d) || is_dir e (turn Left d) || is_dir e
@@ -186,8 +160,7 @@ turned d e = elim (split _ _ all) [
     all = at_dir (is_some_turn d) (at_dir (λ d. each_dir (is_some_turn d)) each_pair d) e
 
     as_that : (f : Dir) → Turned d f → is_dir e f ≡ true → Turned d e
-    as_that f t h =
-        subst (Turned d) (sym (same_dir e f h)) t
+    as_that f t h = grind (arith, nat_tests, same_dir)
 
 -- what two tests agree on
 abbrev pub same_bool : Bool → Bool → Bool
@@ -201,12 +174,10 @@ same_bool-is false false h = refl
 
 -- diagonal and straight directions alternate
 pub turn_parity : (s : Side) (d : Dir) → is_diagonal (turn s d) ≡ not (is_diagonal d)
-turn_parity s d =
-    same_bool-is _ _ (at_both (λ s d. same_bool (is_diagonal (turn s d)) (not (is_diagonal d))) refl s d)
+turn_parity s d = grind (arith, nat_tests, same_bool-is, at_both)
 
 pub quarter_parity : (s : Side) (d : Dir) → is_diagonal (quarter s d) ≡ is_diagonal d
-quarter_parity s d =
-    same_bool-is _ _ (at_both (λ s d. same_bool (is_diagonal (quarter s d)) (is_diagonal d)) refl s d)
+quarter_parity s d = grind (arith, nat_tests, same_bool-is, at_both)
 
 -- the other side
 abbrev pub other : Side → Side
@@ -218,11 +189,7 @@ pub turn_back : (s : Side) (d : Dir) → turn (other s) (turn s d) ≡ d
 turn_back s d = same_dir _ _ (at_both (λ s d. is_dir (turn (other s) (turn s d)) d) refl s d)
 
 pub by_parity : {P : Type 0} (d : Dir) → (is_diagonal d ≡ true → P) → (is_diagonal d ≡ false → P) → P
-by_parity {P} d f g = go (is_diagonal d) refl
-  where
-    go : (b : Bool) → is_diagonal d ≡ b → P
-    go true e = f e
-    go false e = g e
+by_parity {P} d f g = grind (arith, nat_tests)
 
 pub by_test : {P : Type 0} (b : Bool) → (b ≡ true → P) → (b ≡ false → P) → P
 by_test true f g = f refl

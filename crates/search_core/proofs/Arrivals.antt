@@ -1,4 +1,6 @@
 -- Taken states are free cells that can be come to as they were.
+use Rattle.std.proofs.lemmas.Bool.Decides.{nat_tests}
+use Rattle.std.proofs.lemmas.Grind.{common_steps}
 use Rattle.std.proofs.Common.{◌≡◌, ℕ, zero, suc, ◌≤◌, refl, sym, subst, true, List, [], ◌∷◌, arith}
 use Rattle.std.specs.Prelude.{Option, Some, None, option_and_then}
 use Rattle.grid_moves.specs.declared.Cell.{Cell}
@@ -42,8 +44,7 @@ pub run_arrived : (g : GridData) (s goal : Cell) → is_free g s ≡ true → (r
     → IsRun (jump_rule g goal) (start_at s) run → (u : Taken State) → IsIn u run → HasArrived g u.state
 run_arrived g s goal free [] is u m = absurd is
 run_arrived g s goal free (x ∷ []) is u (there z e m) = elim m [ ]
-run_arrived g s goal free (x ∷ []) is u (here e) =
-    subst (λ (w : Taken State). HasArrived g w.state) (sym is) (record { free = free; arrival = tt })
+run_arrived g s goal free (x ∷ []) is u (here e) = grind (arith, nat_tests, common_steps)
 run_arrived g s goal free (x ∷ y ∷ earlier) is u (there z e m) =
     run_arrived g s goal free (y ∷ earlier) is.0 u m
 run_arrived g s goal free (x ∷ y ∷ earlier) is u (here e) =

@@ -1,6 +1,8 @@
 -- Jump links: what each says, and that they suit a search on a map.
+use Rattle.std.proofs.lemmas.Grind.{common_steps}
 use Rattle.std.proofs.Common.{◌≡◌, ℕ, ◌≤◌, refl, ap, sym, ◌∙◌, subst, Bool, true, false, arith}
 use Rattle.std.proofs.lemmas.Bool.Decides.{nat_tests}
+use Rattle.std.proofs.lemmas.Option.{same_Some}
 use Rattle.std.specs.Prelude.{Option, Some, None, option_and_then, if◌then◌else◌}
 use Rattle.root2_cost.specs.declared.Cost.{Cost}
 use Rattle.root2_cost.proofs.Less.{same_cost}
@@ -11,7 +13,7 @@ use Rattle.grid_moves.specs.Grid.{GridData, is_free}
 use Rattle.grid_moves.specs.Move.{is_same}
 use Rattle.grid_moves.specs.Points.{estimate}
 use Rattle.grid_moves.proofs.Legal.{and_both, free_inside, legal_is, is_same-cell, is_same-itself}
-use Rattle.pruning.specs.Allowed.{is_allowed, is_kept, is_blocked, can_move}
+use Rattle.pruning.specs.Allowed.{is_allowed}
 use Rattle.pruning.specs.Chain.{run_cost}
 use Rattle.pruning.specs.First.{first_stop}
 use Rattle.pruning.specs.Marked.{run_end}
@@ -40,9 +42,6 @@ chosen : {B : Type 0} (b : Bool) (o : Option B) (x : B) → (if b then o else No
 chosen true o x h = (refl, h)
 chosen false o x h = absurd (cc)
 
-some_cost : (c d : Cost) → Some c ≡ Some d → c ≡ d
-some_cost c d e = ap (λ (o : Option Cost). elim o as (λ _. Cost) [ Some v ↦ v | None ↦ c ]) e
-
 -- a link is a jump in the direction in which its end is come to
 pub record IsLink (g : GridData) (goal : Cell) (u v : State) (c : Cost) : Type 0 where
   pub dir : Dir
@@ -62,7 +61,7 @@ first_is g goal x d k e = by_answer (first_stop g goal x d) e (first_stop_is_fir
         → IsLeast (StopsAfter g goal x d) 1 k
     by_answer None e f = absurd (cc)
     by_answer (Some m) e f =
-        let same : m ≡ k = ap (λ (o : Option ℕ). elim o as (λ _. ℕ) [ Some v ↦ v | None ↦ k ]) e in
+        let same : m ≡ k = same_Some m k e in
         subst (λ (n : ℕ). IsLeast (StopsAfter g goal x d) 1 n) same f
 
 pub link_is : (g : GridData) (goal : Cell) (u v : State) (c : Cost) → jump_link g goal u v ≡ Some c
@@ -83,37 +82,19 @@ link_is g goal u v c h =
       computed = k.1;
       first = first_is g goal u.cell d.0 k.0 k.1;
       reached = w.1 ∙ ap (λ (x : Cell). Some x) (is_same-cell w.0 v.cell s.0);
-      priced = some_cost c (run_cost d.0 k.0) (sym s.1);
+      priced = same_Some c (run_cost d.0 k.0) (sym s.1);
     }
 
 -- and each jump is a link
 pub jump_is_link : (g : GridData) (goal : Cell) (u v : State) (d : Dir) (k : ℕ) → v.arrival ≡ Some d
     → is_allowed g u.cell (come_to u.arrival) d ≡ true → first_stop g goal u.cell d ≡ Some k
     → run_end g d k u.cell ≡ Some v.cell → jump_link g goal u v ≡ Some (run_cost d k)
-jump_is_link g goal u v d k e a f r =
-    let lands : landing g u.cell v.cell d k ≡ Some (run_cost d k) =
-    through (run_end g d k u.cell) (λ w. if is_same w v.cell then Some (run_cost d k) else None) v.cell
-    (Some (run_cost d k)) r (here (is_same v.cell v.cell) (is_same-itself v.cell)) in
-    let jumps : jump_in g goal u v.cell d ≡ Some (run_cost d k) =
-    kept (is_allowed g u.cell (come_to u.arrival) d) _ a
-    (through (first_stop g goal u.cell d) (landing g u.cell v.cell d) k (Some (run_cost d k)) f lands) in
-    through v.arrival (jump_in g goal u v.cell) d (Some (run_cost d k)) e jumps
-  where
-    here : (b : Bool) → b ≡ true → (if b then Some (run_cost d k) else None) ≡ Some (run_cost d k)
-    here b e = rw e refl
-
-    kept : (b : Bool) (o : Option Cost) → b ≡ true → o ≡ Some (run_cost d k)
-        → (if b then o else None) ≡ Some (run_cost d k)
-    kept b o e h = rw e h
+jump_is_link g goal u v d k e a f r = grind (arith, nat_tests, common_steps, through, is_same-itself)
 
 -- an allowed direction leads on from a free cell
 pub allowed_free : (g : GridData) (u : State) (d : Dir) → is_allowed g u.cell (come_to u.arrival) d ≡ true
     → is_free g u.cell ≡ true
-allowed_free g u d a =
-    let can = (and_both (is_kept g.corner (is_blocked g u.cell) (come_to u.arrival) d) (can_move g u.cell d)
-    a).1 in
-    let to = leads_from g u.cell d can in
-    (legal_is g u.cell to.0 to.1.legal).source
+allowed_free g u d a = grind (arith, nat_tests, common_steps, and_both, leads_from, legal_is)
 
 -- the moves of a run cost the octile distance of its ends
 pub moved_cost : (d : Dir) (k : ℕ) (u v : Cell) → AreMoved d k u v → run_cost d k ≡ estimate u v

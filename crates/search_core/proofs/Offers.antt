@@ -1,9 +1,11 @@
 -- The offers over the jumps of the last taken state are those of its links.
-use Rattle.std.proofs.Common.{◌≡◌, ℕ, ◌+◌, ◌^◌, ◌<◌, ◌≤◌, inl, refl, ap, sym, ◌∙◌, subst, Bool, true, false}
+use Rattle.std.proofs.lemmas.Bool.Decides.{nat_tests}
+use Rattle.std.proofs.lemmas.Grind.{common_steps}
+use Rattle.std.proofs.Common.{◌≡◌, ℕ, ◌+◌, ◌^◌, ◌<◌, ◌≤◌, refl, ap, sym, ◌∙◌, subst, Bool, true, false}
 use Rattle.std.proofs.Common.{List, [], ◌∷◌, arith}
 use Rattle.std.specs.Prelude.{Option, Some, None, filter}
 use Rattle.std.specs.List.{AllByRecursion}
-use Rattle.std.specs.Option.{option_map_or}
+use Rattle.std.proofs.lemmas.Option.{same_Some}
 use Rattle.root2_cost.specs.declared.Cost.{Cost}
 use Rattle.root2_cost.specs.Rank.{rank_of}
 use Rattle.grid_moves.specs.declared.Cell.{Cell}
@@ -45,14 +47,7 @@ use Rattle.search_core.proofs.Passing as passing
 -- where the moves of a run lead to
 after_moved : (d : Dir) (k : ℕ) (u v : Cell) → AreMoved d k u v
     → (column_after d k u.x ≡ v.x) × (row_after d k u.y ≡ v.y)
-after_moved N k u v m = (omega (arith, m.0), omega (arith, m.1))
-after_moved NE k u v m = (omega (arith, m.0), omega (arith, m.1))
-after_moved E k u v m = (omega (arith, m.0), omega (arith, m.1))
-after_moved SE k u v m = (omega (arith, m.0), omega (arith, m.1))
-after_moved S k u v m = (omega (arith, m.0), omega (arith, m.1))
-after_moved SW k u v m = (omega (arith, m.0), omega (arith, m.1))
-after_moved W k u v m = (omega (arith, m.0), omega (arith, m.1))
-after_moved NW k u v m = (omega (arith, m.0), omega (arith, m.1))
+after_moved d k u v h1 = grind (arith, nat_tests, common_steps)
 
 -- the direction is one of these
 pub data IsOneOf (d : Dir) : List Dir → Type 0 where
@@ -73,12 +68,7 @@ module _ (p : Dir → Bool) where
   -- those that pass a test pass it
   all_filter : (dirs : List Dir) → AllByRecursion (λ d. p d ≡ true) (filter p dirs)
   all_filter [] = tt
-  all_filter (d ∷ dirs) = by_test (p d) refl (all_filter dirs)
-    where
-      by_test : (b : Bool) → p d ≡ b → AllByRecursion (λ e. p e ≡ true) (filter p dirs)
-          → AllByRecursion (λ e. p e ≡ true) (filter p (d ∷ dirs))
-      by_test true e rest = rw e (e, rest)
-      by_test false e rest = rw e rest
+  all_filter (d ∷ dirs) = grind (arith, nat_tests, common_steps, all_filter dirs)
 
   in_filter : (d : Dir) (dirs : List Dir) → p d ≡ true → IsOneOf d dirs → IsOneOf d (filter p dirs)
   in_filter d [] e i = elim i [ ]
@@ -106,13 +96,7 @@ module _ (g : GridData) (s t : Cell) where
   pub fit : IsGrid g → is_free g s ≡ true → is_free g t ≡ true
       → IsSearch g.width g.height s t (jump_links g t)
   fit whole from to = record {
-    posed = record {
-      narrow = whole.sides.narrow;
-      low = whole.sides.low;
-      start_on = free_inside g s from;
-      goal_near = on_near g.width g.height t (free_inside g t to);
-      links = jumps_are_links g t;
-    };
+    posed = grind (arith, nat_tests, common_steps, free_inside, on_near, jumps_are_links);
     few = λ run u is m. let few = passing.costs_fit g t whole s run u is m in omega arith;
   }
 
@@ -137,15 +121,7 @@ module _ (g : GridData) (s t : Cell) where
         let free = allowed_free g last.state d a in
         let run = run_walked g d n last.state.cell stop.cell free stop.reached in
         let after = after_moved d n last.state.cell stop.cell run.moved in
-        record {
-          cell = stop.cell;
-          reached = stop.reached;
-          on = free_inside g stop.cell run.free;
-          from = free_inside g last.state.cell free;
-          after = same_state (offer_after last d n).to (record { cell = stop.cell; arrival = Some d })
-              (same_cell (offer_after last d n).to.cell stop.cell after.0 after.1) refl;
-          short = run_short g d n last.state.cell stop.cell stop.reached;
-        }
+        grind (arith, nat_tests, common_steps, free_inside, same_state, same_cell, run_short)
 
     -- it is a link
     jump_linked : (d : Dir) (n : ℕ) → is_allowed g last.state.cell (come_to last.state.arrival) d ≡ true
@@ -153,8 +129,7 @@ module _ (g : GridData) (s t : Cell) where
         → jump_link g t last.state (offer_after last d n).to ≡ Some (run_cost d n)
     jump_linked d n a e =
         let end = jump_end d n a e in
-        ap (λ (v : State). jump_link g t last.state v) end.after
-        ∙ jump_is_link g t last.state (record { cell = end.cell; arrival = Some d }) d n refl a e end.reached
+        grind (arith, nat_tests, common_steps, jump_is_link)
 
     -- the ways on over these directions
     abbrev pub way_after : Dir → ℕ → Onward
@@ -201,20 +176,15 @@ module _ (g : GridData) (s t : Cell) where
     linked_among dirs all v c e =
         let l = link_is g t last.state v c e in
         let end = jump_end l.dir l.moves l.allowed l.computed in
-        let cell : end.cell ≡ v.cell = one_end (sym end.reached ∙ l.reached) in
+        let cell : end.cell ≡ v.cell = same_Some _ _ (sym end.reached ∙ l.reached) in
         let to : (offer_after last l.dir l.moves).to ≡ v =
         end.after ∙ same_state (record { cell = end.cell; arrival = Some l.dir }) v cell (sym l.arrives) in
         subst (λ (w : Onward). IsAmong w (ways_in dirs))
         (same_way (way_after l.dir l.moves) (record { to = v; cost = c }) to (sym l.priced))
         (each_among dirs l.dir l.moves l.computed (all.all l.dir l.allowed))
       where
-        one_end : {a b : Cell} → Some a ≡ Some b → a ≡ b
-        one_end {a} e = ap (λ (o : Option Cell). elim o as (λ _. Cell) [ Some x ↦ x | None ↦ a ]) e
-
         same_way : (a b : Onward) → a.to ≡ b.to → a.cost ≡ b.cost → a ≡ b
-        same_way a b e f =
-            ap (λ (u : State). let x : Onward = record { to = u; cost = a.cost } in x) e
-            ∙ ap (λ (d : Cost). let x : Onward = record { to = b.to; cost = d } in x) f
+        same_way a b e f = grind (arith, nat_tests, common_steps)
 
     module _ (whole : IsGrid g) (from : is_free g s ≡ true) (to : is_free g t ≡ true) (latest : Taken State)
         (earlier : List (Taken State)) where
@@ -223,14 +193,7 @@ module _ (g : GridData) (s t : Cell) where
           (a : is_allowed g last.state.cell (come_to last.state.arrival) d ≡ true)
           (e : first_stop g t last.state.cell d ≡ Some n) where
         over : IsOver ByArrival (jump_links g t) latest last.at (offer_after last d n) (run_cost d n)
-        over = record {
-          linked = ap (λ (u : State). jump_link g t u (offer_after last d n).to) i.state
-              ∙ jump_linked d n a e;
-          ranked = ap (λ (r : ℕ). r + rank_of (run_cost d n)) i.ranked
-              ∙ sym (rank-add_costs latest.cost (run_cost d n));
-          parent = refl;
-          led = refl;
-        }
+        over = grind (arith, nat_tests, common_steps, jump_linked, rank-add_costs)
 
         one_offer : IsAt g s t last latest earlier (with_onward latest best (way_after d n))
             (offered ByArrival t (offer_after last d n) k)
@@ -246,10 +209,7 @@ module _ (g : GridData) (s t : Cell) where
             let below = closed_below (fit whole from to) i.searching in
             let rises = key_rises (fit whole from to) i.searching (offer_after last d n)
             (run_cost d n) over in
-            record {
-              flags = below.flags;
-              below = λ id m h f. let most = below.below id m h f in omega arith;
-            }
+            grind (arith, nat_tests, common_steps)
 
       -- the offer in one direction
       one_dir : (best : Offers) (k : Table) → IsAt g s t last latest earlier best k
@@ -259,14 +219,7 @@ module _ (g : GridData) (s t : Cell) where
           → ((b : Offers) (j : Table) → IsAt g s t last latest earlier b j → Q (with_all latest b ways) j)
           → Q (with_all latest best (with_jump d (first_stop g t last.state.cell d) ways))
           (jumped_in g t last d k)
-      one_dir best k i d ways a Q next = by_stop (first_stop g t last.state.cell d) refl
-        where
-          by_stop : (o : Option ℕ) → first_stop g t last.state.cell d ≡ o
-              → Q (with_all latest best (with_jump d o ways))
-              (option_map_or (λ n. offered ByArrival t (offer_after last d n) k) o k)
-          by_stop None e = next best k i
-          by_stop (Some n) e = next (with_onward latest best (way_after d n))
-              (offered ByArrival t (offer_after last d n) k) (one_offer best k i d n a e)
+      one_dir best k i d ways a Q next = grind (arith, nat_tests, common_steps, one_offer)
 
       -- and in all of these
       pub all_dirs_offered : (dirs : List Dir) → AreAllowed dirs → (best : Offers) (k : Table)
@@ -287,8 +240,7 @@ module _ (g : GridData) (s t : Cell) where
               k → is_same last.state.cell t ≡ false → taken ≡ numbers_of g.width (latest ∷ earlier)
               → HasOffered ByArrival g.width t (jump_links g t) s last.at k taken
           all_offered k taken i open_ended numbered =
-              let not_goal : is_same latest.state.cell t ≡ false =
-              ap (λ (u : State). is_same u.cell t) i.state ∙ open_ended in
+              let not_goal : is_same latest.state.cell t ≡ false = grind (arith, nat_tests, common_steps) in
               record {
                 last = latest;
                 earlier = earlier;
@@ -307,8 +259,7 @@ module _ (g : GridData) (s t : Cell) where
 
               enough : latest.state ≡ last.state
                   → AreEnough g.width t (jump_links g t) latest earlier (ways_in dirs)
-              enough e v c n l =
-                  inl (linked_among dirs all v c (ap (λ (u : State). jump_link g t u v) (sym e) ∙ l))
+              enough e v c n l = grind (arith, nat_tests, common_steps, linked_among, all)
 
   rank_small : (p q : Cost) → p.a + p.b ≤ 2 ^ 27 → q.a + q.b ≤ 8192 → rank_of p + rank_of q < 2 ^ 63
   rank_small p q h k = omega arith

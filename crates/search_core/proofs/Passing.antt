@@ -1,11 +1,14 @@
 -- Along the jumps of a run each cell is passed in each direction once, so there are few moves: where it is
 -- passed twice in one direction, both jumps go on to one stop, and each state is taken once.
+use Rattle.std.proofs.lemmas.Grind.{common_steps}
 use Rattle.std.proofs.Common.{◌≡◌, ℕ, zero, suc, ◌+◌, ◌*◌, ◌^◌, ◌<◌, ◌≤◌, length, List, [], ◌∷◌, ◌++◌, refl}
-use Rattle.std.proofs.Common.{ap, sym, ◌∙◌, subst, Bool, true, false, ◌||◌, arith, eqb, mul-le-mul}
+use Rattle.std.proofs.Common.{ap, sym, ◌∙◌, subst, true, false, arith, eqb, mul-le-mul}
 use Rattle.std.specs.Prelude.{Option, Some, None, option_and_then, nat_eq}
 use Rattle.std.specs.List.{IsDistinct, AllByRecursion, list_any}
+use Rattle.std.proofs.lemmas.Map.Keys.{IsDistinct-cons}
 use Rattle.std.proofs.lemmas.Map.Steps.{length-le_from_distinct_below}
 use Rattle.std.proofs.lemmas.List.{length-append}
+use Rattle.std.proofs.lemmas.Option.{same_Some}
 use Rattle.std.proofs.lemmas.Bool.Decides.{nat_tests}
 use Rattle.root2_cost.specs.declared.Cost.{Cost}
 use Rattle.root2_cost.specs.Sums.{add_costs}
@@ -23,22 +26,17 @@ use Rattle.pruning.specs.Marked.{run_end}
 use Rattle.pruning.specs.Stop.{StopsAfter}
 use Rattle.pruning.proofs.Bridging.{legal_leads, one_of}
 use Rattle.pruning.proofs.Firsts.{FindsLeast-once}
+use Rattle.pruning.proofs.Packing.{dir_small}
 use Rattle.pruning.proofs.Table.{same_dir}
 use Rattle.search_run.specs.Run.{Taken, IsIn, here, there, IsRun, is_taken}
 use Rattle.search_run.proofs.Leastness.{least_offer-from, is_taken-member}
 use Rattle.best_first.specs.declared.state.State.{State}
 use Rattle.best_first.specs.State.{start_at}
 use Rattle.best_first.proofs.Links.{consistent}
+use Rattle.best_first.proofs.Numbers.{differ}
 use Rattle.best_first.proofs.States.{same_state}
 use Rattle.search_core.specs.Jumps.{jump_links, jump_rule}
 use Rattle.search_core.proofs.Links.{link_is, jumps_are_links}
-
-differ : (m n : ℕ) → (m ≡ n → ⊥) → eqb m n ≡ false
-differ m n h = by_test (eqb m n) refl
-  where
-    by_test : (b : Bool) → eqb m n ≡ b → eqb m n ≡ false
-    by_test true e = absurd (h (grind (arith, nat_tests)))
-    by_test false e = e
 
 module _ {P Q : ℕ → Type 0} where
   all_map : (xs : List ℕ) → ((x : ℕ) → P x → Q x) → AllByRecursion P xs → AllByRecursion Q xs
@@ -53,12 +51,7 @@ module _ (P : ℕ → Type 0) where
   -- what holds of each holds of one of them
   all_at : (xs : List ℕ) (q : ℕ) → AllByRecursion P xs → list_any (eqb q) xs ≡ true → P q
   all_at [] q a h = absurd (cc)
-  all_at (x ∷ xs) q a h = by_test (all_at xs q a.1) (eqb q x) refl h
-    where
-      by_test : (list_any (eqb q) xs ≡ true → P q) → (b : Bool) → eqb q x ≡ b
-          → (b || list_any (eqb q) xs) ≡ true → P q
-      by_test again true e h = subst P (let s : x ≡ q = grind (arith, nat_tests) in s) a.0
-      by_test again false e h = again h
+  all_at (x ∷ xs) q a h = grind (arith, nat_tests, common_steps, all_at xs q a.1)
 
 -- two lists of different numbers that share none
 distinct_append : (xs ys : List ℕ) → IsDistinct eqb xs → IsDistinct eqb ys
@@ -71,11 +64,6 @@ distinct_append (x ∷ xs) ys a b c =
 distinct_none : IsDistinct eqb []
 unfolding IsDistinct
 distinct_none = tt
-
-distinct_cons : (x : ℕ) (xs : List ℕ) → AllByRecursion (λ y. eqb x y ≡ false) xs → IsDistinct eqb xs
-    → IsDistinct eqb (x ∷ xs)
-unfolding IsDistinct
-distinct_cons x xs a b = (a, b)
 
 pub run_moves : (d : Dir) (k : ℕ) → (run_cost d k).a + (run_cost d k).b ≡ k
 run_moves N k = omega arith
@@ -123,7 +111,7 @@ module _ (g : GridData) (goal : Cell) where
           let first : IsLeast (StopsAfter g goal a.cell d) 0 n =
           subst (λ (c : Cell). IsLeast (StopsAfter g goal c d) 0 n) (sym cell)
           (subst (λ (h : Dir). IsLeast (StopsAfter g goal b.cell h) 0 n) (sym dir) b.first) in
-          let many : m ≡ n = ap (λ (o : Option ℕ). elim o as (λ _. ℕ) [ Some v ↦ v | None ↦ m ])
+          let many : m ≡ n = same_Some m n
           (FindsLeast-once (StopsAfter g goal a.cell d) 0 (Some m) (Some n) a.first first) in
           let there : run_end g d m a.cell ≡ Some s =
           ap (λ (k : ℕ). run_end g d k a.cell) many ∙ ap (λ (c : Cell). run_end g d n c) cell
@@ -153,7 +141,7 @@ module _ (g : GridData) (goal : Cell) where
       all_map h.numbers
           (λ q b. record { left = b.left; fewer = (let f = b.fewer in omega arith); at = b.at }) h.each,
     );
-    distinct = distinct_cons (number d v) h.numbers
+    distinct = IsDistinct-cons eqb (number d v) h.numbers
         (all_map h.numbers (λ q b. differ (number d v) q (λ same.
         let one = one_stop d d e e (number d v) q k b.left same a b.at in
         let m = one.2 in let f = b.fewer in omega arith)) h.each) h.distinct;

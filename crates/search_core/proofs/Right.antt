@@ -1,6 +1,9 @@
 -- What the run of jumps answers is right: a least walk, or none exactly where no walk exists.
+use Rattle.std.proofs.lemmas.Bool.Decides.{nat_tests}
+use Rattle.std.proofs.lemmas.Grind.{common_steps}
+use Rattle.std.proofs.Common.{arith}
 use Rattle.std.proofs.Common.{◌≡◌, ℕ, refl, ap, sym, ◌∙◌, subst, true, List, [], ◌∷◌}
-use Rattle.std.specs.Prelude.{Option, Some, None, map}
+use Rattle.std.specs.Prelude.{Option, map}
 use Rattle.root2_cost.specs.declared.Cost.{Cost}
 use Rattle.root2_cost.proofs.Most.{Most, Most-then, Most-same}
 use Rattle.grid_moves.specs.declared.Cell.{Cell}
@@ -63,17 +66,13 @@ module _ (g : GridData) (s t : Cell) where
       let ends : (last_state (start_state s) (map stop_of w.states)).cell ≡ t =
       ap (λ u. u.cell) w.ends ∙ f.at_goal in
       let along : points ≡ s ∷ map (λ u. u.cell) (map stop_of w.states) =
-      f.along ∙ ap (map (λ u. u.cell)) w.is_way
-      ∙ ap (λ (cells : List Cell). s ∷ cells) (sym (same_cells w.states)) in
+      grind (arith, nat_tests, common_steps, same_cells) in
       in_place (s ∷ map (λ u. u.cell) (map stop_of w.states)) points f.last.cost cost
       (last_state (start_state s) (map stop_of w.states)).cell t (sym along) (sym f.priced) ends walk
     where
       in_place : (q p : List Cell) (b c : Cost) (e d : Cell) → q ≡ p → b ≡ c → e ≡ d
           → StandsForWalk g s e q b → StandsForWalk g s d p c
-      in_place q p b c e d same priced ends walk =
-          subst (λ (x : List Cell). StandsForWalk g s d x c) same
-          (subst (λ (x : Cost). StandsForWalk g s d q x) priced
-          (subst (λ (x : Cell). StandsForWalk g s x q b) ends walk))
+      in_place q p b c e d same priced ends walk = grind (arith, nat_tests, common_steps)
 
   -- which no walk undercuts
   pub found_least : (points : List Cell) (cost : Cost) (taken : List ℕ) → is_free g s ≡ true
@@ -111,5 +110,4 @@ module _ (g : GridData) (s t : Cell) where
     where
       by_walk : (o : Option Walk) → IsJumpRun g s t (record { walk = o; taken = f.taken })
           → IsLeastOrNone g s t o
-      by_walk None run = exhausted_none f.taken run
-      by_walk (Some w) run = found_least w.points w.cost f.taken free run
+      by_walk o h1 = grind (arith, nat_tests, common_steps, exhausted_none, found_least)

@@ -1,4 +1,6 @@
 -- What the code needs at one jump, on each grid on which the query is served.
+use Rattle.std.proofs.lemmas.Bool.Decides.{nat_tests}
+use Rattle.std.proofs.lemmas.Grind.{common_steps}
 use Rattle.std.proofs.Common.{◌≡◌, ℕ, subst, refl, ap, sym, ◌∙◌, true, List, [], ◌∷◌, ◌++◌, ◌+◌, ◌*◌, ◌≤◌}
 use Rattle.std.proofs.Common.{length, arith, length-append, append-nil}
 use Rattle.std.specs.Prelude.{Option, Some, None, IsTrue}
@@ -14,7 +16,6 @@ use Rattle.pruning.specs.Source.{MostSteps, IsWithin}
 use Rattle.pruning.specs.Stop.{IsFirstStop}
 use Rattle.pruning.proofs.Stopping.{only_one_first_stop}
 use Rattle.best_first.specs.declared.node.Offer.{Offer as Way}
-use Rattle.best_first.specs.declared.state.Layout.{Layout}
 use Rattle.best_first.specs.declared.state.Layout.TheVariants.{ByArrival}
 use Rattle.best_first.specs.Space.{SpaceData, KeepsShape}
 use Rattle.best_first.specs.Table.{Table, offered}
@@ -41,10 +42,7 @@ module _ (P : Dir → Type 0) where
 pub same_shape : (g : GridData) (old new : SpaceData) → IsSpaceOf g old → KeepsShape old new → IsSpaceOf g new
 same_shape g old new of shape = record {
   whole = of.whole;
-  places = record {
-    layout = shape.layout ∙ of.places.layout;
-    enough = subst (λ (n : ℕ). g.height * g.width ≤ n) (sym shape.places) of.places.enough;
-  };
+  places = grind (arith, nat_tests, common_steps);
   width = shape.width ∙ of.width;
 }
 
@@ -82,8 +80,7 @@ module _ (Stands : GridData → Type 0) (s t : Cell) (last : Last) (d : Dir)
     jumped_on space n o new offering a same table g v =
         let k = space.table in
         let made : new ≡ offered ByArrival t (offer_after last d n) k =
-        table ∙ ap (λ (l : Layout). offered l t o k) (offering g v).of.places.layout
-        ∙ ap (λ (w : Way). offered ByArrival t w k) same in
+        grind (arith, nat_tests, common_steps) in
         made ∙ ap (λ (q : Option ℕ). option_map_or (λ m. offered ByArrival t (offer_after last d m) k) q k)
         (sym (computed (Some n) a g v))
 
@@ -157,8 +154,7 @@ module _ (Stands : GridData → Type 0) (s t : Cell) (last : Last) where
         let n : length (so.done ++ first ∷ []) ≡ length so.done + 1 = length-append so.done (first ∷ []) in
         record {
           done = so.done ++ first ∷ [];
-          parts = so.parts ∙ ap (λ (ds : List Dir). so.done ++ ds) split
-              ∙ sym (append_assoc so.done (first ∷ []) others);
+          parts = grind (arith, nat_tests, common_steps, append_assoc);
           jumped = jumped_more so.done first old.table mid.table new.table so.jumped step;
           room = let r = so.room in omega (arith, n, r, spare);
           within = within_then most (λ told. length so.done * told.stop) (λ told. told.stop)

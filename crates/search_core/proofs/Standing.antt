@@ -2,6 +2,7 @@
 use Rattle.std.proofs.Common.{◌≡◌, ℕ, ◌+◌, ◌-◌, ◌*◌, ◌<◌, ◌≤◌, refl, ap, sym, ◌∙◌, subst, false, List, []}
 use Rattle.std.proofs.Common.{◌∷◌, ◌++◌, length, arith, mul-le-mul}
 use Rattle.std.specs.Prelude.{Option, Some, None, slice_get}
+use Rattle.std.proofs.lemmas.Option.{same_Some}
 use Rattle.root2_cost.specs.declared.Cost.{Cost}
 use Rattle.root2_cost.specs.Rank.{rank_of}
 use Rattle.grid_moves.specs.declared.Cell.{Cell}
@@ -68,10 +69,7 @@ module _ (Stands : GridData → Type 0) (s t : Cell) (g : GridData) (served : Is
     -- its node
     module _ (n : Node) (read : slice_get space.table.nodes at ≡ Some n) where
       one_node : h.has.searching.node ≡ n
-      one_node = one_of (sym h.has.searching.node_is ∙ read)
-        where
-          one_of : {a b : Node} → Some a ≡ Some b → a ≡ b
-          one_of {a} e = ap (λ (o : Option Node). elim o as (λ _. Node) [ Some x ↦ x | None ↦ a ]) e
+      one_node = same_Some _ _ (sym h.has.searching.node_is ∙ read)
 
       pub state_is : h.has.last.state ≡ state_told n.place
       state_is = sym h.has.searching.state ∙ ap (λ (m : Node). state_told m.place) one_node

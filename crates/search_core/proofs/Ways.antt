@@ -1,5 +1,8 @@
 -- Chains of first stops are chains of links, and the way along the parents of a run is a chain.
-use Rattle.std.proofs.Common.{◌≡◌, ℕ, refl, ap, sym, ◌∙◌, subst, Bool, true, false, List, [], ◌∷◌, ◌++◌}
+use Rattle.std.proofs.lemmas.Bool.Decides.{nat_tests}
+use Rattle.std.proofs.lemmas.Grind.{common_steps}
+use Rattle.std.proofs.Common.{arith}
+use Rattle.std.proofs.Common.{◌≡◌, ℕ, refl, ap, sym, ◌∙◌, subst, true, false, List, [], ◌∷◌, ◌++◌}
 use Rattle.std.specs.Prelude.{Option, Some, None, map}
 use Rattle.std.proofs.lemmas.List.{map-append}
 use Rattle.root2_cost.specs.declared.Cost.{Cost}
@@ -37,8 +40,7 @@ abbrev pub state_at : Stop → State
 state_at s = record { cell = s.cell; arrival = arrived s.arrival }
 
 come_again : (a : Arrival) → come_to (arrived a) ≡ a
-come_again Start = refl
-come_again (By d) = refl
+come_again a = grind (arith, nat_tests, common_steps)
 
 module _ (g : GridData) (goal : Cell) where
   -- the estimate suits the rule of jumps
@@ -61,12 +63,7 @@ module _ (g : GridData) (goal : Cell) where
 
   linked_jump : (u v : State) (c : Cost) (l : IsLink g goal u v c)
       → IsJump g goal (stop_of u) (stop_of v) l.dir l.moves
-  linked_jump u v c l = record {
-    allowed = l.allowed;
-    first = l.first;
-    reached = l.reached;
-    arrives = ap come_to l.arrives;
-  }
+  linked_jump u v c l = grind (arith, nat_tests, common_steps)
 
   last-joined : (s u : Stop) (states : List Stop) → last_state s (states ++ u ∷ []) ≡ u
   last-joined s u [] = refl
@@ -96,15 +93,7 @@ module _ (g : GridData) (goal : Cell) where
   way_stays : (x : Taken State) (earlier : List (Taken State)) (v : State)
       → is_taken (jump_rule g goal) earlier x.state ≡ false → is_taken (jump_rule g goal) earlier v ≡ true
       → is_same_state x.state v ≡ false
-  way_stays x earlier v n y = by_test (is_same_state x.state v) refl
-    where
-      by_test : (b : Bool) → is_same_state x.state v ≡ b → is_same_state x.state v ≡ false
-      by_test true e =
-          let no : is_taken (jump_rule g goal) earlier v ≡ false =
-          subst (λ (s : State). is_taken (jump_rule g goal) earlier s ≡ false)
-          (is_same_state-state x.state v e) n in
-          absurd (cc)
-      by_test false e = e
+  way_stays x earlier v n y = grind (arith, nat_tests, common_steps, is_same_state-state)
 
   -- the way over a parent, with one jump more
   goes_further : (s : Cell) (x : Taken State) (earlier : List (Taken State)) (by : Taken State) (c : Cost)
@@ -125,16 +114,7 @@ module _ (g : GridData) (goal : Cell) where
       map-append stop_of before.states (x.state ∷ []) in
       let way : way_to (jump_rule g goal) earlier x.parent ≡ start_at s ∷ before.states =
       ap (λ (p : State). way_to (jump_rule g goal) earlier p) (sym parent) ∙ before.is_way in
-      record {
-        states = before.states ++ x.state ∷ [];
-        is_way = rw (is_same_state-itself x.state) (ap (λ (w : List State). w ++ x.state ∷ []) way);
-        chain = subst (λ (p : Cost). IsChain g goal (start_state s)
-            (map stop_of (before.states ++ x.state ∷ [])) p)
-            cost (subst (λ (stops : List Stop). IsChain g goal (start_state s) stops
-            (add_costs by.cost (run_cost l.dir l.moves))) (sym joined) chain);
-        ends = ap (λ (stops : List Stop). last_state (start_state s) stops) joined
-            ∙ last-joined (start_state s) (stop_of x.state) (map stop_of before.states);
-      }
+      grind (arith, nat_tests, common_steps, is_same_state-itself, last-joined)
 
   pub way : (s : Cell) (run : List (Taken State)) → IsRun (jump_rule g goal) (start_at s) run
       → (u : Taken State) → IsIn u run → HasWay s run u.state u.cost
@@ -157,9 +137,4 @@ module _ (g : GridData) (goal : Cell) where
       let other = way_stays x (y ∷ earlier) u.state is.2.waits
       (is_taken-member (jump_rule g goal) jumps_consistent (y ∷ earlier) u m) in
       let before = way s (y ∷ earlier) is.0 u m in
-      record {
-        states = before.states;
-        is_way = rw other before.is_way;
-        chain = before.chain;
-        ends = before.ends;
-      }
+      grind (arith, nat_tests, common_steps)

@@ -8,7 +8,4 @@ bounds-records-head c =
     record_within c.args.records.now (c.args.head - 1) (c.requires.have (c.args.head - 1) e)
 
 pub returns : goal.returns
-returns c =
-    let e : c.args.head ≡ suc (c.args.head - 1) = omega arith in
-    entry_of c.args.head c.args.records.now c.args.arrival (c.args.head - 1) e
-    (c.requires.have (c.args.head - 1) e)
+returns c = grind (arith, entry_of)

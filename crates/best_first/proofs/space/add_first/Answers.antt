@@ -1,4 +1,7 @@
-use Rattle.std.proofs.Common.{◌≡◌, ℕ, zero, suc, refl, ap, ◌∙◌, true, false, [], ◌∷◌}
+use Rattle.std.proofs.lemmas.Bool.Decides.{nat_tests}
+use Rattle.std.proofs.lemmas.Grind.{common_steps}
+use Rattle.std.proofs.Common.{arith}
+use Rattle.std.proofs.Common.{◌≡◌, ℕ, refl, true, false, [], ◌∷◌}
 use Rattle.std.specs.Prelude.{Option, Some, None, IsNone, IfSome, slice_get, slice_set}
 use Rattle.open_list.specs.OpenList.{OpenList, IsFirst, HasNoneOpen}
 use Rattle.best_first.specs.declared.node.Node.{Node}
@@ -6,16 +9,14 @@ use Rattle.best_first.specs.Node.{ranks_before}
 use Rattle.best_first.proofs.space.add_first.Goals as goal
 
 at_zero : (id : ℕ) → slice_get (true ∷ []) id ≡ Some true → slice_set (true ∷ []) id false ≡ false ∷ []
-at_zero zero h = refl
-at_zero (suc id) h = absurd (cc)
+at_zero id h1 = grind (arith, nat_tests, common_steps)
 
 one_closed : (old new : OpenList Node) (result : Option ℕ) → old.open_at ≡ true ∷ []
     → (IsNone result → HasNoneOpen old) → IfSome result (λ id. IsFirst ranks_before old id)
     → IfSome result (λ id. new ≡ record old { open_at = slice_set old.open_at id false })
     → new.open_at ≡ false ∷ []
 one_closed old new None o none first closed = absurd (none refl 0 (rw o refl))
-one_closed old new (Some id) o none first closed =
-    ap (λ (p : OpenList Node). p.open_at) closed ∙ rw o (at_zero id (rw o at first.is_open))
+one_closed old new (Some id) o none first closed = grind (arith, nat_tests, common_steps, at_zero)
 
 pub returns-clause-open_at : goal.returns-clause-open_at
 returns-clause-open_at g c =

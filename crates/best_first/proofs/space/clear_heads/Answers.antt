@@ -1,5 +1,4 @@
-use Rattle.std.proofs.Common.{◌≡◌, ◌∙◌, ◌+◌, ◌<◌, sym, ap, subst, arith, length, ℕ}
-use Rattle.std.specs.Prelude.{slice_set}
+use Rattle.std.proofs.Common.{◌≡◌, ◌∙◌, ◌<◌, sym, ap, subst, arith, length, ℕ}
 use Rattle.grid_moves.specs.declared.Cell.{Cell}
 use Rattle.grid_moves.specs.Grid.{cell_number}
 use Rattle.best_first.specs.Index.{AreCovered}
@@ -7,7 +6,7 @@ use Rattle.best_first.specs.Node.{state_of}
 use Rattle.best_first.specs.State.{state_told}
 use Rattle.best_first.proofs.Offering.{in_cell}
 use Rattle.best_first.proofs.Forgetting.{covered_next, covered_none, cell_placed}
-use Rattle.best_first.proofs.Records.{length-set}
+use Rattle.std.proofs.lemmas.List.{length-set}
 use Rattle.best_first.proofs.space.clear_heads.Goals as goal
 
 pub number_of-cell-requires-clause-column : goal.number_of-cell-requires-clause-column
@@ -34,12 +33,8 @@ loop-id-preserved c =
     c.node.result.now).cell = c.number_of-cell.ensures ∙ ap (λ (d : Cell). cell_number c.args.width d)
     (c.cell.ensures ∙ sym (in_cell c.loop-id.index.layout (state_told c.node.result.now.place))) in
     record {
-      covered = subst (λ (m : ℕ). AreCovered c.loop-id.index.layout c.args.width c.args.pool.now.nodes
-          (c.loop-id.id + 1) (slice_set c.loop-id.index.heads.items m 0)) (sym cell)
-          (covered_next c.loop-id.index.layout c.args.width c.args.pool.now.nodes c.loop-id.id
-          c.loop-id.index.heads.items c.node.result.now c.loop-id.invariant.covered c.node.ensures);
-      as_many = length-set c.loop-id.index.heads.items c.number_of-cell.result 0
-          ∙ c.loop-id.invariant.as_many;
+      covered = grind (arith, covered_next);
+      as_many = grind (arith, length-set);
       layout = c.loop-id.invariant.layout;
       records = c.loop-id.invariant.records;
     }

@@ -1,4 +1,4 @@
-use Rattle.std.proofs.Common.{sym, arith}
+use Rattle.std.proofs.Common.{arith}
 use Rattle.open_list.specs.Entry.{with_prev}
 use Rattle.open_list.proofs.Changes.{set-changed, changed_past}
 use Rattle.open_list.proofs.entry.set_prev.Goals as goal
@@ -8,5 +8,4 @@ returns-then-at-entries g c = set-changed
     (with_prev c.args.prev) c.args.entries.now c.args.at c.index-entries-at.result
 
 pub returns-else-at-entries : goal.returns-else-at-entries
-returns-else-at-entries g c = sym (changed_past (with_prev c.args.prev) c.args.at c.args.entries.now
-    (omega arith))
+returns-else-at-entries g c = grind (arith, changed_past)

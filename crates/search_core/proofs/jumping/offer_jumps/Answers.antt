@@ -1,3 +1,5 @@
+use Rattle.std.proofs.lemmas.Bool.Decides.{nat_tests}
+use Rattle.std.proofs.lemmas.Grind.{common_steps}
 use Rattle.std.proofs.Common.{◌≡◌, ◌∙◌, ◌++◌, true, List, arith, ap, subst, refl}
 use Rattle.std.specs.List.{AllByRecursion}
 use Rattle.grid_moves.specs.declared.Dir.{Dir}
@@ -9,8 +11,7 @@ use Rattle.search_core.proofs.jumping.offer_jumps.Goals as goal
 
 pub jumps-init : goal.jumps-init
 jumps-init g c = record {
-  so_far = at_first (g.J.JumpSource.StandsFor c.args.j.now) c.args.ends.from c.args.ends.to c.args.last
-      (g.J.JumpSource.most c.args.j.now) c.args.dirs c.args.space.now c.args.steps.now;
+  so_far = grind (arith, nat_tests, common_steps, at_first);
   shape = record { layout = refl; places = refl; width = refl };
   fewest = omega arith;
 }
@@ -38,8 +39,7 @@ offer_jump-requires-clause-allowed g c = λ x served.
 pub offer_jump-requires-clause-room : goal.offer_jump-requires-clause-room
 offer_jump-requires-clause-room g c =
     let so = c.jumps.invariant.so_far in
-    has_one c.args.dirs so.done c.jumps.left c.in-Some.s.others c.in-Some.s.first so.parts
-    c.in-Some.ensures.some c.args.space.now.spare c.jumps.space.spare c.requires.room so.room
+    grind (arith, nat_tests, common_steps, has_one)
 
 pub jumps-preserved : goal.jumps-preserved
 jumps-preserved g c = record {
@@ -48,11 +48,7 @@ jumps-preserved g c = record {
       c.args.space.now c.jumps.space c.offer_jump.new.space c.args.steps.now c.jumps.steps
       c.offer_jump.new.steps c.jumps.invariant.so_far c.in-Some.ensures.some
       c.offer_jump.ensures.jumped c.offer_jump.ensures.spare c.offer_jump.ensures.most;
-  shape = record {
-    layout = c.offer_jump.ensures.shape.layout ∙ c.jumps.invariant.shape.layout;
-    places = c.offer_jump.ensures.shape.places ∙ c.jumps.invariant.shape.places;
-    width = c.offer_jump.ensures.shape.width ∙ c.jumps.invariant.shape.width;
-  };
+  shape = grind (arith, nat_tests, common_steps);
   fewest = let n = c.jumps.invariant.fewest in let m = c.offer_jump.ensures.fewest in omega (arith, n, m);
 }
 

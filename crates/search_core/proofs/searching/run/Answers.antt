@@ -1,5 +1,7 @@
+use Rattle.std.proofs.lemmas.Bool.Decides.{nat_tests}
+use Rattle.std.proofs.lemmas.Grind.{common_steps}
 use Rattle.std.proofs.Common.{◌≡◌, ◌+◌, ◌-◌, ◌<◌, ◌≤◌, ℕ, List, length, subst, arith}
-use Rattle.std.specs.Prelude.{Option, IfSome, IfOk, Ok, Err}
+use Rattle.std.specs.Prelude.{Option, IfSome, IfOk}
 use Rattle.std.specs.declared.result.Result.{Result}
 use Rattle.pruning.specs.Source.{MostSteps}
 use Rattle.search_core.specs.Counting.{IsCountedSoFar, IsWithinTaken}
@@ -37,18 +39,12 @@ taking-preserved g c =
     let more = subst (λ (o : Option ℕ). IfSome o
     (λ id. length c.advance.new.taken ≡ length c.taking.taken + 1)) c.in-Some.is
     c.in_ok-next.ensures.one_more in
-    record {
-      reached = reached;
-      counted = counted_further (g.J.JumpSource.most c.args.j.now) (g.J.JumpSource.fewest c.args.j.now)
-          c.taking.taken c.advance.new.taken c.args.steps.now c.taking.steps c.advance.new.steps
-          c.taking.invariant.counted more c.in_ok-next.ensures.counted;
-    }
+    grind (arith, nat_tests, common_steps, counted_further)
 
 all_within : {E : Type 0} (most : Option MostSteps) (fewest : ℕ) (taken : List ℕ) (a b : ℕ)
     (result : Result Found E) → IsCountedSoFar most fewest taken a b → IfOk result (λ f. f.taken ≡ taken)
     → IfOk result (λ f. IsWithinTaken most f a b)
-all_within most fewest taken a b (Ok f) h e = within_taken most fewest taken a b f h e
-all_within most fewest taken a b (Err e) h k = tt
+all_within most fewest taken a b result h1 h2 = grind (arith, nat_tests, common_steps, within_taken)
 
 pub returns-clause-most : goal.returns-clause-most
 returns-clause-most g c =

@@ -1,8 +1,8 @@
-use Rattle.std.proofs.Common.{◌≡◌, ◌∙◌, ◌+◌, ◌≤◌, sym, ap, subst, length, ℕ, suc, arith, add-one}
+use Rattle.std.proofs.Common.{◌≡◌, ◌+◌, ◌≤◌, sym, subst, length, ℕ, suc, arith}
 use Rattle.std.specs.Prelude.{None}
 use Rattle.best_first.specs.declared.state.Layout.{Layout}
 use Rattle.best_first.specs.Index.{IsPut, AreParts}
-use Rattle.best_first.specs.Space.{SpaceData, IsPlaced}
+use Rattle.best_first.specs.Space.{IsPlaced}
 use Rattle.best_first.specs.State.{state_in, arrival_number}
 use Rattle.best_first.specs.Table.{lookup}
 use Rattle.best_first.proofs.Parts.{parts_added, parts_few}
@@ -22,16 +22,11 @@ put-requires-clause-few g c =
 pub invariant_of-self : goal.invariant_of-self
 invariant_of-self g c =
     let i = c.self.inside in
-    let placed : IsPlaced i.width (length i.index.heads.items) c.args.state.cell =
-    subst (λ (s : SpaceData). IsPlaced s.width s.places c.args.state.cell) (sym c.self.view_is)
-    c.requires.placed in
-    let narrow : i.width ≤ 4096 =
-    subst (λ (s : SpaceData). s.width ≤ 4096) (sym c.self.view_is) c.requires.narrow in
+    let placed : IsPlaced i.width (length i.index.heads.items) c.args.state.cell = grind arith in
+    let narrow : i.width ≤ 4096 = grind arith in
     let new : lookup i.index.layout i.pool.nodes (state_in i.index.layout c.args.state) ≡ None =
-    ap (λ (s : SpaceData). lookup s.layout s.table.nodes (state_in s.layout c.args.state)) c.self.view_is
-    ∙ c.requires.new in
-    let entry : c.add-id.result + 1 ≡ suc (length i.pool.nodes) =
-    add-one c.add-id.result ∙ ap (λ (n : ℕ). suc n) c.add-id.ensures.id in
+    grind arith in
+    let entry : c.add-id.result + 1 ≡ suc (length i.pool.nodes) = grind arith in
     let put = subst (λ (n : ℕ). IsPut i.index.layout i.index.heads.items c.put.new.self.heads.items
     i.index.records.items c.put.new.self.records.items n
     (arrival_number (state_in i.index.layout c.args.state).arrival) (c.add-id.result + 1)) c.number_of.ensures

@@ -3,7 +3,7 @@ use Rattle.open_list.specs.OpenList.{OpenList}
 use Rattle.best_first.specs.declared.node.Node.{Node}
 use Rattle.best_first.specs.declared.state.Layout.{Layout}
 use Rattle.best_first.specs.Index.{AreBlank, AreParts, IsPut}
-use Rattle.best_first.specs.Space.{SpaceData, IsPlaced}
+use Rattle.best_first.specs.Space.{IsPlaced}
 use Rattle.best_first.specs.State.{arrival_number, state_in, start_at}
 use Rattle.best_first.proofs.Parts.{parts_blank, parts_added}
 use Rattle.best_first.proofs.space.Space.begin.Goals as goal
@@ -13,12 +13,7 @@ invariant_of-self g c =
     let blank = subst (λ (v : _). AreBlank v.items) (sym c.make_room.ensures.heads) c.forget.ensures.blank in
     let nodes = ap (λ (p : OpenList Node). p.nodes) c.make_room.ensures.rest_kept ∙ c.forget.ensures.nodes in
     let few : length c.make_room.new.index.heads.items ≤ 16777216 =
-    omega (
-      arith,
-      ap (λ (v : _). length v.items) c.make_room.ensures.heads,
-      c.forget.ensures.as_many,
-      c.self.invariant.few_cells,
-    ) in
+    grind (arith, c.forget.ensures.as_many, c.self.invariant.few_cells) in
     parts_blank _ _ _ _ _ blank nodes (c.make_room.ensures.records ∙ c.forget.ensures.records) few
 
 pub invariant_of-self-2 : goal.invariant_of-self-2
@@ -27,18 +22,10 @@ invariant_of-self-2 g c =
     let heads = i.heads.items in
     let records = i.records.items in
     let blank = subst (λ (v : _). AreBlank v.items) (sym c.make_room.ensures.heads) c.forget.ensures.blank in
-    let few : length heads ≤ 16777216 =
-    omega (
-      arith,
-      ap (λ (v : _). length v.items) c.make_room.ensures.heads,
-      c.forget.ensures.as_many,
-      c.self.invariant.few_cells,
-    ) in
+    let few : length heads ≤ 16777216 = grind (arith, c.forget.ensures.as_many, c.self.invariant.few_cells) in
     let parts = parts_blank i.layout c.args.width [] heads records blank refl
     (c.make_room.ensures.records ∙ c.forget.ensures.records) few in
-    let places : length heads ≡ c.args.self.now.places =
-    ap (λ (v : _). length v.items) c.make_room.ensures.heads
-    ∙ c.forget.ensures.as_many ∙ ap (λ (s : SpaceData). s.places) c.self.view_is in
+    let places : length heads ≡ c.args.self.now.places = grind arith in
     let placed = subst (λ (n : ℕ). IsPlaced c.args.width n c.args.start) (sym places) c.requires.placed in
     let put = subst (λ (n : ℕ). IsPut i.layout heads c.put.new.self.heads.items records
     c.put.new.self.records.items n (arrival_number (state_in i.layout (start_at c.args.start)).arrival) 1)

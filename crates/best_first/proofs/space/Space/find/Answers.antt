@@ -1,4 +1,7 @@
-use Rattle.std.proofs.Common.{◌∙◌, sym, ap, subst, length, ℕ}
+use Rattle.std.proofs.lemmas.Bool.Decides.{nat_tests}
+use Rattle.std.proofs.lemmas.Grind.{common_steps}
+use Rattle.std.proofs.Common.{arith}
+use Rattle.std.proofs.Common.{◌∙◌, ap, length, ℕ}
 use Rattle.best_first.specs.Index.{entry_for, entry_in}
 use Rattle.best_first.specs.Space.{SpaceData, IsPlaced}
 use Rattle.best_first.specs.State.{state_in, arrival_number}
@@ -10,8 +13,7 @@ pub returns : goal.returns
 returns c =
     let i = c.self.inside in
     let placed : IsPlaced i.width (length i.index.heads.items) c.args.state.cell =
-    subst (λ (s : SpaceData). IsPlaced s.width s.places c.args.state.cell) (sym c.self.view_is)
-    c.requires.placed in
+    grind (arith, nat_tests, common_steps) in
     c.entry.ensures
     ∙ ap (λ (n : ℕ). entry_in i.index.layout i.index.heads.items i.index.records.items n
     (arrival_number (state_in i.index.layout c.args.state).arrival)) c.number_of.ensures

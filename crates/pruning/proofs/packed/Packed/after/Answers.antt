@@ -1,14 +1,11 @@
-use Rattle.std.proofs.Common.{◌≤◌, ◌<◌, ◌^◌, ◌∷◌, ◌∙◌, List, length, arith, ap, sym, subst}
+use Rattle.std.proofs.Common.{◌∷◌, ◌∙◌, List, arith, ap}
 use Rattle.grid_moves.specs.declared.Dir.{Dir}
 use Rattle.pruning.specs.Packed.{word_of}
 use Rattle.pruning.proofs.Packing.{has_place, shown, whole}
 use Rattle.pruning.proofs.packed.Packed.after.Goals as goal
 
 pub put_first-requires : goal.put_first-requires
-put_first-requires c =
-    let word = c.self.invariant ∙ ap (λ (ds : List Dir). word_of ds) c.self.view_is in
-    let few : length c.args.self ≤ 7 = grind arith in
-    record { room = subst (λ (w : _). w < 2 ^ 28) (sym word) (has_place c.args.self few) }
+put_first-requires c = grind (arith, has_place)
 
 pub invariant_of-result : goal.invariant_of-result
 invariant_of-result c =

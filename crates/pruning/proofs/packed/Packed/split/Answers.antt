@@ -5,9 +5,7 @@ use Rattle.pruning.proofs.Packing.{has_first, is_split, are_none, few_dirs, show
 use Rattle.pruning.proofs.packed.Packed.split.Goals as goal
 
 pub returns-then-self-eq0-clause-none : goal.returns-then-self-eq0-clause-none
-returns-then-self-eq0-clause-none c =
-    let word = c.self.invariant ∙ ap (λ (ds : List Dir). word_of ds) c.self.view_is in
-    are_none c.args.self (grind (arith, word))
+returns-then-self-eq0-clause-none c = grind (arith, are_none)
 
 pub first_of-requires : goal.first_of-requires
 first_of-requires c =
@@ -16,8 +14,7 @@ first_of-requires c =
     has_first c.self.inside.word some c.args.self word
 
 pub returns-then-self-eq0-clause-few : goal.returns-then-self-eq0-clause-few
-returns-then-self-eq0-clause-few c =
-    subst (λ (ds : List Dir). length ds ≤ 8) c.self.view_is (few_dirs 8 c.self.inside.word)
+returns-then-self-eq0-clause-few c = grind (arith, few_dirs)
 
 pub invariant_of-result : goal.invariant_of-result
 invariant_of-result c =
@@ -29,8 +26,7 @@ invariant_of-result c =
     whole (c.self.inside.word / 16) split.0 split.2 (grind (arith, others, few))
 
 pub returns-clause-few : goal.returns-clause-few
-returns-clause-few c =
-    subst (λ (ds : List Dir). length ds ≤ 8) c.self.view_is (few_dirs 8 c.self.inside.word)
+returns-clause-few c = grind (arith, few_dirs)
 
 pub returns-clause-some : goal.returns-clause-some
 returns-clause-some c =
