@@ -1,11 +1,11 @@
 -- Rows that lie between the same rows have the same entries along them.
+use Rattle.std.proofs.Common.{rules}
 use Rattle.std.proofs.Common.{◌≡◌, ℕ, ◌+◌, ◌<◌, arith, Bool, true, false, List, length, refl, ap, sym}
 use Rattle.std.proofs.Common.{◌∙◌}
 use Rattle.std.specs.Prelude.{ℤ, Option, Some, unwrap_or}
 use Rattle.std.proofs.lemmas.Bool.Decides.{nat_tests}
 use Rattle.grid_moves.specs.declared.Cell.{Cell}
 use Rattle.grid_moves.specs.declared.Dir.{Dir}
-use Rattle.grid_moves.specs.declared.Dir.TheVariants.{E, W}
 use Rattle.grid_moves.specs.Grid.{GridData, IsGrid, is_free, is_inside}
 use Rattle.grid_moves.specs.Move.{column_ahead, legal_ahead}
 use Rattle.grid_moves.proofs.Legal.{legal_is}
@@ -101,10 +101,7 @@ module _ (g : GridData) (whole : IsGrid g) (y m : ℕ) (above here below : List 
 module _ (g : GridData) (whole : IsGrid g) (y : ℕ) (band : Band) (last : Line) (alike : AreAlike band) where
   along_again : (m : ℕ) (above here below : List Bool) → AreRowsAround g y above here below
       → AreRowsAround g m above here below → m < g.height → AreAlong g m last → AreAlong g y last
-  along_again m above here below one same on along = record {
-    east = row_again g whole y m above here below one same E refl refl on last.east.items along.east;
-    west = row_again g whole y m above here below one same W refl refl on last.west.items along.west;
-  }
+  along_again m above here below h i j k = search (rules, row_again)
 
   pub alike_along : (h : Heading) (ready : IsReady g h y band last)
       → AreRowsSeen g h y band.next.items band.here.items band.back.items → ready.rows.ahead < g.height

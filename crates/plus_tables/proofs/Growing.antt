@@ -1,7 +1,8 @@
 -- Rows that a loop fills, column by column.
+use Rattle.std.proofs.Common.{rules}
 use Rattle.std.proofs.Common.{◌≡◌, ◌≢◌, ℕ, ◌+◌, ◌-◌, ◌<◌, ◌≤◌, arith, Bool, true, false, ◌&&◌, ◌||◌}
 use Rattle.std.proofs.Common.{List, length, refl, ap, ◌∙◌, below_more, get_or-set_other, get_or-set_same}
-use Rattle.std.proofs.Common.{subst, w16, to_z, of_z}
+use Rattle.std.proofs.Common.{w16, to_z, of_z}
 use Rattle.std.specs.Prelude.{ℤ, pos, slice_set}
 use Rattle.std.proofs.lemmas.List.{get_or_past}
 use Rattle.std.proofs.lemmas.Bool.Decides.{nat_tests}
@@ -57,26 +58,7 @@ pub told_across : (legal legal_too mark forced diagonal right left : Bool) (next
     → (legal ≡ true → AreShort next beside across)
     → to_z w16 (of_z w16 r) ≡ told legal (forced || (diagonal && (tells_mark beside || tells_mark across)))
     next
-told_across true l mark forced diagonal right left next beside across r is e m p q short =
-    told_read true (forced || (diagonal && (tells_mark beside || tells_mark across))) next r
-    (subst (λ (k : Bool). (true ≡ true → IsShort (to_z w16 (of_z w16 next)))
-    → r ≡ told true k (to_z w16 (of_z w16 next))) marks
-    (subst (λ (k : Bool). (k ≡ true → IsShort (to_z w16 (of_z w16 next)))
-    → r ≡ told k mark (to_z w16 (of_z w16 next))) e is))
-    (λ h. (short refl).ahead_is)
-  where
-    marks : mark ≡ (forced || (diagonal && (tells_mark beside || tells_mark across)))
-    marks = m ∙ rw (
-      p,
-      q,
-      same_value beside beside (short refl).right_is refl,
-      same_value across across (short refl).left_is refl,
-    ) refl
-told_across false l mark forced diagonal right left next beside across r is e m p q short =
-    told_read false mark next r
-    (subst (λ (k : Bool). (k ≡ true → IsShort (to_z w16 (of_z w16 next)))
-    → r ≡ told k mark (to_z w16 (of_z w16 next))) e is)
-    (λ h. absurd (cc))
+told_across legal legal_too mark forced diagonal right left next beside across r h i j k l m = search (rules, told_read, to_z, of_z, same_value)
 
 -- a number elsewhere stays
 pub number_stays : (row : List ℤ) (x k : ℕ) (v : ℤ) → k ≢ x → number (slice_set row x v) k ≡ number row k

@@ -301,8 +301,3 @@ along_right g Downwards n y start k old all below at known same begins wide x e 
     before : (up : Bool) → not up ≡ false → (up || nat_le (g.height - n) y) ≡ true
     before true is = refl
     before false is = absurd (cc)
-
--- the sweep that heads down begins where the other one ended
-pub swept_up : (g : GridData) (entries : List ℤ) → AreSwept g Upwards g.height entries
-    → AreSwept g Downwards 0 entries
-swept_up g entries h = grind (arith, nat_tests)

@@ -1,4 +1,5 @@
 -- Where entries stand, and tables with one entry changed.
+use Rattle.std.proofs.Common.{rules}
 use Rattle.std.proofs.Common.{◌≡◌, ℕ, ◌<◌, arith, length, true, false, ap, ◌∙◌}
 use Rattle.std.proofs.Common.{get_or-set_other, get_or-set_same}
 use Rattle.std.specs.Prelude.{ℤ, pos, slice_index_or}
@@ -27,8 +28,7 @@ one_place t b c d e h i j = grind (arith, nat_tests, dir_number-few, one_cell, i
 -- tables with one entry changed have it, and the others as before
 pub entry_at-with_same : (t : TablesData) (c : Cell) (d : Dir) (entry : ℤ) → IsWhole t → is_on t c ≡ true
     → entry_at (tables_with t c d entry) c d ≡ entry
-entry_at-with_same t c d entry whole on =
-    get_or-set_same t.entries (entry_place t.width c d) entry (pos 0) (place_below t c d whole on)
+entry_at-with_same t c d entry whole on = search (rules, get_or-set_same, place_below)
 
 pub entry_at-with_other : (t : TablesData) (b c : Cell) (d e : Dir) (entry : ℤ) → is_on t b ≡ true
     → is_on t c ≡ true → is_place b e c d ≡ false

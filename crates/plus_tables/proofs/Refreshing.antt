@@ -1,6 +1,6 @@
 -- An entry is told by right entries at the next cell.
 use Rattle.std.proofs.Common.{◌≡◌, arith, true, false, refl, sym, ◌∙◌}
-use Rattle.std.specs.Prelude.{pos, Some, None, if◌then◌else◌}
+use Rattle.std.specs.Prelude.{pos, Some, if◌then◌else◌}
 use Rattle.std.proofs.lemmas.Bool.Decides.{nat_tests}
 use Rattle.grid_moves.specs.declared.Cell.{Cell}
 use Rattle.grid_moves.specs.declared.Dir.{Dir}
@@ -21,10 +21,6 @@ pub on_map : (t : TablesData) (g : GridData) (c : Cell) → AreSized t g → is_
 on_map t g c sized f = grind (arith, nat_tests)
 
 module _ (t : TablesData) (g : GridData) (c : Cell) (d : Dir) (rests : RestsRight t g c d) where
-  -- where no move leads on, the entry is 0
-  pub told_nowhere : legal_ahead g c d ≡ None → pos 0 ≡ table_entry g c d
-  told_nowhere e = sym (entries_follow g c d ∙ rw e refl)
-
   module _ (v : Cell) (e : legal_ahead g c d ≡ Some v) where
     pub next_free : is_free g v ≡ true
     next_free = (legal_is g c v (legal_leads g c v d e).legal).target

@@ -1,4 +1,5 @@
 -- Rows of flags and of entries are those of the grid.
+use Rattle.std.proofs.Common.{rules}
 use Rattle.std.proofs.Common.{◌≡◌, ℕ, zero, suc, ◌+◌, ◌-◌, ◌<◌, arith, Bool, true, false, ◌&&◌}
 use Rattle.std.proofs.Common.{List, length, refl, ap, sym, ◌∙◌, subst}
 use Rattle.std.specs.Prelude.{ℤ, Option, Some, option_and_then, nat_lt}
@@ -58,9 +59,7 @@ module _ (g : GridData) (whole : IsGrid g) where
     -- so they tell where a neighbour is forced
     pub ring_forced : (x : ℕ) (d : Dir) → is_free g (record { x = x; y = y }) ≡ true
         → forced_on g.corner (ring_of above here below x) d ≡ is_forced g (record { x = x; y = y }) d
-    ring_forced x d f =
-        forced_of_ring g (record { x = x; y = y }) f (ring_of above here below x) (ring_open x)
-        g.corner refl d
+    ring_forced x d f = search (rules, forced_of_ring, ring_open)
 
     pub forced_row : (d : Dir) (corner : Corner) (forced : List Bool) → corner ≡ g.corner
         → length forced ≡ g.width + 2 → AreForced corner above here below d forced → IsForcedRow g y d forced
@@ -165,9 +164,7 @@ module _ (g : GridData) (whole : IsGrid g) (c : Cell) (d : Dir) where
     pub told_entry : told legal (mark_by forced right left d (place_after d c.x))
         (number ahead (place_after d c.x))
         ≡ table_entry g c d
-    told_entry = told_is g c d legal (mark_by forced right left d (place_after d c.x))
-        (number ahead (place_after d c.x)) can mark_across
-        (λ w e. next_number y ahead d w e (lies w e) ahead_is)
+    told_entry = search (rules, told_is, mark_across, next_number)
 
     short_at : (row : List ℤ) (e : Dir) → IsEntryRow g y e row → (w : Cell) → legal_ahead g c d ≡ Some w
         → IsShort (number row (place_after d c.x))

@@ -1,16 +1,14 @@
 -- The allowed directions that are told by tables.
+use Rattle.std.proofs.Common.{rules}
 use Rattle.std.proofs.lemmas.Bool.Decides.{nat_tests}
 use Rattle.std.proofs.Common.{◌≡◌, arith, Bool, true, false, not, refl, ap, sym, ◌∙◌}
 use Rattle.std.specs.Prelude.{ℤ, Some, filter}
 use Rattle.std.proofs.lemmas.List.Elements.{filter_agree}
 use Rattle.grid_moves.specs.declared.Cell.{Cell}
 use Rattle.grid_moves.specs.declared.Corner.{Corner}
-use Rattle.grid_moves.specs.declared.Corner.TheVariants.{Never}
 use Rattle.grid_moves.specs.declared.Dir.{Dir}
-use Rattle.grid_moves.specs.declared.Dir.TheVariants.{N, NE, E, SE, S, SW, W, NW}
 use Rattle.grid_moves.specs.Grid.{GridData, is_free}
 use Rattle.grid_moves.specs.Move.{all_dirs, is_dir, is_open, legal_ahead, may_cut, opposite}
-use Rattle.grid_moves.specs.declared.ring.Ring.{Ring}
 use Rattle.grid_moves.specs.Ring.{ring_told, is_free_on, is_shut, leads_on}
 use Rattle.grid_moves.proofs.Besides.{told_on}
 use Rattle.grid_moves.proofs.Legal.{legal_is, by_cut}
@@ -28,12 +26,11 @@ use Rattle.pruning.proofs.Table.{same_dir}
 use Rattle.pruning.proofs.Places.{Place, move}
 use Rattle.pruning.proofs.Moves.{can_move-straight}
 use Rattle.pruning.proofs.Bridging.{place_of, free_place, open_there, leads_there, legal_leads}
-use Rattle.pruning.proofs.Running.{AreMoved, run_walked}
+use Rattle.pruning.proofs.Running.{run_walked}
 use Rattle.plus_tables.specs.Tables.{TablesData, AreTablesOf, entry_at, is_on}
-use Rattle.plus_tables.specs.Reading.{is_move, cell_after, asks_behind, free_past, free_told, told_rule}
+use Rattle.plus_tables.specs.Reading.{is_move, cell_after, asks_behind, free_told, told_rule}
 use Rattle.plus_tables.specs.Reading.{allowed_by, IsBeforeOn}
 use Rattle.plus_tables.proofs.Clear.{is_move-is}
-use Rattle.plus_tables.proofs.Goals.{moved_to}
 use Rattle.plus_tables.proofs.Refreshing.{on_map}
 use Rattle.plus_tables.proofs.Told.{free_is_inside}
 
@@ -58,10 +55,6 @@ pub told_here : (r : Corner) (entry : Cell → Dir → ℤ) (at : Cell) (by : Ar
     → asks_behind r by ≡ false → free_told r entry at by e ≡ is_move (entry at e)
 told_here r entry at by e h = grind (arith, nat_tests)
 
-pub told_past : (entry : Cell → Dir → ℤ) (at : Cell) (d e : Dir) → is_diagonal d ≡ false
-    → free_told Never entry at (By d) e ≡ free_past entry at d e
-told_past entry at d e h = rw h refl
-
 by_move : (r : Corner) (entry : Cell → Dir → ℤ) (at : Cell) (d e : Dir)
     → ((s : Side) → is_diagonal d ≡ false → is_dir e (rear s d) ≡ false)
     → free_told r entry at (By d) e ≡ is_move (entry at e)
@@ -74,24 +67,10 @@ told_kept : (r : Corner) (blocked : Dir → Bool) (by : Arrival) (e : Dir)
     → is_kept (told_rule r) blocked by e ≡ is_kept r blocked by e
 told_kept r blocked by e = grind (arith, nat_tests)
 
--- a ring of which each cell was told by another test that agrees
-pub ring_told_by : (test free : Dir → Bool) → ((e : Dir) → test e ≡ free e) → (n ne e se s sw w nw : Bool)
-    → n ≡ test N → ne ≡ test NE → e ≡ test E → se ≡ test SE → s ≡ test S → sw ≡ test SW → w ≡ test W
-    → nw ≡ test NW
-    → (let r : Ring = record { n = n; ne = ne; e = e; se = se; s = s; sw = sw; w = w; nw = nw } in r)
-    ≡ ring_told free
-ring_told_by test free h n ne e se s sw w nw i j k l m o p q = grind (arith, nat_tests)
-
--- the cell before
-back_moved : (d : Dir) (u v : Cell) → AreMoved d 1 u v → AreMoved (opposite d) 1 v u
-back_moved d u v h = grind (arith, nat_tests)
-
 pub cell_before : (g : GridData) (u at : Cell) (d : Dir) → legal_ahead g u d ≡ Some at
     → u ≡ cell_after (opposite d) 1 at
 cell_before g u at d e =
-    let source = (legal_is g u at (legal_leads g u at d e).legal).source in
-    let walk = run_walked g d 1 u at source (rw e refl) in
-    moved_to (opposite d) 1 at u (back_moved d u at walk.moved)
+    let source = (legal_is g u at (legal_leads g u at d e).legal).source in let walk = run_walked g d 1 u at source (rw e refl) in grind (arith, nat_tests)
 
 module _ (t : TablesData) (g : GridData) (right : AreTablesOf t g) where
   -- an entry tells whether a move is legal
@@ -160,13 +139,7 @@ module _ (t : TablesData) (g : GridData) (right : AreTablesOf t g) where
     free = free_told g.corner (entry_at t) at (By d)
 
     straight : (to : Dir) → is_diagonal to ≡ false → free to ≡ can_move g at to
-    straight to p = by_move g.corner (entry_at t) at d to not_behind ∙ legal_told at to target
-      where
-        not_behind : (s : Side) → is_diagonal d ≡ false → is_dir to (rear s d) ≡ false
-        not_behind s h = by_test (is_dir to (rear s d))
-            (λ b. absurd (let i = rear_parity s ∙ ap not h in
-            let j = ap is_diagonal (same_dir to (rear s d) b) in cc))
-            (λ b. b)
+    straight to p = search (rules, by_move, legal_told, target, by_test, rear_parity, same_dir)
 
     moves : (to : Dir) → is_kept g.corner (is_blocked g at) (By d) to ≡ true → free to ≡ can_move g at to
     moves to k = by_move g.corner (entry_at t) at d to (λ s h. not_behind s) ∙ legal_told at to target
@@ -199,11 +172,7 @@ module _ (t : TablesData) (g : GridData) (right : AreTablesOf t g) where
 
   started : (at : Cell) → is_free g at ≡ true
       → allowed_by g.corner (entry_at t) at Start ≡ allowed_dirs g at Start
-  started at f = all_told at f Start (free_told g.corner (entry_at t) at Start) (λ e _. told e)
-      (λ e _. told e) (λ e. refl)
-    where
-      told : (e : Dir) → free_told g.corner (entry_at t) at Start e ≡ can_move g at e
-      told e = told_here g.corner (entry_at t) at Start e refl ∙ legal_told at e f
+  started at f = search (rules, all_told, told_here, legal_told)
 
   -- by any arrival
   pub allowed_by_tables : (at : Cell) (by : Arrival) → is_free g at ≡ true → CanArrive g at by
