@@ -7,7 +7,6 @@ use Rattle.std.proofs.lemmas.Bool.Decides.{nat_tests, Decides-int_eq}
 use Rattle.std.proofs.lemmas.List.{set-get_or}
 use Rattle.grid_moves.specs.declared.Cell.{Cell}
 use Rattle.grid_moves.specs.declared.Dir.{Dir}
-use Rattle.grid_moves.specs.declared.Dir.TheVariants.{N, NE, E, SE, S, SW, W, NW}
 use Rattle.grid_moves.specs.Move.{dir_number}
 use Rattle.grid_moves.proofs.Places.{one_place, one_cell, number_below}
 use Rattle.pruning.proofs.Table.{same_dir}
@@ -34,14 +33,7 @@ one_less (x ∷ xs) (y ∷ ys) zero h e n = rw (int_eq-apart x y n, int_eq-itsel
 one_less (x ∷ xs) (y ∷ ys) (suc i) h e n = grind (arith, one_less xs ys i (omega arith) (omega arith) n)
 
 dir_below : (d : Dir) → dir_number d < 8
-dir_below N = omega arith
-dir_below NE = omega arith
-dir_below E = omega arith
-dir_below SE = omega arith
-dir_below S = omega arith
-dir_below SW = omega arith
-dir_below W = omega arith
-dir_below NW = omega arith
+dir_below d = grind (arith, nat_tests)
 
 one_dir : (d e : Dir) → dir_number d ≡ dir_number e → d ≡ e
 one_dir d e h = same_dir d e (grind (arith, nat_tests))
@@ -61,8 +53,7 @@ module _ (t : TablesData) (whole : IsWhole t) (u : Cell) (on : is_on t u ≡ tru
   pub count-with : (d : Dir) (x : ℤ) (r : List ℤ) → length t.entries ≡ length r
       → x ≡ get_or r (entry_place t.width u d) (pos 0) → entry_at t u d ≢ x
       → places_differing t.entries r ≡ places_differing (tables_with t u d x).entries r + 1
-  count-with d x r e s n =
-      rw s (one_less t.entries r (entry_place t.width u d) (place_within d) e (rw (← s) n))
+  count-with d x r e s n = grind (arith, nat_tests, one_less, place_within)
 
   pub with_itself : (d : Dir) → tables_with t u d (entry_at t u d) ≡ t
   with_itself d = grind (arith, set-get_or)

@@ -1,4 +1,5 @@
 -- One move back of a walk.
+use Rattle.std.proofs.lemmas.Bool.Decides.{nat_tests}
 use Rattle.std.proofs.Common.{◌≡◌, ◌≢◌, Bool, true, false, ◌||◌, arith, []}
 use Rattle.std.specs.Prelude.{Some, None, ◌∷◌}
 use Rattle.grid_moves.specs.declared.Cell.{Cell}
@@ -55,7 +56,4 @@ module _ {h : GridData} {d : Dir} (v : Cell) {t : TablesData} (ready : AreReady 
           narrower a b k = grind arith
 
       pub onward_told : (next : Walk) → Some (walk_at u) ≡ Some next → IsOnward h new d v next.at
-      onward_told next e = rw (← same) (record { inside = there.1; right = gone_on.right; behind = there.0 })
-        where
-          same : u ≡ next.at
-          same = cc
+      onward_told next e = grind (arith, nat_tests, there, gone_on)
