@@ -52,7 +52,9 @@ run_reaches g x d k h = by_end (run_end g d k x) refl
 pub run_within : (g : GridData) (x v : Cell) (d : Dir) (k : ℕ) → run_end g d k x ≡ Some v
     → k ≤ run_length g x d
 run_within g x v d k e =
-    let some : nat_le k (run_length g x d) ≡ true = sym (run_length_is_told g x d k) ∙ ap (λ (o : Option Cell). is_some o) e in grind (arith, nat_tests)
+    let some : nat_le k (run_length g x d) ≡ true =
+    sym (run_length_is_told g x d k) ∙ ap (λ (o : Option Cell). is_some o) e in
+    grind (arith, nat_tests)
 
 -- a clear run is so long
 pub clear_run : (g : GridData) (x : Cell) (d : Dir) (entry : ℤ) → Tells g x d entry → (k : ℕ) → 1 ≤ k

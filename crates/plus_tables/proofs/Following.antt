@@ -67,7 +67,17 @@ tells_mark-is g c d h = grind (arith, nat_tests, table_entry-free, first_mark-so
 -- so the marks at a free cell are told by its entries
 pub is_mark_by-is : (g : GridData) (d : Dir) (v : Cell) → is_free g v ≡ true
     → is_mark_by g (table_entry g) d v ≡ is_marked g v d
-is_mark_by-is g d v h = grind (arith, nat_tests, by_parity, tells_mark-is, first_mark-straight, turn_parity, is_mark_by-straight, is_marked-straight)
+is_mark_by-is g d v h =
+    grind (
+      arith,
+      nat_tests,
+      by_parity,
+      tells_mark-is,
+      first_mark-straight,
+      turn_parity,
+      is_mark_by-straight,
+      is_marked-straight,
+    )
 
 -- from one move further back
 further : (b : Bool) (o : Option ℕ) (n : ℕ) → ((k : ℕ) → o ≡ Some k → 1 ≤ k)

@@ -284,7 +284,11 @@ module _ (g : GridData) (goal x : Cell) (d : Dir) (f : is_free g x ≡ true) (h 
   complete : (k : ℕ) → 1 ≤ k → is_clear entry k ≡ true → StopsAfter g goal x d k
       → (k ≡ near) × (sees_from (cell_after d near x) ≡ true)
   complete k i c stop =
-      let there = by_stop k i c stop.cell stop.reached stop.stops in let walk = run_walked g d k x stop.cell f stop.reached in let here : stop.cell ≡ cell_after d near x = moved_to d k x stop.cell walk.moved ∙ ap (λ (n : ℕ). cell_after d n x) there.0 in grind (arith, nat_tests)
+      let there = by_stop k i c stop.cell stop.reached stop.stops in
+      let walk = run_walked g d k x stop.cell f stop.reached in
+      let here : stop.cell ≡ cell_after d near x =
+      moved_to d k x stop.cell walk.moved ∙ ap (λ (n : ℕ). cell_after d n x) there.0 in
+      grind (arith, nat_tests)
 
   pub diagonal_goal : IsGoalStop g goal x d entry near (sees_from (cell_after d near x))
   diagonal_goal = record { sound = sound; complete = complete }

@@ -58,7 +58,8 @@ pub told_across : (legal legal_too mark forced diagonal right left : Bool) (next
     → (legal ≡ true → AreShort next beside across)
     → to_z w16 (of_z w16 r) ≡ told legal (forced || (diagonal && (tells_mark beside || tells_mark across)))
     next
-told_across legal legal_too mark forced diagonal right left next beside across r h i j k l m = search (rules, told_read, to_z, of_z, same_value)
+told_across legal legal_too mark forced diagonal right left next beside across r h i j k l m =
+    search (rules, told_read, to_z, of_z, same_value)
 
 -- a number elsewhere stays
 pub number_stays : (row : List ℤ) (x k : ℕ) (v : ℤ) → k ≢ x → number (slice_set row x v) k ≡ number row k

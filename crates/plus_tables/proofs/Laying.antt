@@ -201,11 +201,13 @@ module _ (g : GridData) (h : Heading) (y start k : ℕ) (all row : List ℤ) (be
 
     kept_here : c.y ≡ y → is_swept h e ≡ false → number final place ≡ number all place
     unfolding final
-    kept_here same is = grind (arith, nat_tests, final, on_row, read_within, inside, filled, in_row, read_part)
+    kept_here same is =
+        grind (arith, nat_tests, final, on_row, read_within, inside, filled, in_row, read_part)
 
     kept_above : c.y < y → number final place ≡ number all place
     unfolding final place
-    kept_above up = grind (arith, nat_tests, dir_number-few, read_before, inside, place, earlier, number_below)
+    kept_above up =
+        grind (arith, nat_tests, dir_number-few, read_before, inside, place, earlier, number_below)
 
     kept_below : y < c.y → number final place ≡ number all place
     unfolding final place
@@ -222,7 +224,8 @@ module _ (g : GridData) (h : Heading) (y start k : ℕ) (all row : List ℤ) (be
       → ((c : Cell) (e : Dir) → after c e ≡ true → c.y ≢ y → before c e ≡ true)
       → AreRight (as_tables g (put_mid start k all row)) g after
   unfolding final place
-  right_swept before after h i j = grind (arith, nat_tests, elsewhere, final, place, kept_above, kept_below, told_here, kept_here)
+  right_swept before after h i j =
+      grind (arith, nat_tests, elsewhere, final, place, kept_above, kept_below, told_here, kept_here)
 
 -- one more row is swept: what was right stays so, and lies in rows that are there
 module _ (height n : ℕ) (below : n < height) (c : Cell) (e : Dir) where

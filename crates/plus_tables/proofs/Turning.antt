@@ -70,7 +70,9 @@ told_kept r blocked by e = grind (arith, nat_tests)
 pub cell_before : (g : GridData) (u at : Cell) (d : Dir) → legal_ahead g u d ≡ Some at
     → u ≡ cell_after (opposite d) 1 at
 cell_before g u at d e =
-    let source = (legal_is g u at (legal_leads g u at d e).legal).source in let walk = run_walked g d 1 u at source (rw e refl) in grind (arith, nat_tests)
+    let source = (legal_is g u at (legal_leads g u at d e).legal).source in
+    let walk = run_walked g d 1 u at source (rw e refl) in
+    grind (arith, nat_tests)
 
 module _ (t : TablesData) (g : GridData) (right : AreTablesOf t g) where
   -- an entry tells whether a move is legal

@@ -10,7 +10,14 @@ use Rattle.plus_tables.proofs.lines.bring_along.Goals as goal
 
 pub returns-then-are_alike : goal.returns-then-are_alike
 returns-then-are_alike g c =
-    let grid : GridData = g.T.Terrain.grid c.args.t.now in let last = c.args.last.now in let ready = c.requires.ready.0 in let below = c.has_ahead.ensures c.if-has_ahead.true ready.rows.ahead ready.rows.ahead_is in let high : ready.rows.ahead < grid.height = omega (arith, below, c.height.ensures.is) in let along = alike_along grid c.requires.whole c.args.y c.args.band.now last (c.are_alike.ensures c.if-are_alike.true) c.args.heading ready c.requires.ready.1 high in grind (arith, nat_tests)
+    let grid : GridData = g.T.Terrain.grid c.args.t.now in
+    let last = c.args.last.now in
+    let ready = c.requires.ready.0 in
+    let below = c.has_ahead.ensures c.if-has_ahead.true ready.rows.ahead ready.rows.ahead_is in
+    let high : ready.rows.ahead < grid.height = omega (arith, below, c.height.ensures.is) in
+    let along = alike_along grid c.requires.whole c.args.y c.args.band.now last
+    (c.are_alike.ensures c.if-are_alike.true) c.args.heading ready c.requires.ready.1 high in
+    grind (arith, nat_tests)
 
 pub returns-in-Downwards : goal.returns-in-Downwards
 returns-in-Downwards g c =

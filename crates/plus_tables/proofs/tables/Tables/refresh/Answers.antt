@@ -6,7 +6,8 @@ use Rattle.plus_tables.proofs.Placing.{entry_at-with_same, entry_at-with_other}
 use Rattle.plus_tables.proofs.tables.Tables.refresh.Goals as goal
 
 pub returns-clause-entry : goal.returns-clause-entry
-returns-clause-entry g c = grind (arith, nat_tests, to_z, of_z, entry_at-with_same, same_value, table_entry-short)
+returns-clause-entry g c =
+    grind (arith, nat_tests, to_z, of_z, entry_at-with_same, same_value, table_entry-short)
 
 pub returns-clause-others : goal.returns-clause-others
 returns-clause-others g c = grind (arith, nat_tests, to_z, of_z, entry_at-with_other)

@@ -15,7 +15,8 @@ pub returns-in-Some : goal.returns-in-Some
 returns-in-Some g c = grind (arith, nat_tests, told_marked)
 
 pub returns-in-Some-2 : goal.returns-in-Some-2
-returns-in-Some-2 g c = grind (arith, nat_tests, next_short, told_further, same_value, table_entry-short, short_value)
+returns-in-Some-2 g c =
+    grind (arith, nat_tests, next_short, told_further, same_value, table_entry-short, short_value)
 
 pub returns-in-None : goal.returns-in-None
 returns-in-None g c = grind (arith, nat_tests)
