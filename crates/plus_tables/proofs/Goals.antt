@@ -84,14 +84,7 @@ sighted d s k m x v goal h i j = grind (arith, nat_tests)
 -- it lies so many columns and rows on, where the run comes to it
 come_to : (d : Dir) (k : ℕ) (x goal : Cell) → is_diagonal d ≡ true → AreMoved d k x goal
     → (columns_to d x.x goal.x ≡ k) × (rows_to d x.y goal.y ≡ k)
-come_to NE k x goal h p = let a = p.0 in let b = p.1 in (omega arith, omega arith)
-come_to SE k x goal h p = let a = p.0 in let b = p.1 in (omega arith, omega arith)
-come_to SW k x goal h p = let a = p.0 in let b = p.1 in (omega arith, omega arith)
-come_to NW k x goal h p = let a = p.0 in let b = p.1 in (omega arith, omega arith)
-come_to N k x goal h p = absurd (cc)
-come_to E k x goal h p = absurd (cc)
-come_to S k x goal h p = absurd (cc)
-come_to W k x goal h p = absurd (cc)
+come_to d k x goal h p = let a = p.0 in let b = p.1 in (grind arith, grind arith)
 
 -- the cell after so many moves
 pub moved_to : (d : Dir) (k : ℕ) (x v : Cell) → AreMoved d k x v → v ≡ cell_after d k x
@@ -100,51 +93,21 @@ moved_to d k x v h = grind (arith, nat_tests)
 -- where the goal lies as many columns as rows on, so many moves come to it
 comes_there : (d : Dir) (k : ℕ) (x v goal : Cell) → is_diagonal d ≡ true → 1 ≤ k
     → columns_to d x.x goal.x ≡ k → rows_to d x.y goal.y ≡ k → AreMoved d k x v → v ≡ goal
-comes_there NE k x v goal h i p q m = let a = m.0 in let b = m.1 in
-    same_cell v goal (omega arith) (omega arith)
-comes_there SE k x v goal h i p q m = let a = m.0 in let b = m.1 in
-    same_cell v goal (omega arith) (omega arith)
-comes_there SW k x v goal h i p q m = let a = m.0 in let b = m.1 in
-    same_cell v goal (omega arith) (omega arith)
-comes_there NW k x v goal h i p q m = let a = m.0 in let b = m.1 in
-    same_cell v goal (omega arith) (omega arith)
-comes_there N k x v goal h i p q m = absurd (cc)
-comes_there E k x v goal h i p q m = absurd (cc)
-comes_there S k x v goal h i p q m = absurd (cc)
-comes_there W k x v goal h i p q m = absurd (cc)
+comes_there d k x v goal h i p q m =
+    let a = m.0 in let b = m.1 in same_cell v goal (grind arith) (grind arith)
 
 -- and else moves in the component
 row_leads : (d : Dir) (k j : ℕ) (x v w goal : Cell) → is_diagonal d ≡ true → 1 ≤ k → 1 ≤ j
     → columns_to d x.x goal.x ≡ k + j → rows_to d x.y goal.y ≡ k → AreMoved d k x v
     → AreMoved (row_part d) j v w → w ≡ goal
-row_leads NE k j x v w goal h i l p q m n =
-    let a = m.0 in let b = m.1 in let c = n.0 in let e = n.1 in same_cell w goal (omega arith) (omega arith)
-row_leads SE k j x v w goal h i l p q m n =
-    let a = m.0 in let b = m.1 in let c = n.0 in let e = n.1 in same_cell w goal (omega arith) (omega arith)
-row_leads SW k j x v w goal h i l p q m n =
-    let a = m.0 in let b = m.1 in let c = n.0 in let e = n.1 in same_cell w goal (omega arith) (omega arith)
-row_leads NW k j x v w goal h i l p q m n =
-    let a = m.0 in let b = m.1 in let c = n.0 in let e = n.1 in same_cell w goal (omega arith) (omega arith)
-row_leads N k j x v w goal h i l p q m n = absurd (cc)
-row_leads E k j x v w goal h i l p q m n = absurd (cc)
-row_leads S k j x v w goal h i l p q m n = absurd (cc)
-row_leads W k j x v w goal h i l p q m n = absurd (cc)
+row_leads d k j x v w goal h i l p q m n =
+    let a = m.0 in let b = m.1 in let c = n.0 in let e = n.1 in same_cell w goal (grind arith) (grind arith)
 
 column_leads : (d : Dir) (k j : ℕ) (x v w goal : Cell) → is_diagonal d ≡ true → 1 ≤ k → 1 ≤ j
     → columns_to d x.x goal.x ≡ k → rows_to d x.y goal.y ≡ k + j → AreMoved d k x v
     → AreMoved (column_part d) j v w → w ≡ goal
-column_leads NE k j x v w goal h i l p q m n =
-    let a = m.0 in let b = m.1 in let c = n.0 in let e = n.1 in same_cell w goal (omega arith) (omega arith)
-column_leads SE k j x v w goal h i l p q m n =
-    let a = m.0 in let b = m.1 in let c = n.0 in let e = n.1 in same_cell w goal (omega arith) (omega arith)
-column_leads SW k j x v w goal h i l p q m n =
-    let a = m.0 in let b = m.1 in let c = n.0 in let e = n.1 in same_cell w goal (omega arith) (omega arith)
-column_leads NW k j x v w goal h i l p q m n =
-    let a = m.0 in let b = m.1 in let c = n.0 in let e = n.1 in same_cell w goal (omega arith) (omega arith)
-column_leads N k j x v w goal h i l p q m n = absurd (cc)
-column_leads E k j x v w goal h i l p q m n = absurd (cc)
-column_leads S k j x v w goal h i l p q m n = absurd (cc)
-column_leads W k j x v w goal h i l p q m n = absurd (cc)
+column_leads d k j x v w goal h i l p q m n =
+    let a = m.0 in let b = m.1 in let c = n.0 in let e = n.1 in same_cell w goal (grind arith) (grind arith)
 
 -- the nearer of the two, and what is left of the other
 more_columns : (c r : ℕ) → nat_lt r c ≡ true → (c ≡ min c r + (c - r)) × (r ≡ min c r) × (1 ≤ c - r)
