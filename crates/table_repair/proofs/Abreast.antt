@@ -12,7 +12,7 @@ use Rattle.grid_moves.proofs.Legal.{is_same-cell, is_same-itself}
 use Rattle.plus_tables.specs.Tables.{TablesData}
 use Rattle.table_repair.specs.declared.walks.Walk.{Walk}
 use Rattle.table_repair.specs.Abreast.{is_at_one, no_cell, IsOnward, KeepAbreast}
-use Rattle.table_repair.specs.Mending.{IsRight, AreReady, IsMended, Mends, FollowBut, Sweeps, either}
+use Rattle.table_repair.specs.Mending.{IsRight, IsMended, Mends, FollowBut, Sweeps, either}
 use Rattle.table_repair.specs.Mending.{cell_after}
 use Rattle.table_repair.proofs.Lines.{after_before}
 use Rattle.table_repair.proofs.Mends.{mends_wider, mends_then, still_mended, right_stays}
@@ -85,22 +85,10 @@ mends_through : {h : GridData} {d : Dir} {starts piece : Cell → Bool} {old now
 mends_through first reached mends =
     mends_then first mends (λ u k. mended_further reached u k)
 
-pub abreast_none : {h : GridData} {d : Dir} {t : TablesData} {walks : List Walk} → AreReady h t d
-    → ((w : Cell) → is_at_one walks w ≡ true → is_inside h w ≡ true)
-    → ((w : Cell) → is_at_one walks w ≡ true → IsRight h t w d)
-    → KeepAbreast h d (is_at_one walks) t t walks no_cell 0
-abreast_none h i j = grind (arith, nat_tests)
-
 module _ {h : GridData} {d : Dir} {starts : Cell → Bool} {old now : TablesData} {v : Walk} {rest : List Walk}
     {n : ℕ} (abreast : KeepAbreast h d starts old now (v ∷ rest) no_cell n) where
-  pub first_inside : is_inside h v.at ≡ true
-  first_inside = abreast.inside v.at (at_first v rest)
-
   pub first_mended : IsMended h now d starts n v.at
   first_mended = abreast.mended v.at (at_first v rest)
-
-  pub first_right : IsRight h now v.at d
-  first_right = first_mended.right
 
   module _ {new : TablesData} {m : ℕ} (mends : Mends h d (λ w. is_same w v.at) now new m) where
     -- what was made right behind the first walk lies behind its start

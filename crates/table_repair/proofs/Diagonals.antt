@@ -45,26 +45,13 @@ module _ (h : GridData) (rows columns : Span) {wide rear : Span} (by : ℕ) (d :
       → Mends h d (is_in rear columns) now new n → Mends h d any_cell t new (m + n)
   both_mend a b = mends_both (mends_wider (λ w k. refl) a) (mends_wider (λ w k. refl) b)
 
-  -- they lie on the map
-  wide_end : (before : Bool) → IsBlock h rows columns → (widened before columns by h.width).end ≤ h.width
-  wide_end before h = grind (arith, nat_tests)
-
   wide_short : (before : Bool) → IsBlock h rows columns
       → span_length (widened before columns by h.width) ≤ h.width
   wide_short before h = grind (arith, nat_tests)
 
-  rear_end : (before : Bool) → IsBlock h rows columns → (span_next before rows by h.height).end ≤ h.height
-  rear_end before h = grind (arith, nat_tests)
-
   rear_short : (before : Bool) → IsBlock h rows columns
       → span_length (span_next before rows by h.height) ≤ h.height
   rear_short before h = grind (arith, nat_tests)
-
-  pub wide_within : IsBlock h rows columns → wide.end ≤ h.width
-  wide_within b = rw is_wide (wide_end (goes_right d) b)
-
-  pub rear_within : IsBlock h rows columns → rear.end ≤ h.height
-  rear_within b = rw is_rear (rear_end (goes_down d) b)
 
   -- how many cells that are, at most three of them in each row behind the block
   pub cells_few : IsBlock h rows columns

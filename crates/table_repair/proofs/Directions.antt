@@ -8,14 +8,10 @@ use Rattle.grid_moves.specs.Grid.{GridData, is_inside}
 use Rattle.grid_moves.specs.Move.{is_dir}
 use Rattle.pruning.proofs.Table.{same_dir}
 use Rattle.plus_tables.specs.Tables.{TablesData, entry_at}
-use Rattle.table_repair.specs.Mending.{AreRight, AreBesideRight, AreReady, AreSound, FollowBut, IsMended}
+use Rattle.table_repair.specs.Mending.{AreRight, AreSound, FollowBut, IsMended}
 use Rattle.table_repair.specs.Mending.{Mends, MendsKind}
 use Rattle.table_repair.proofs.Mends.{still_mended}
 use Rattle.table_repair.proofs.Lines.{right_ahead}
-
-pub ready_from : (h : GridData) (t : TablesData) (d : Dir) → AreSound h t → AreBesideRight h t d
-    → AreReady h t d
-ready_from h t d s b = record { grid = s.grid; sized = s.sized; whole = s.whole; beside = b }
 
 pub sound_stays : {h : GridData} {d : Dir} {starts : Cell → Bool} {old new : TablesData} {n : ℕ}
     → Mends h d starts old new n → AreSound h old → AreSound h new

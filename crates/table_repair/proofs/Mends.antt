@@ -8,10 +8,6 @@ use Rattle.plus_tables.specs.Tables.{TablesData, AreSized, is_on}
 use Rattle.table_repair.specs.Mending.{IsRight, AreRight, AreReady, IsMended, Mends}
 use Rattle.table_repair.specs.Mending.{FollowBut}
 
-pub sized_kept : {h : GridData} {d : Dir} {starts : Cell → Bool} {old new : TablesData} {n : ℕ}
-    → Mends h d starts old new n → AreSized old h → AreSized new h
-sized_kept m s = grind (arith, nat_tests)
-
 pub on_inside : (t : TablesData) (h : GridData) → AreSized t h → (u : Cell) → is_inside h u ≡ true
     → is_on t u ≡ true
 on_inside t h s u i = rw (s.width, s.height) i

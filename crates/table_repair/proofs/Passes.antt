@@ -7,7 +7,6 @@ use Rattle.grid_moves.specs.declared.Cell.{Cell}
 use Rattle.grid_moves.specs.declared.Dir.{Dir}
 use Rattle.grid_moves.specs.Grid.{GridData}
 use Rattle.grid_moves.specs.Move.{is_dir}
-use Rattle.pruning.specs.Turns.{is_diagonal}
 use Rattle.pruning.proofs.Table.{same_dir}
 use Rattle.plus_tables.specs.Tables.{TablesData}
 use Rattle.table_repair.specs.Mending.{AreRight, AreReady, AreSound, CanSweep, FollowBut, Mends, MendsKind}
@@ -73,11 +72,6 @@ listed_take (d ∷ ds) (suc i) x e l k = by_test (is_dir e d) refl (λ r. listed
 pub straight_ready : {h : GridData} {t : TablesData} {d : Dir} → AreSound h t → is_straight d ≡ true
     → AreReady h t d
 straight_ready h i = grind (arith, nat_tests)
-
-pub diagonal_ready : {h : GridData} {starts : Cell → Bool} {old now : TablesData} {n : ℕ} {d : Dir}
-    → MendsKind h is_diagonal starts old now n → ((e : Dir) → is_straight e ≡ true → AreRight h old e)
-    → is_diagonal d ≡ true → AreReady h now d
-diagonal_ready h i j = grind (arith, nat_tests)
 
 pub nothing_later : {h : GridData} {t : TablesData} {d : Dir} {here : Cell → Bool} → FollowBut h t d here
     → CanSweep h t d here

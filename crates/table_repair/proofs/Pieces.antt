@@ -1,7 +1,7 @@
 -- A row is swept piece by piece along a diagonal direction, which leads from no cell of it to another.
 use Rattle.std.proofs.lemmas.Bool.Decides.{nat_tests}
 use Rattle.std.proofs.Common.{◌≡◌, ℕ, suc, ◌+◌, ◌*◌, ◌-◌, ◌<◌, ◌≤◌, ◌⊎◌, inl, inr, arith, Bool, true, false}
-use Rattle.std.proofs.Common.{refl, sym, ◌∙◌, ◌||◌, List, [], ◌∷◌, ◌++◌, length}
+use Rattle.std.proofs.Common.{refl, sym, ◌∙◌, ◌||◌, List, [], ◌∷◌, ◌++◌}
 use Rattle.grid_moves.specs.declared.Cell.{Cell}
 use Rattle.grid_moves.specs.declared.Dir.{Dir}
 use Rattle.grid_moves.specs.Grid.{GridData, is_inside}
@@ -120,7 +120,3 @@ pub piece_counted : (steps now start changed one first next end all : ℕ) → f
     → steps + (end - first) ≤ start + changed + all → now ≤ steps + one + (next - first)
     → now + (end - next) ≤ start + (changed + one) + all
 piece_counted steps now start changed one first next end all l m h k = omega arith
-
-pub piece_short : (walks before : List Walk) (n : ℕ) → before ≡ [] → length walks ≡ length before + n
-    → n ≤ 512 → length walks ≤ 512
-piece_short walks before n e long short = grind arith

@@ -12,7 +12,6 @@ use Rattle.pruning.specs.declared.turns.Side.TheVariants.{Right, Left}
 use Rattle.pruning.specs.Turns.{turn, is_diagonal}
 use Rattle.pruning.proofs.Running.{AreMoved}
 use Rattle.table_repair.specs.declared.span.Span.{Span}
-use Rattle.table_repair.specs.Differ.{is_near}
 use Rattle.table_repair.specs.Mending.{is_among, is_in, span_beside, widened, span_next, is_in_reach}
 use Rattle.table_repair.specs.Mending.{goes_right, goes_down, NoneAhead}
 use Rattle.table_repair.proofs.Lines.{inside_parts, is_inside-from, after_moved}
@@ -100,11 +99,6 @@ line_reached h rows columns by d s diagonal v start k l m j i = by_dir d s diago
     by_dir E s q m = absurd (cc)
     by_dir S s q m = absurd (cc)
     by_dir W s q m = absurd (cc)
-
--- what is near a cell lies in the rows and columns beside it
-pub near_beside : (h : GridData) (c v : Cell) → is_inside h v ≡ true → is_near v c ≡ true
-    → is_in (span_beside c.y h.height) (span_beside c.x h.width) v ≡ true
-near_beside h c v i n = grind (arith, nat_tests)
 
 -- the rows behind the block lie ahead of none of its cells
 pub rear_behind : (d : Dir) (rows columns wide : Span) (by side : ℕ) → is_diagonal d ≡ true

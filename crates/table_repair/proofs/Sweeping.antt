@@ -11,7 +11,7 @@ use Rattle.plus_tables.specs.Tables.{TablesData}
 use Rattle.table_repair.specs.declared.span.Span.{Span}
 use Rattle.table_repair.specs.Mending.{AreReady, FollowBut, Mends, Sweeps, either, is_among, span_length}
 use Rattle.table_repair.specs.Mending.{far_number, without_far, is_in_row, is_in, goes_right, goes_down}
-use Rattle.table_repair.proofs.Mends.{mends_none, mends_both, mends_wider, follow_more, ready_stays}
+use Rattle.table_repair.proofs.Mends.{mends_both, mends_wider, follow_more, ready_stays}
 use Rattle.table_repair.proofs.Walking.{or_false, false_or}
 
 -- the second number is nearer than the first, from the end or from the beginning
@@ -57,10 +57,6 @@ pub record Swept (h : GridData) (d : Dir) (all left : Cell → Bool) (old now : 
   pub follows : (later : Cell → Bool) → FollowBut h old d (either all later)
       → FollowBut h now d (either left later)
 
-pub swept_none : {h : GridData} {d : Dir} {all : Cell → Bool} {t : TablesData} → AreReady h t d
-    → Swept h d all all t t 0
-swept_none {t = t} r = record { ready = r; mends = mends_none t; follows = λ later f. f }
-
 pub swept_more : {h : GridData} {d : Dir} {all left piece rest : Cell → Bool} {old now new : TablesData}
     {n m : ℕ} → Swept h d all left old now n
     → ((w : Cell) → piece w ≡ false → rest w ≡ false → left w ≡ false)
@@ -79,11 +75,6 @@ swept_more {left = left} {piece = piece} {rest = rest} swept split within mends 
         let p = or_false (piece w) (rest w || later w) k in
         let q = or_false (rest w) (later w) p.1 in
         false_or (left w) (later w) (split w p.0 q.0) q.1
-
--- where nothing is left
-pub swept_all : {h : GridData} {d : Dir} {all left : Cell → Bool} {old now : TablesData} {n : ℕ}
-    → Swept h d all left old now n → ((w : Cell) → left w ≡ false) → Sweeps h d all old now
-swept_all h i = grind (arith, nat_tests)
 
 -- no cell ahead of the one taken from a row is left there
 pub row_ahead : (d : Dir) (k : ℕ) (v w : Cell) (y : ℕ) (old rest : Span) → IsTaken (goes_right d) old v.x rest

@@ -6,9 +6,6 @@ use Rattle.table_repair.proofs.Walking.{walk_stops, walk_goes_on, walk_ends, wal
 use Rattle.table_repair.proofs.Walking.{rests_right, nothing_set}
 use Rattle.table_repair.proofs.mend.mend.Goals as goal
 
-pub loop-before-init : goal.loop-before-init
-loop-before-init g c = grind (arith, nat_tests)
-
 pub refresh-requires-clause-sized : goal.refresh-requires-clause-sized
 refresh-requires-clause-sized g c = c.loop-before.invariant.walked.ready.sized
 
@@ -19,9 +16,6 @@ refresh-requires-clause-rests g c =
     (sym c.cell_before.ensures ∙ c.in-Some.is) in
     rests_right c.args.grid.now c.loop-before.tables c.args.d c.in-Some.before c.loop-before.at l.0
     w.inside w.right w.ready.beside
-
-pub refresh-requires-clause-inside : goal.refresh-requires-clause-inside
-refresh-requires-clause-inside g c = grind (arith, nat_tests)
 
 pub returns-then-not-refresh-clause-mends : goal.returns-then-not-refresh-clause-mends
 returns-then-not-refresh-clause-mends g c =

@@ -1,5 +1,4 @@
 -- What was left, what begins and what goes on add up.
-use Rattle.std.proofs.lemmas.Bool.Decides.{nat_tests}
 use Rattle.std.proofs.Common.{arith}
 use Rattle.table_repair.specs.Mending.{is_in_row}
 use Rattle.table_repair.proofs.Entering.{entered_next, entered_behind}
@@ -8,12 +7,6 @@ use Rattle.table_repair.proofs.narrow.enter_row.Goals as goal
 
 pub lead_on-requires-clause-ready : goal.lead_on-requires-clause-ready
 lead_on-requires-clause-ready g c = c.make_room-led_out.ensures.abreast.ready
-
-pub lead_on-requires-clause-inside : goal.lead_on-requires-clause-inside
-lead_on-requires-clause-inside g c = grind (arith, nat_tests)
-
-pub lead_on-requires-clause-right : goal.lead_on-requires-clause-right
-lead_on-requires-clause-right g c = grind (arith, nat_tests)
 
 pub returns-clause-abreast : goal.returns-clause-abreast
 returns-clause-abreast g c = rw c.len.ensures.value (

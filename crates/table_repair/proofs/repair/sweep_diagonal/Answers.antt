@@ -5,9 +5,6 @@ use Rattle.table_repair.proofs.Diagonals.{first_waits, second_waits, both_right,
 use Rattle.table_repair.proofs.Diagonals.{cells_few, steps_both}
 use Rattle.table_repair.proofs.repair.sweep_diagonal.Goals as goal
 
-pub sweep-changed-requires-clause-columns : goal.sweep-changed-requires-clause-columns
-sweep-changed-requires-clause-columns g c = grind (arith, nat_tests)
-
 pub sweep-changed-requires-clause-waits : goal.sweep-changed-requires-clause-waits
 sweep-changed-requires-clause-waits g c =
     let a = c.args in
@@ -16,9 +13,6 @@ sweep-changed-requires-clause-waits g c =
 
 pub sweep_narrow-requires-clause-ready : goal.sweep_narrow-requires-clause-ready
 sweep_narrow-requires-clause-ready g c = grind (arith, nat_tests)
-
-pub sweep_narrow-requires-clause-rows : goal.sweep_narrow-requires-clause-rows
-sweep_narrow-requires-clause-rows g c = grind (arith, nat_tests)
 
 pub sweep_narrow-requires-clause-waits : goal.sweep_narrow-requires-clause-waits
 sweep_narrow-requires-clause-waits g c =

@@ -26,11 +26,5 @@ returns-then-refresh-clause-follows g c =
     c.requires.right c.in-Some.before (sym c.cell_before.ensures ∙ c.in-Some.is)
     c.refresh.ensures.is (c.refresh.ensures.changed c.if-refresh.true)
 
-pub returns-then-refresh-clause-onward : goal.returns-then-refresh-clause-onward
-returns-then-refresh-clause-onward g c = grind (arith, nat_tests)
-
 pub returns-else-refresh-clause-follows : goal.returns-else-refresh-clause-follows
 returns-else-refresh-clause-follows g c = grind (arith, nat_tests, follows_stay)
-
-pub returns-in_default-clause-follows : goal.returns-in_default-clause-follows
-returns-in_default-clause-follows g c = grind (arith, nat_tests)
