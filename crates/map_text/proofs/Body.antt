@@ -1,4 +1,5 @@
 -- The rows and the lines after them.
+use Rattle.std.proofs.lemmas.Bool.Decides.{nat_tests}
 use Rattle.std.proofs.Common.{◌≡◌, ℕ, suc, ◌+◌, ◌<◌, ◌≤◌, true, false, eqb, List, [], ◌∷◌, ◌++◌, length, take}
 use Rattle.std.proofs.Common.{drop, Option, Some, None, refl, sym, ap, subst, ◌∙◌, inl, inr, arith}
 use Rattle.std.specs.Prelude.{slice_get}
@@ -93,5 +94,4 @@ module _ (lines : List (List ℕ)) (row : ℕ) where
 
 -- whether a list is empty is whether its length is 0
 pub is_nothing_is : (bytes : List ℕ) → is_nothing bytes ≡ eqb (length bytes) 0
-is_nothing_is [] = refl
-is_nothing_is (byte ∷ bytes) = sym (ne_eqb (length (byte ∷ bytes)) 0 (λ none. omega arith))
+is_nothing_is bytes = grind (arith, nat_tests)

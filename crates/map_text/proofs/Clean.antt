@@ -1,4 +1,5 @@
 -- Lines that break nothing spell a map.
+use Rattle.std.proofs.lemmas.Bool.Decides.{nat_tests}
 use Rattle.std.proofs.Common.{◌≡◌, ℕ, suc, ◌+◌, ◌*◌, ◌<◌, ◌≤◌, List, [], ◌∷◌, length, take, drop, Some, None}
 use Rattle.std.proofs.Common.{refl, sym, ap, subst, ◌∙◌, arith}
 use Rattle.std.specs.Prelude.{slice_get, codes}
@@ -68,15 +69,7 @@ module _ (a b c d : List ℕ) (tail : List (List ℕ)) where
     count_of_rows = length-take-le (height_of all_lines) tail tall
 
     right_map : IsMap (width_of all_lines) (height_of all_lines) (concat (take (height_of all_lines) tail))
-    right_map = record {
-      wide = named_width.least;
-      narrow = named_width.most;
-      high = named_height.least;
-      low = named_height.most;
-      whole = length_of_rows (width_of all_lines) (take (height_of all_lines) tail) rows_right
-          ∙ ap (λ (n : ℕ). n * width_of all_lines) count_of_rows;
-      terrain = terrain_of_rows (width_of all_lines) (take (height_of all_lines) tail) rows_right;
-    }
+    right_map = grind (arith, nat_tests, named_width, named_height, length_of_rows, rows_right, count_of_rows, terrain_of_rows)
 
     spelled : (text : List ℕ) → lines_of text ≡ all_lines → Spells text (map_on all_lines)
     spelled text are = record {
@@ -122,16 +115,7 @@ clean_spells text (a ∷ b ∷ c ∷ d ∷ tail) are clean = spelled a b c d tai
 -- behind the line after the last nothing breaks the grammar
 past_all : (lines : List (List ℕ)) (place : ℕ) (fault : MapFault) → length lines < place → Clean lines
     → fault_at lines place ≡ Some fault → ⊥
-past_all [] place fault past clean broken = cc (clean 0 (omega arith))
-past_all (a ∷ []) place fault past clean broken = cc (clean 1 (omega arith))
-past_all (a ∷ b ∷ []) place fault past clean broken = cc (clean 2 (omega arith))
-past_all (a ∷ b ∷ c ∷ []) place fault past clean broken = cc (clean 3 (omega arith))
-past_all (a ∷ b ∷ c ∷ d ∷ tail) (suc (suc (suc (suc row)))) fault past clean broken =
-    let tall_enough = tall a b c d tail clean in
-    let after : height_of (a ∷ b ∷ c ∷ d ∷ tail) ≤ row = omega arith in
-    let absent : length tail ≤ row = omega arith in
-    cc (rw (le-ltb row (height_of (a ∷ b ∷ c ∷ d ∷ tail)) after, slice_get_past tail row absent) at broken)
-past_all (a ∷ b ∷ c ∷ d ∷ tail) place fault past clean broken = absurd (omega arith)
+past_all lines place fault h i j = grind (arith, nat_tests, tall, le-ltb, slice_get_past)
 
 -- the first broken line is one of the lines, or the one after the last
 pub broken_inside : (lines : List (List ℕ)) (place : ℕ) (fault : MapFault) → CleanBefore lines place

@@ -1,4 +1,5 @@
 -- Rows that break nothing, and their bytes in order.
+use Rattle.std.proofs.lemmas.Bool.Decides.{nat_tests}
 use Rattle.std.proofs.Common.{◌≡◌, ℕ, zero, suc, ◌+◌, ◌*◌, ◌<◌, ◌≤◌, Bool, true, false, not, eqb, List, []}
 use Rattle.std.proofs.Common.{◌∷◌, ◌++◌, length, get_or, take, drop, Option, Some, None, refl, ap, subst, inl}
 use Rattle.std.proofs.Common.{inr, arith}
@@ -20,8 +21,7 @@ pub record IsRow (width : ℕ) (row : List ℕ) : Type 0 where
   pub terrain : list_all is_terrain row ≡ true
 
 no_stranger : (place : Option ℕ) (number : ℕ) → byte_fault number place ≡ None → place ≡ None
-no_stranger None number none = refl
-no_stranger (Some place) number none = absurd cc
+no_stranger place number h = grind (arith, nat_tests)
 
 -- a row that breaks nothing is there and is a row
 pub row_right : (number width : ℕ) (line : Option (List ℕ)) → row_fault number width line ≡ None
@@ -68,8 +68,7 @@ row_fine number width row is =
 
 -- a line after the rows that breaks nothing is empty
 pub after_right : (number : ℕ) (line : List ℕ) → after_fault number (Some line) ≡ None → line ≡ []
-after_right number [] none = refl
-after_right number (byte ∷ line) none = absurd cc
+after_right number line h = grind (arith, nat_tests)
 
 -- what holds of the line at each place
 pub each_right : (P : List ℕ → Type 0) (lines : List (List ℕ))

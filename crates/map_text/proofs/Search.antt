@@ -1,4 +1,5 @@
 -- From one line to the next.
+use Rattle.std.proofs.lemmas.Bool.Decides.{nat_tests}
 use Rattle.std.proofs.Common.{◌≡◌, ℕ, zero, suc, ◌+◌, List, [], ◌∷◌, drop, Option, Some, None, refl, sym, ap}
 use Rattle.std.proofs.Common.{◌∙◌, arith}
 use Rattle.std.specs.Prelude.{slice_get}
@@ -17,8 +18,7 @@ slice_get_first (line ∷ lines) (suc place) = slice_get_first lines place
 
 first_taken : (old new : Left) (line : Option Line) → GivesNext old line new
     → bytes_of line ≡ slice_get old.lines 0
-first_taken old new None gives = rw gives.0 refl
-first_taken old new (Some line) gives = rw gives.0 refl
+first_taken old new line h = grind (arith, nat_tests)
 
 -- the line that a call of `next` gives is that of the place
 pub line_taken : (lines : List (List ℕ)) (place : ℕ) (old new : Left) (line : Option Line)

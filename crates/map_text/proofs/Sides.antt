@@ -1,4 +1,5 @@
 -- What a line of the header says.
+use Rattle.std.proofs.lemmas.Bool.Decides.{nat_tests}
 use Rattle.std.proofs.Common.{◌≡◌, ℕ, ◌≤◌, Bool, true, false, ◌&&◌, cond, leb, List, [], ◌∷◌, Option, Some}
 use Rattle.std.proofs.Common.{None, refl, ap, inl, inr, arith}
 use Rattle.std.specs.Prelude.{unwrap_or}
@@ -16,8 +17,7 @@ same_words fields words same = grind (arith, slice_eq-Decides, bytes_eq-Decides)
 
 -- a header line that breaks nothing has its words
 pub words_right : (number : ℕ) (right : Bool) → words_fault number right ≡ None → right ≡ true
-words_right number true none = refl
-words_right number false none = absurd cc
+words_right number right h = grind (arith, nat_tests)
 
 -- a side that breaks nothing is named, and is 1 to 4096
 pub record NamesGoodSide (word : List ℕ) (fields : List (List ℕ)) (side : ℕ) : Type 0 where
@@ -29,35 +29,12 @@ pub record NamesGoodSide (word : List ℕ) (fields : List (List ℕ)) (side : �
 
 good_side : (number : ℕ) (side : Option ℕ) → side_fault number side ≡ None
     → (n : ℕ) × (side ≡ Some n) × (1 ≤ n) × (n ≤ 4096)
-good_side number None none = absurd cc
-good_side number (Some n) none =
-    elim (cases_Bool (leb 1 n && leb n 4096)) [
-      | inl fits ↦ let parts =
-          and_parts (leb 1 n) (leb n 4096) fits in (n, refl, leb-true 1 n parts.0, leb-true n 4096 parts.1)
-      | inr broken ↦ absurd (cc (ap (λ (b : Bool). cond b None (Some (Side number))) broken))
-    ]
+good_side number side h = grind (arith, nat_tests)
 
 pub side_right : (number : ℕ) (word : List ℕ) (fields : List (List ℕ))
     → side_fault number (side_in word fields) ≡ None
     → NamesGoodSide word fields (unwrap_or (side_in word fields) 0)
-side_right number word [] none = absurd cc
-side_right number word (name ∷ []) none = absurd cc
-side_right number word (name ∷ digits ∷ []) none =
-    elim (cases_Bool (bytes_eq name word)) [
-      | inl same ↦
-          let good = good_side number (number_of digits) (rw same at none) in
-          let word_is : name ≡ word = (bytes_eq-Decides name word).0 same in
-          rw (same, good.1) (record {
-            digits = digits;
-            are = ap (λ (first : List ℕ). first ∷ digits ∷ [])
-                word_is;
-            value = good.1;
-            least = good.2;
-            most = good.3;
-          })
-      | inr other ↦ absurd (cc (rw other at none))
-    ]
-side_right number word (name ∷ digits ∷ more ∷ fields) none = absurd cc
+side_right number word fields h = grind (arith, nat_tests, cases_Bool, good_side, bytes_eq-Decides)
 
 -- and the other way round
 pub side_named : (word digits : List ℕ) (side : ℕ) → number_of digits ≡ Some side

@@ -1,4 +1,5 @@
 -- Lines that are written, one after another.
+use Rattle.std.proofs.lemmas.Bool.Decides.{nat_tests}
 use Rattle.std.proofs.Common.{◌≡◌, ℕ, suc, ◌+◌, ◌-◌, ◌*◌, ◌<◌, List, [], ◌∷◌, ◌++◌, length, take, drop, ap}
 use Rattle.std.proofs.Common.{sym, ◌∙◌, arith}
 use Rattle.std.proofs.lemmas.List.{append_assoc, length-drop}
@@ -27,14 +28,4 @@ module _ (old : List ℕ) (height width : ℕ) (cells : List ℕ) where
       (written : AreWritten old height width cells left done new) where
     pub row_written : done < height
         → AreWritten old height width cells (drop width left) (done + 1) ((new ++ take width left) ++ 10 ∷ [])
-    row_written more =
-        let some : height - done ≡ suc (height - (done + 1)) = omega arith in
-        let after = text_of (rows_of (height - (done + 1)) width (drop width left)) in
-        record {
-          long = length-drop width left ∙ one_less (height - (done + 1)) width (length left)
-              (written.long ∙ ap (λ (n : ℕ). n * width) some);
-          text = row_then new (take width left) after
-              ∙ ap (λ (n : ℕ). new ++ text_of (rows_of n width left)) (sym some) ∙ written.text;
-          kept = begins_more old (new ++ take width left) (10 ∷ [])
-              (begins_more old new (take width left) written.kept);
-        }
+    row_written more = grind (arith, nat_tests, length-drop, one_less, row_then, begins_more)

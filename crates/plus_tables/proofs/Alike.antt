@@ -1,11 +1,11 @@
 -- Rows that lie between the same rows have the same entries along them.
+use Rattle.std.proofs.Common.{rules}
 use Rattle.std.proofs.Common.{◌≡◌, ℕ, ◌+◌, ◌<◌, arith, Bool, true, false, List, length, refl, ap, sym}
 use Rattle.std.proofs.Common.{◌∙◌}
 use Rattle.std.specs.Prelude.{ℤ, Option, Some, unwrap_or}
 use Rattle.std.proofs.lemmas.Bool.Decides.{nat_tests}
 use Rattle.grid_moves.specs.declared.Cell.{Cell}
 use Rattle.grid_moves.specs.declared.Dir.{Dir}
-use Rattle.grid_moves.specs.declared.Dir.TheVariants.{E, W}
 use Rattle.grid_moves.specs.Grid.{GridData, IsGrid, is_free, is_inside}
 use Rattle.grid_moves.specs.Move.{column_ahead, legal_ahead}
 use Rattle.grid_moves.proofs.Legal.{legal_is}
@@ -18,33 +18,15 @@ use Rattle.plus_tables.specs.declared.lines.Line.{Line}
 use Rattle.plus_tables.specs.Entry.{table_entry}
 use Rattle.plus_tables.specs.Local.{is_mark_by}
 use Rattle.plus_tables.specs.declared.heading.Heading.{Heading}
-use Rattle.plus_tables.specs.declared.heading.Heading.TheVariants.{Upwards, Downwards}
-use Rattle.plus_tables.specs.Rows.{is_along, AreSame, IsFlagRow, IsEntryRow, AreRowsAround, AreRowsSeen}
+use Rattle.plus_tables.specs.Rows.{is_along, AreSame, IsEntryRow, AreRowsAround, AreRowsSeen}
 use Rattle.plus_tables.specs.Lines.{AreAlike, AreAlong, IsReady}
 use Rattle.plus_tables.proofs.Following.{is_mark_by-straight}
 use Rattle.plus_tables.proofs.Rowing.{row_legal, ring_forced, told_is, along_each, next_along}
 
--- rows with the same flags
-flags_same : (g : GridData) (n : ℕ) (row same : List Bool) → AreSame row same → length same ≡ g.width + 2
-    → IsFlagRow g n row → IsFlagRow g n same
-flags_same g n row same e long is = record {
-  long = long;
-  border = sym (e 0) ∙ is.border;
-  cells = λ x. sym (e (x + 1)) ∙ is.cells x;
-}
-
 around_same : (g : GridData) (n : ℕ) (a b c p q r : List Bool) → AreSame a p → AreSame b q → AreSame c r
     → length p ≡ g.width + 2 → length q ≡ g.width + 2 → length r ≡ g.width + 2 → AreRowsAround g n a b c
     → AreRowsAround g n p q r
-around_same g n a b c p q r i j k long wide broad is = record {
-  upper = is.upper;
-  lower = is.lower;
-  upper_is = is.upper_is;
-  lower_is = is.lower_is;
-  above_is = flags_same g is.upper a p i long is.above_is;
-  here_is = flags_same g n b q j wide is.here_is;
-  below_is = flags_same g is.lower c r k broad is.below_is;
-}
+around_same g n a b c p q r h i j k l m o = grind (arith, nat_tests)
 
 module _ (g : GridData) (whole : IsGrid g) (y m : ℕ) (above here below : List Bool)
     (one : AreRowsAround g y above here below) (other : AreRowsAround g m above here below) where
@@ -119,24 +101,9 @@ module _ (g : GridData) (whole : IsGrid g) (y m : ℕ) (above here below : List 
 module _ (g : GridData) (whole : IsGrid g) (y : ℕ) (band : Band) (last : Line) (alike : AreAlike band) where
   along_again : (m : ℕ) (above here below : List Bool) → AreRowsAround g y above here below
       → AreRowsAround g m above here below → m < g.height → AreAlong g m last → AreAlong g y last
-  along_again m above here below one same on along = record {
-    east = row_again g whole y m above here below one same E refl refl on last.east.items along.east;
-    west = row_again g whole y m above here below one same W refl refl on last.west.items along.west;
-  }
+  along_again m above here below h i j k = search (rules, row_again)
 
   pub alike_along : (h : Heading) (ready : IsReady g h y band last)
       → AreRowsSeen g h y band.next.items band.here.items band.back.items → ready.rows.ahead < g.height
       → AreAlong g y last
-  alike_along Upwards ready around on =
-      let m = ready.rows.ahead in
-      along_again m band.next.items band.here.items band.back.items around
-      (around_same g m band.far.items band.next.items band.here.items band.next.items band.here.items
-      band.back.items alike.far alike.next alike.here ready.rows.next_is.long ready.rows.here_is.long
-      ready.rows.back_is.long (ready.rows.around_next (omega (arith, whole.sides.low)))) on ready.along
-  alike_along Downwards ready around on =
-      let m = ready.rows.ahead in
-      along_again m band.back.items band.here.items band.next.items around
-      (around_same g m band.here.items band.next.items band.far.items band.back.items band.here.items
-      band.next.items alike.here (λ k. alike.next k) (λ k. alike.far k) ready.rows.back_is.long
-      ready.rows.here_is.long ready.rows.next_is.long
-      (ready.rows.around_next (omega (arith, whole.sides.low)))) on ready.along
+  alike_along h ready i j = grind (arith, nat_tests, along_again, around_same)

@@ -1,6 +1,6 @@
 -- What entries say of marks and runs.
 use Rattle.std.proofs.Common.{◌≡◌, ℕ, zero, suc, ◌<◌, ◌≤◌, arith, true, false, refl, ap, sym, ◌∙◌, subst}
-use Rattle.std.specs.Prelude.{ℤ, pos, negsuc, neg_ℤ, Option, Some, None, is_some, unwrap_or, nat_le}
+use Rattle.std.specs.Prelude.{ℤ, pos, neg_ℤ, Option, Some, None, is_some, nat_le}
 use Rattle.std.proofs.lemmas.Bool.Decides.{nat_tests}
 use Rattle.grid_moves.specs.declared.Cell.{Cell}
 use Rattle.grid_moves.specs.declared.Dir.{Dir}
@@ -76,33 +76,21 @@ clear_unmarked g x d _ (unmarked (suc n) is none) k h c l = none k h l
 
 -- what is clear so far is clear before
 pub clear_before : (entry : ℤ) (j k : ℕ) → j ≤ k → is_clear entry k ≡ true → is_clear entry j ≡ true
-clear_before (pos n) j k h c = grind (arith, nat_tests)
-clear_before (negsuc n) j k h c = grind (arith, nat_tests)
+clear_before entry j k h i = grind (arith, nat_tests)
 
 -- before the mark the run is clear
 pub clear_to_mark : (entry : ℤ) (n k : ℕ) → mark_of entry ≡ Some n → k < n → is_clear entry k ≡ true
-clear_to_mark (pos zero) n k e h = absurd (cc)
-clear_to_mark (pos (suc m)) n k e h =
-    let same : suc m ≡ n = ap (λ (o : Option ℕ). unwrap_or o 0) e in
-    grind (arith, nat_tests)
-clear_to_mark (negsuc m) n k e h = absurd (cc)
+clear_to_mark entry n k h i = grind (arith, nat_tests)
 
 -- the mark is the first
 pub mark_first : (g : GridData) (x : Cell) (d : Dir) (entry : ℤ) → Tells g x d entry → (n : ℕ)
     → mark_of entry ≡ Some n → (1 ≤ n) × MarkedAfter g x d n
-mark_first g x d _ (marked k m first) n e =
-    let same : suc k ≡ n = ap (λ (o : Option ℕ). unwrap_or o 0) e in
-    (omega arith, subst (λ (j : ℕ). MarkedAfter g x d j) same m)
-mark_first g x d _ (unmarked zero is none) n e = absurd (cc)
-mark_first g x d _ (unmarked (suc k) is none) n e = absurd (cc)
+mark_first g x d entry h n i = grind (arith, nat_tests)
 
 -- where there is no mark, the run is clear
 pub clear_all : (g : GridData) (x v : Cell) (d : Dir) (entry : ℤ) → Tells g x d entry → (k : ℕ) → 1 ≤ k
     → mark_of entry ≡ None → run_end g d k x ≡ Some v → is_clear entry k ≡ true
-clear_all g x v d _ (marked n m first) k h e r = absurd (cc)
-clear_all g x v d _ (unmarked zero is none) k h e r = absurd (let few = run_within g x v d k r in omega arith)
-clear_all g x v d _ (unmarked (suc n) is none) k h e r =
-    let few = run_within g x v d k r in grind (arith, nat_tests)
+clear_all g x v d entry h k i j l = grind (arith, nat_tests, run_within)
 
 -- a run with no mark so far is clear
 pub clear_where : (g : GridData) (x v : Cell) (d : Dir) (entry : ℤ) → Tells g x d entry → (k : ℕ) → 1 ≤ k

@@ -1,7 +1,8 @@
 -- The local law: an entry follows from the entries at the next cell.
-use Rattle.std.proofs.Common.{◌≡◌, ℕ, zero, suc, ◌+◌, ◌≤◌, arith, Bool, true, false, not, ◌&&◌, ◌||◌, refl}
+use Rattle.std.proofs.lemmas.Bool.Decides.{nat_tests}
+use Rattle.std.proofs.Common.{◌≡◌, ℕ, suc, ◌≤◌, arith, Bool, true, false, ◌&&◌, ◌||◌, refl}
 use Rattle.std.proofs.Common.{ap, sym, ◌∙◌}
-use Rattle.std.specs.Prelude.{ℤ, pos, Option, Some, None, is_some, option_and_then, option_map, unwrap_or}
+use Rattle.std.specs.Prelude.{ℤ, pos, Option, Some, None, is_some, option_map, unwrap_or}
 use Rattle.std.specs.Prelude.{if◌then◌else◌}
 use Rattle.grid_moves.specs.declared.Cell.{Cell}
 use Rattle.grid_moves.specs.declared.Dir.{Dir}
@@ -9,11 +10,9 @@ use Rattle.grid_moves.specs.Least.{FindsLeast}
 use Rattle.grid_moves.specs.Grid.{GridData, is_free}
 use Rattle.grid_moves.specs.Move.{legal_ahead}
 use Rattle.grid_moves.proofs.Legal.{legal_is}
-use Rattle.pruning.specs.declared.turns.Side.{Side}
-use Rattle.pruning.specs.declared.turns.Side.TheVariants.{Right, Left}
-use Rattle.pruning.specs.Turns.{turn, is_diagonal}
+use Rattle.pruning.specs.Turns.{is_diagonal}
 use Rattle.pruning.specs.Marked.{is_forced}
-use Rattle.pruning.specs.First.{first_within, first_on_run, holds_on_run, is_marked, first_mark, run_length}
+use Rattle.pruning.specs.First.{first_within, first_on_run, is_marked, first_mark, run_length}
 use Rattle.pruning.proofs.Table.{turn_parity, by_parity}
 use Rattle.pruning.proofs.Bridging.{legal_leads}
 use Rattle.pruning.proofs.Firsts.{HoldsAfter, first_on_run-finds, first_on_run-next, first_on_run-none}
@@ -24,18 +23,7 @@ use Rattle.pruning.proofs.Lengths.{run_length-next, run_length-none}
 -- two tests that agree everywhere find the same
 pub first_within-same : (g : GridData) (d : Dir) (one other : Cell → Bool) → ((v : Cell) → one v ≡ other v)
     → (n : ℕ) (x : Cell) → first_within n g d one x ≡ first_within n g d other x
-first_within-same g d one other same zero x = refl
-first_within-same g d one other same (suc n) x =
-    by_cell (legal_ahead g x d) (λ v. first_within-same g d one other same n v)
-  where
-    by_cell : (o : Option Cell)
-        → ((v : Cell) → first_within n g d one v ≡ first_within n g d other v)
-        → option_and_then
-        (λ v. if one v then Some 1 else option_map (λ k. suc k) (first_within n g d one v)) o
-        ≡ option_and_then
-        (λ v. if other v then Some 1 else option_map (λ k. suc k) (first_within n g d other v)) o
-    by_cell None next = refl
-    by_cell (Some v) next = rw (same v, next v) refl
+first_within-same g d one other h n x = grind (arith, nat_tests)
 
 -- what is asked under a test that fails adds nothing
 pub nothing_more : (a b c : Bool) → b ≡ false → (a || (b && c)) ≡ a
@@ -52,8 +40,7 @@ is_mark_by-straight g entry d v h = nothing_more (is_forced g v d) (is_diagonal 
 
 pub first_mark-straight : (g : GridData) (x : Cell) (d : Dir) → is_diagonal d ≡ false
     → first_mark g x d ≡ first_on_run g d (λ v. is_forced g v d) x
-first_mark-straight g x d h = first_within-same g d (λ v. is_marked g v d) (λ v. is_forced g v d)
-    (λ v. is_marked-straight g v d h) (g.width + g.height) x
+first_mark-straight g x d h = grind (arith, nat_tests, first_within-same, is_marked-straight)
 
 -- a first mark is at least one move away
 pub first_mark-some : (g : GridData) (x : Cell) (d : Dir) (k : ℕ) → first_mark g x d ≡ Some k → 1 ≤ k
@@ -75,48 +62,28 @@ table_entry-free g c d h = rw h refl
 -- an entry above 0 tells of a mark
 pub tells_mark-is : (g : GridData) (c : Cell) (d : Dir) → is_free g c ≡ true
     → tells_mark (table_entry g c d) ≡ is_some (first_mark g c d)
-tells_mark-is g c d h = ap (λ (z : ℤ). tells_mark z) (table_entry-free g c d h)
-    ∙ by_mark (first_mark g c d) refl
-  where
-    above : (k n : ℕ) → 1 ≤ k → tells_mark (mark_or_run (Some k) n) ≡ true
-    above zero n h = absurd (omega arith)
-    above (suc k) n h = refl
-
-    below : (n : ℕ) → tells_mark (mark_or_run None n) ≡ false
-    below zero = refl
-    below (suc n) = refl
-
-    by_mark : (o : Option ℕ) → first_mark g c d ≡ o
-        → tells_mark (mark_or_run o (run_length g c d)) ≡ is_some o
-    by_mark None e = below (run_length g c d)
-    by_mark (Some k) e = above k (run_length g c d) (first_mark-some g c d k e)
+tells_mark-is g c d h = grind (arith, nat_tests, table_entry-free, first_mark-some)
 
 -- so the marks at a free cell are told by its entries
 pub is_mark_by-is : (g : GridData) (d : Dir) (v : Cell) → is_free g v ≡ true
     → is_mark_by g (table_entry g) d v ≡ is_marked g v d
-is_mark_by-is g d v f = by_parity d diagonal straight
-  where
-    component : is_diagonal d ≡ true → (s : Side) → tells_mark (table_entry g v (turn s d))
-        ≡ holds_on_run g (turn s d) (λ u. is_forced g u (turn s d)) v
-    component h s = tells_mark-is g v (turn s d) f
-        ∙ ap (λ (o : Option ℕ). is_some o)
-        (first_mark-straight g v (turn s d) (turn_parity s d ∙ ap not h))
-
-    diagonal : is_diagonal d ≡ true → is_mark_by g (table_entry g) d v ≡ is_marked g v d
-    diagonal h = rw (component h Right, component h Left) refl
-
-    straight : is_diagonal d ≡ false → is_mark_by g (table_entry g) d v ≡ is_marked g v d
-    straight h = is_mark_by-straight g (table_entry g) d v h ∙ sym (is_marked-straight g v d h)
+is_mark_by-is g d v h =
+    grind (
+      arith,
+      nat_tests,
+      by_parity,
+      tells_mark-is,
+      first_mark-straight,
+      turn_parity,
+      is_mark_by-straight,
+      is_marked-straight,
+    )
 
 -- from one move further back
 further : (b : Bool) (o : Option ℕ) (n : ℕ) → ((k : ℕ) → o ≡ Some k → 1 ≤ k)
     → mark_or_run (if b then Some 1 else option_map (λ k. suc k) o) (suc n)
     ≡ (if b then pos 1 else from_before (mark_or_run o n))
-further true o n h = refl
-further false None zero h = refl
-further false None (suc n) h = refl
-further false (Some zero) n h = let none = h 0 refl in absurd (omega arith)
-further false (Some (suc k)) n h = refl
+further b o n h = grind (arith, nat_tests)
 
 pub entries_follow : EntriesFollow
 entries_follow g c d = by_cell (legal_ahead g c d) refl

@@ -8,7 +8,6 @@ use Rattle.grid_moves.specs.declared.Dir.TheVariants.{N, NE, E, SE, S, SW, W, NW
 use Rattle.grid_moves.specs.Grid.{GridData, is_free}
 use Rattle.grid_moves.proofs.Legal.{same_cell}
 use Rattle.pruning.specs.declared.turns.Side.{Side}
-use Rattle.pruning.specs.declared.turns.Side.TheVariants.{Right, Left}
 use Rattle.pruning.specs.Turns.{turn, is_diagonal}
 use Rattle.pruning.specs.Marked.{run_end, is_forced, HoldsOnRun, IsMarked, forces, looks_out}
 use Rattle.pruning.specs.Stop.{StopsAfter, IsStop, MarkedAfter, at_goal, marked, sees_goal}
@@ -24,30 +23,12 @@ use Rattle.plus_tables.proofs.Stops.{IsGoalStop}
 -- so many straight moves lead to the goal
 to_goal : (d : Dir) (k : ℕ) (x goal : Cell) → is_diagonal d ≡ false → 1 ≤ k → AreMoved d k x goal
     → k ≡ moves_to d x goal
-to_goal N k x goal h i m = let p = m.0 in let q = m.1 in grind (arith, nat_tests)
-to_goal E k x goal h i m = let p = m.0 in let q = m.1 in grind (arith, nat_tests)
-to_goal S k x goal h i m = let p = m.0 in let q = m.1 in grind (arith, nat_tests)
-to_goal W k x goal h i m = let p = m.0 in let q = m.1 in grind (arith, nat_tests)
-to_goal NE k x goal h i m = absurd (cc)
-to_goal SE k x goal h i m = absurd (cc)
-to_goal SW k x goal h i m = absurd (cc)
-to_goal NW k x goal h i m = absurd (cc)
+to_goal d k x goal h i j = grind (arith, nat_tests)
 
 -- and where they lead there, the cell is the goal
 at_goal_after : (d : Dir) (k : ℕ) (x v goal : Cell) → 1 ≤ k → k ≡ moves_to d x goal → AreMoved d k x v
     → v ≡ goal
-at_goal_after N k x v goal i e m =
-    let p = m.0 in let q = m.1 in same_cell v goal (grind (arith, nat_tests)) (grind (arith, nat_tests))
-at_goal_after E k x v goal i e m =
-    let p = m.0 in let q = m.1 in same_cell v goal (grind (arith, nat_tests)) (grind (arith, nat_tests))
-at_goal_after S k x v goal i e m =
-    let p = m.0 in let q = m.1 in same_cell v goal (grind (arith, nat_tests)) (grind (arith, nat_tests))
-at_goal_after W k x v goal i e m =
-    let p = m.0 in let q = m.1 in same_cell v goal (grind (arith, nat_tests)) (grind (arith, nat_tests))
-at_goal_after NE k x v goal i e m = absurd (omega arith)
-at_goal_after SE k x v goal i e m = absurd (omega arith)
-at_goal_after SW k x v goal i e m = absurd (omega arith)
-at_goal_after NW k x v goal i e m = absurd (omega arith)
+at_goal_after d k x v goal h i j = grind (arith, nat_tests)
 
 -- a straight jump comes to the goal where its line leads there
 pub straight_goal : (g : GridData) (goal x : Cell) (d : Dir) → is_free g x ≡ true → is_diagonal d ≡ false
@@ -84,24 +65,10 @@ straight_goal g goal x d f h = record { sound = sound; complete = complete }
 
 -- the components of a diagonal
 pub row_part-side : (d : Dir) → is_diagonal d ≡ true → (s : Side) × (row_part d ≡ turn s d)
-row_part-side NE h = (Right, refl)
-row_part-side SE h = (Left, refl)
-row_part-side SW h = (Right, refl)
-row_part-side NW h = (Left, refl)
-row_part-side N h = absurd (cc)
-row_part-side E h = absurd (cc)
-row_part-side S h = absurd (cc)
-row_part-side W h = absurd (cc)
+row_part-side d h = grind (arith, nat_tests)
 
 pub column_part-side : (d : Dir) → is_diagonal d ≡ true → (s : Side) × (column_part d ≡ turn s d)
-column_part-side NE h = (Left, refl)
-column_part-side SE h = (Right, refl)
-column_part-side SW h = (Left, refl)
-column_part-side NW h = (Right, refl)
-column_part-side N h = absurd (cc)
-column_part-side E h = absurd (cc)
-column_part-side S h = absurd (cc)
-column_part-side W h = absurd (cc)
+column_part-side d h = grind (arith, nat_tests)
 
 -- how the goal lies from a cell, where a diagonal run sees it from its k-th cell
 data Sighted (d : Dir) (k m : ℕ) (x goal : Cell) (e : Dir) : Type 0 where
@@ -112,102 +79,35 @@ data Sighted (d : Dir) (k m : ℕ) (x goal : Cell) (e : Dir) : Type 0 where
 
 sighted : (d : Dir) (s : Side) (k m : ℕ) (x v goal : Cell) → is_diagonal d ≡ true → AreMoved d k x v
     → AreMoved (turn s d) m v goal → Sighted d k m x goal (turn s d)
-sighted NE Right k m x v goal h p q =
-    let a = p.0 in let b = p.1 in let c = q.0 in let e = q.1 in in_row refl (omega arith) (omega arith)
-sighted NE Left k m x v goal h p q =
-    let a = p.0 in let b = p.1 in let c = q.0 in let e = q.1 in in_column refl (omega arith) (omega arith)
-sighted SE Right k m x v goal h p q =
-    let a = p.0 in let b = p.1 in let c = q.0 in let e = q.1 in in_column refl (omega arith) (omega arith)
-sighted SE Left k m x v goal h p q =
-    let a = p.0 in let b = p.1 in let c = q.0 in let e = q.1 in in_row refl (omega arith) (omega arith)
-sighted SW Right k m x v goal h p q =
-    let a = p.0 in let b = p.1 in let c = q.0 in let e = q.1 in in_row refl (omega arith) (omega arith)
-sighted SW Left k m x v goal h p q =
-    let a = p.0 in let b = p.1 in let c = q.0 in let e = q.1 in in_column refl (omega arith) (omega arith)
-sighted NW Right k m x v goal h p q =
-    let a = p.0 in let b = p.1 in let c = q.0 in let e = q.1 in in_column refl (omega arith) (omega arith)
-sighted NW Left k m x v goal h p q =
-    let a = p.0 in let b = p.1 in let c = q.0 in let e = q.1 in in_row refl (omega arith) (omega arith)
-sighted N s k m x v goal h p q = absurd (cc)
-sighted E s k m x v goal h p q = absurd (cc)
-sighted S s k m x v goal h p q = absurd (cc)
-sighted W s k m x v goal h p q = absurd (cc)
+sighted d s k m x v goal h i j = grind (arith, nat_tests)
 
 -- it lies so many columns and rows on, where the run comes to it
 come_to : (d : Dir) (k : ℕ) (x goal : Cell) → is_diagonal d ≡ true → AreMoved d k x goal
     → (columns_to d x.x goal.x ≡ k) × (rows_to d x.y goal.y ≡ k)
-come_to NE k x goal h p = let a = p.0 in let b = p.1 in (omega arith, omega arith)
-come_to SE k x goal h p = let a = p.0 in let b = p.1 in (omega arith, omega arith)
-come_to SW k x goal h p = let a = p.0 in let b = p.1 in (omega arith, omega arith)
-come_to NW k x goal h p = let a = p.0 in let b = p.1 in (omega arith, omega arith)
-come_to N k x goal h p = absurd (cc)
-come_to E k x goal h p = absurd (cc)
-come_to S k x goal h p = absurd (cc)
-come_to W k x goal h p = absurd (cc)
+come_to d k x goal h p = let a = p.0 in let b = p.1 in (grind arith, grind arith)
 
 -- the cell after so many moves
 pub moved_to : (d : Dir) (k : ℕ) (x v : Cell) → AreMoved d k x v → v ≡ cell_after d k x
-moved_to N k x v p = let a = p.0 in let b = p.1 in same_cell v (cell_after N k x) (omega arith) (omega arith)
-moved_to NE k x v p = let a = p.0 in let b = p.1 in
-    same_cell v (cell_after NE k x) (omega arith) (omega arith)
-moved_to E k x v p = let a = p.0 in let b = p.1 in same_cell v (cell_after E k x) (omega arith) (omega arith)
-moved_to SE k x v p = let a = p.0 in let b = p.1 in
-    same_cell v (cell_after SE k x) (omega arith) (omega arith)
-moved_to S k x v p = let a = p.0 in let b = p.1 in same_cell v (cell_after S k x) (omega arith) (omega arith)
-moved_to SW k x v p = let a = p.0 in let b = p.1 in
-    same_cell v (cell_after SW k x) (omega arith) (omega arith)
-moved_to W k x v p = let a = p.0 in let b = p.1 in same_cell v (cell_after W k x) (omega arith) (omega arith)
-moved_to NW k x v p = let a = p.0 in let b = p.1 in
-    same_cell v (cell_after NW k x) (omega arith) (omega arith)
+moved_to d k x v h = grind (arith, nat_tests)
 
 -- where the goal lies as many columns as rows on, so many moves come to it
 comes_there : (d : Dir) (k : ℕ) (x v goal : Cell) → is_diagonal d ≡ true → 1 ≤ k
     → columns_to d x.x goal.x ≡ k → rows_to d x.y goal.y ≡ k → AreMoved d k x v → v ≡ goal
-comes_there NE k x v goal h i p q m = let a = m.0 in let b = m.1 in
-    same_cell v goal (omega arith) (omega arith)
-comes_there SE k x v goal h i p q m = let a = m.0 in let b = m.1 in
-    same_cell v goal (omega arith) (omega arith)
-comes_there SW k x v goal h i p q m = let a = m.0 in let b = m.1 in
-    same_cell v goal (omega arith) (omega arith)
-comes_there NW k x v goal h i p q m = let a = m.0 in let b = m.1 in
-    same_cell v goal (omega arith) (omega arith)
-comes_there N k x v goal h i p q m = absurd (cc)
-comes_there E k x v goal h i p q m = absurd (cc)
-comes_there S k x v goal h i p q m = absurd (cc)
-comes_there W k x v goal h i p q m = absurd (cc)
+comes_there d k x v goal h i p q m =
+    let a = m.0 in let b = m.1 in same_cell v goal (grind arith) (grind arith)
 
 -- and else moves in the component
 row_leads : (d : Dir) (k j : ℕ) (x v w goal : Cell) → is_diagonal d ≡ true → 1 ≤ k → 1 ≤ j
     → columns_to d x.x goal.x ≡ k + j → rows_to d x.y goal.y ≡ k → AreMoved d k x v
     → AreMoved (row_part d) j v w → w ≡ goal
-row_leads NE k j x v w goal h i l p q m n =
-    let a = m.0 in let b = m.1 in let c = n.0 in let e = n.1 in same_cell w goal (omega arith) (omega arith)
-row_leads SE k j x v w goal h i l p q m n =
-    let a = m.0 in let b = m.1 in let c = n.0 in let e = n.1 in same_cell w goal (omega arith) (omega arith)
-row_leads SW k j x v w goal h i l p q m n =
-    let a = m.0 in let b = m.1 in let c = n.0 in let e = n.1 in same_cell w goal (omega arith) (omega arith)
-row_leads NW k j x v w goal h i l p q m n =
-    let a = m.0 in let b = m.1 in let c = n.0 in let e = n.1 in same_cell w goal (omega arith) (omega arith)
-row_leads N k j x v w goal h i l p q m n = absurd (cc)
-row_leads E k j x v w goal h i l p q m n = absurd (cc)
-row_leads S k j x v w goal h i l p q m n = absurd (cc)
-row_leads W k j x v w goal h i l p q m n = absurd (cc)
+row_leads d k j x v w goal h i l p q m n =
+    let a = m.0 in let b = m.1 in let c = n.0 in let e = n.1 in same_cell w goal (grind arith) (grind arith)
 
 column_leads : (d : Dir) (k j : ℕ) (x v w goal : Cell) → is_diagonal d ≡ true → 1 ≤ k → 1 ≤ j
     → columns_to d x.x goal.x ≡ k → rows_to d x.y goal.y ≡ k + j → AreMoved d k x v
     → AreMoved (column_part d) j v w → w ≡ goal
-column_leads NE k j x v w goal h i l p q m n =
-    let a = m.0 in let b = m.1 in let c = n.0 in let e = n.1 in same_cell w goal (omega arith) (omega arith)
-column_leads SE k j x v w goal h i l p q m n =
-    let a = m.0 in let b = m.1 in let c = n.0 in let e = n.1 in same_cell w goal (omega arith) (omega arith)
-column_leads SW k j x v w goal h i l p q m n =
-    let a = m.0 in let b = m.1 in let c = n.0 in let e = n.1 in same_cell w goal (omega arith) (omega arith)
-column_leads NW k j x v w goal h i l p q m n =
-    let a = m.0 in let b = m.1 in let c = n.0 in let e = n.1 in same_cell w goal (omega arith) (omega arith)
-column_leads N k j x v w goal h i l p q m n = absurd (cc)
-column_leads E k j x v w goal h i l p q m n = absurd (cc)
-column_leads S k j x v w goal h i l p q m n = absurd (cc)
-column_leads W k j x v w goal h i l p q m n = absurd (cc)
+column_leads d k j x v w goal h i l p q m n =
+    let a = m.0 in let b = m.1 in let c = n.0 in let e = n.1 in same_cell w goal (grind arith) (grind arith)
 
 -- the nearer of the two, and what is left of the other
 more_columns : (c r : ℕ) → nat_lt r c ≡ true → (c ≡ min c r + (c - r)) × (r ≡ min c r) × (1 ≤ c - r)
@@ -219,16 +119,6 @@ more_rows c r h k = (grind (arith, nat_tests), grind (arith, nat_tests), grind (
 
 as_many : (c r : ℕ) → nat_eq c r ≡ true → (c ≡ min c r) × (r ≡ min c r)
 as_many c r h = (grind (arith, nat_tests), grind (arith, nat_tests))
-
-seen_in_row : (c r k m : ℕ) → 1 ≤ m → c ≡ k + m → r ≡ k
-    → (k ≡ min c r) × (nat_eq c r ≡ false) × (nat_lt r c ≡ true) × (c - r ≡ m)
-seen_in_row c r k m i p q =
-    (grind (arith, nat_tests), grind (arith, nat_tests), grind (arith, nat_tests), grind (arith, nat_tests))
-
-seen_in_column : (c r k m : ℕ) → 1 ≤ m → c ≡ k → r ≡ k + m
-    → (k ≡ min c r) × (nat_eq c r ≡ false) × (nat_lt r c ≡ false) × (r - c ≡ m)
-seen_in_column c r k m i p q =
-    (grind (arith, nat_tests), grind (arith, nat_tests), grind (arith, nat_tests), grind (arith, nat_tests))
 
 met : (c r k : ℕ) → c ≡ k → r ≡ k → (k ≡ min c r) × (nat_eq c r ≡ true)
 met c r k p q = (grind (arith, nat_tests), grind (arith, nat_tests))
@@ -332,18 +222,7 @@ module _ (g : GridData) (goal x : Cell) (d : Dir) (f : is_free g x ≡ true) (h 
   -- so what it sees tells of the goal
   seen : (v : Cell) (k m : ℕ) (e : Dir) → 1 ≤ m → Sighted d k m x goal e
       → is_clear (table_entry g v e) m ≡ true → (k ≡ near) × (sees_from v ≡ true)
-  seen v k m e i (in_row part p q) c =
-      let there = seen_in_row columns rows k m i p q in
-      let clear : is_clear (table_entry g v (row_part d)) (columns - rows) ≡ true =
-      ap (λ (n : ℕ). is_clear (table_entry g v (row_part d)) n) there.3
-      ∙ ap (λ (e : Dir). is_clear (table_entry g v e) m) (sym part) ∙ c in
-      (there.0, rw (there.1, there.2) clear)
-  seen v k m e i (in_column part p q) c =
-      let there = seen_in_column columns rows k m i p q in
-      let clear : is_clear (table_entry g v (column_part d)) (rows - columns) ≡ true =
-      ap (λ (n : ℕ). is_clear (table_entry g v (column_part d)) n) there.3
-      ∙ ap (λ (e : Dir). is_clear (table_entry g v e) m) (sym part) ∙ c in
-      (there.0, rw (there.1, there.2) clear)
+  seen v k m e h i j = grind (arith, nat_tests)
 
   come : (v : Cell) (k : ℕ) → columns ≡ k → rows ≡ k → (k ≡ near) × (sees_from v ≡ true)
   come v k p q = let there = met columns rows k p q in (there.0, rw there.1 refl)
@@ -372,7 +251,7 @@ module _ (g : GridData) (goal x : Cell) (d : Dir) (f : is_free g x ≡ true) (h 
       let walk = run_walked g d k x stop.cell f stop.reached in
       let here : stop.cell ≡ cell_after d near x =
       moved_to d k x stop.cell walk.moved ∙ ap (λ (n : ℕ). cell_after d n x) there.0 in
-      (there.0, ap (λ (v : Cell). sees_from v) (sym here) ∙ there.1)
+      grind (arith, nat_tests)
 
   pub diagonal_goal : IsGoalStop g goal x d entry near (sees_from (cell_after d near x))
   diagonal_goal = record { sound = sound; complete = complete }

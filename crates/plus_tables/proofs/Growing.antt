@@ -1,10 +1,10 @@
 -- Rows that a loop fills, column by column.
-use Rattle.std.proofs.Common.{◌≡◌, ◌≢◌, ℕ, suc, ◌+◌, ◌-◌, ◌<◌, ◌≤◌, arith, Bool, true, false, ◌&&◌, ◌||◌}
-use Rattle.std.proofs.Common.{List, length, refl, ap, sym, ◌∙◌, below_more, get_or-set_other, get_or-set_same}
-use Rattle.std.proofs.Common.{zero, subst, w16, to_z, of_z}
-use Rattle.std.specs.Prelude.{ℤ, pos, negsuc, slice_set, nat_lt}
+use Rattle.std.proofs.Common.{rules}
+use Rattle.std.proofs.Common.{◌≡◌, ◌≢◌, ℕ, ◌+◌, ◌-◌, ◌<◌, ◌≤◌, arith, Bool, true, false, ◌&&◌, ◌||◌}
+use Rattle.std.proofs.Common.{List, length, refl, ap, ◌∙◌, below_more, get_or-set_other, get_or-set_same}
+use Rattle.std.proofs.Common.{w16, to_z, of_z}
+use Rattle.std.specs.Prelude.{ℤ, pos, slice_set}
 use Rattle.std.proofs.lemmas.List.{get_or_past}
-use Rattle.std.proofs.lemmas.Int.{ints}
 use Rattle.std.proofs.lemmas.Bool.Decides.{nat_tests}
 use Rattle.grid_moves.specs.Grid.{GridData, is_free}
 use Rattle.grid_moves.proofs.Legal.{free_inside}
@@ -19,35 +19,13 @@ use Rattle.plus_tables.proofs.Parts.{long_with, read_before, read_behind, read_w
 pub flag_more : (row : List Bool) (x : ℕ) (b : Bool) (P : ℕ → Bool) → x + 1 < length row
     → ((k : ℕ) → k < x → flag row (k + 1) ≡ P k) → b ≡ P x
     → (k : ℕ) → k < x + 1 → flag (slice_set row (x + 1) b) (k + 1) ≡ P k
-flag_more row x b P below known is = below_more (λ k. flag (slice_set row (x + 1) b) (k + 1) ≡ P k) x
-    (λ k h. get_or-set_other row (x + 1) (k + 1) b false (λ same. omega arith) ∙ known k h)
-    (get_or-set_same row (x + 1) b false below ∙ is)
+flag_more row x b P h i j k l = grind (arith, nat_tests, below_more, get_or-set_other, get_or-set_same)
 
 -- what has been read of a row is the row
 pub whole_row : (g : GridData) (y n : ℕ) (row : List Bool) → length row ≡ g.width + 2 → n ≡ g.width
     → flag row 0 ≡ false → flag row (g.width + 1) ≡ false
     → ((k : ℕ) → k < n → flag row (k + 1) ≡ is_free g (record { x = k; y = y })) → IsFlagRow g y row
-whole_row g y n row long all first last read =
-    record { long = long; border = first; cells = λ x. by_test x (nat_lt x n) refl }
-  where
-    outside : (x : ℕ) → g.width ≤ x → is_free g (record { x = x; y = y }) ≡ false
-    outside x h = by_flag (is_free g (record { x = x; y = y })) refl
-      where
-        by_flag : (b : Bool) → is_free g (record { x = x; y = y }) ≡ b → is_free g (record { x = x; y = y })
-            ≡ false
-        by_flag false e = e
-        by_flag true e = absurd (let i = free_inside g (record { x = x; y = y }) e in omega (arith, i.0))
-
-    beyond : (x : ℕ) → g.width ≤ x → (b : Bool) → nat_lt x (g.width + 1) ≡ b → flag row (x + 1) ≡ false
-    beyond x h true e = let same : x ≡ g.width = grind (arith, nat_tests) in
-        ap (λ (k : ℕ). flag row (k + 1)) same ∙ last
-    beyond x h false e = let far : length row ≤ x + 1 = grind (arith, nat_tests) in
-        get_or_past row (x + 1) false far
-
-    by_test : (x : ℕ) (b : Bool) → nat_lt x n ≡ b → flag row (x + 1) ≡ is_free g (record { x = x; y = y })
-    by_test x true e = let below : x < n = grind (arith, nat_tests) in read x below
-    by_test x false e = let past : g.width ≤ x = grind (arith, nat_tests) in
-        beyond x past (nat_lt x (g.width + 1)) refl ∙ sym (outside x past)
+whole_row g y n row h i j k l = grind (arith, nat_tests, free_inside, get_or_past)
 
 -- a row whose cells are read at once
 pub row_read : (g : GridData) (y e : ℕ) (row cells : List Bool) → e ≡ g.width + 1 → length row ≡ g.width + 2
@@ -65,27 +43,11 @@ row_read g y e row cells end long wide first last read =
     one_more : (k : ℕ) → k + 1 ≡ 1 + k
     one_more k = omega arith
 
--- a told entry fits its type
-pub told_fits : (legal mark : Bool) (next r : ℤ)
-    → ((legal ≡ true → IsShort next) → r ≡ told legal mark next) → (legal ≡ true → IsShort next)
-    → to_z w16 (of_z w16 r) ≡ told legal mark next
-told_fits false mark next r is short = let e : r ≡ pos 0 = is short in omega (arith, ints)
-told_fits true true next r is short = let e : r ≡ pos 1 = is short in omega (arith, ints)
-told_fits true false (pos zero) r is short = let e : r ≡ negsuc 0 = is short in omega (arith, ints)
-told_fits true false (pos (suc k)) r is short =
-    let e : r ≡ pos (suc (suc k)) = is short in let high = (short refl).high in omega (arith, ints)
-told_fits true false (negsuc n) r is short =
-    let e : r ≡ negsuc (suc n) = is short in let low = (short refl).low in omega (arith, ints)
-
 -- as it is read
 pub told_read : (legal mark : Bool) (next r : ℤ)
     → ((legal ≡ true → IsShort (to_z w16 (of_z w16 next))) → r ≡ told legal mark (to_z w16 (of_z w16 next)))
     → (legal ≡ true → IsShort next) → to_z w16 (of_z w16 r) ≡ told legal mark next
-told_read false mark next r is short = told_fits false mark (to_z w16 (of_z w16 next)) r is (λ h. absurd (cc))
-told_read true mark next r is short =
-    let e = same_value next next (short refl) refl in
-    told_fits true mark (to_z w16 (of_z w16 next)) r is
-    (λ h. subst (λ (z : ℤ). IsShort z) (sym e) (short refl)) ∙ ap (λ (z : ℤ). told true mark z) e
+told_read legal mark next r h i = grind (arith, nat_tests)
 
 -- and so is the mark beside it
 pub told_across : (legal legal_too mark forced diagonal right left : Bool) (next beside across r : ℤ)
@@ -96,26 +58,8 @@ pub told_across : (legal legal_too mark forced diagonal right left : Bool) (next
     → (legal ≡ true → AreShort next beside across)
     → to_z w16 (of_z w16 r) ≡ told legal (forced || (diagonal && (tells_mark beside || tells_mark across)))
     next
-told_across true l mark forced diagonal right left next beside across r is e m p q short =
-    told_read true (forced || (diagonal && (tells_mark beside || tells_mark across))) next r
-    (subst (λ (k : Bool). (true ≡ true → IsShort (to_z w16 (of_z w16 next)))
-    → r ≡ told true k (to_z w16 (of_z w16 next))) marks
-    (subst (λ (k : Bool). (k ≡ true → IsShort (to_z w16 (of_z w16 next)))
-    → r ≡ told k mark (to_z w16 (of_z w16 next))) e is))
-    (λ h. (short refl).ahead_is)
-  where
-    marks : mark ≡ (forced || (diagonal && (tells_mark beside || tells_mark across)))
-    marks = m ∙ rw (
-      p,
-      q,
-      same_value beside beside (short refl).right_is refl,
-      same_value across across (short refl).left_is refl,
-    ) refl
-told_across false l mark forced diagonal right left next beside across r is e m p q short =
-    told_read false mark next r
-    (subst (λ (k : Bool). (k ≡ true → IsShort (to_z w16 (of_z w16 next)))
-    → r ≡ told k mark (to_z w16 (of_z w16 next))) e is)
-    (λ h. absurd (cc))
+told_across legal legal_too mark forced diagonal right left next beside across r h i j k l m =
+    search (rules, told_read, to_z, of_z, same_value)
 
 -- a number elsewhere stays
 pub number_stays : (row : List ℤ) (x k : ℕ) (v : ℤ) → k ≢ x → number (slice_set row x v) k ≡ number row k
@@ -125,25 +69,14 @@ number_stays row x k v other = get_or-set_other row x k v (pos 0) other
 pub number_more : (row : List ℤ) (x : ℕ) (v : ℤ) (P : ℕ → ℤ → Type 0) → x + 1 < length row
     → ((k : ℕ) → k < x → P k (number row (k + 1))) → P x v
     → (k : ℕ) → k < x + 1 → P k (number (slice_set row (x + 1) v) (k + 1))
-number_more row x v P below known is = below_more (λ k. P k (number (slice_set row (x + 1) v) (k + 1))) x
-    (λ k h. subst (λ (z : ℤ). P k z) (sym (number_stays row (x + 1) (k + 1) v (λ same. omega arith)))
-    (known k h))
-    (subst (λ (z : ℤ). P x z) (sym (get_or-set_same row (x + 1) v (pos 0) below)) is)
+number_more row x v P h i j k l = grind (arith, nat_tests, below_more, number_stays, get_or-set_same)
 
 -- the same where each rests on the one before
 pub number_after : (row : List ℤ) (x : ℕ) (v : ℤ) (P : ℕ → ℤ → ℤ → Type 0) → x + 1 < length row
     → ((k : ℕ) → k < x → P k (number row k) (number row (k + 1))) → P x (number row x) v
     → (k : ℕ) → k < x + 1
     → P k (number (slice_set row (x + 1) v) k) (number (slice_set row (x + 1) v) (k + 1))
-number_after row x v P below known is =
-    below_more (λ k. P k (number (slice_set row (x + 1) v) k) (number (slice_set row (x + 1) v) (k + 1))) x
-    (λ k h. subst (λ (z : ℤ). P k (number (slice_set row (x + 1) v) k) z)
-    (sym (number_stays row (x + 1) (k + 1) v (λ same. omega arith)))
-    (subst (λ (z : ℤ). P k z (number row (k + 1)))
-    (sym (number_stays row (x + 1) k v (λ same. omega arith))) (known k h)))
-    (subst (λ (z : ℤ). P x (number (slice_set row (x + 1) v) x) z)
-    (sym (get_or-set_same row (x + 1) v (pos 0) below))
-    (subst (λ (z : ℤ). P x z v) (sym (number_stays row (x + 1) x v (λ same. omega arith))) is))
+number_after row x v P h i j k l = grind (arith, nat_tests, below_more, number_stays, get_or-set_same)
 
 -- and from the right end, where each rests on the one behind
 pub number_before : (row : List ℤ) (x n : ℕ) (v : ℤ) (P : ℕ → ℤ → ℤ → Type 0) → x + 1 < length row
@@ -151,25 +84,4 @@ pub number_before : (row : List ℤ) (x n : ℕ) (v : ℤ) (P : ℕ → ℤ → 
     (number row (x + 2)) v
     → (k : ℕ) → x ≤ k → k < n
     → P k (number (slice_set row (x + 1) v) (k + 2)) (number (slice_set row (x + 1) v) (k + 1))
-number_before row x n v P below known is k from upto = by_test (nat_lt x k) refl
-  where
-    further : (k : ℕ) → x ≤ k → number row (k + 2) ≡ number (slice_set row (x + 1) v) (k + 2)
-    further k h = sym (number_stays row (x + 1) (k + 2) v (λ same. omega arith))
-
-    at : P x (number (slice_set row (x + 1) v) (x + 2)) (number (slice_set row (x + 1) v) (x + 1))
-    at = subst (λ (z : ℤ). P x (number (slice_set row (x + 1) v) (x + 2)) z)
-        (sym (get_or-set_same row (x + 1) v (pos 0) below))
-        (subst (λ (z : ℤ). P x z v) (further x (omega arith)) is)
-
-    by_test : (b : Bool) → nat_lt x k ≡ b
-        → P k (number (slice_set row (x + 1) v) (k + 2)) (number (slice_set row (x + 1) v) (k + 1))
-    by_test true e =
-        let after : x + 1 ≤ k = grind (arith, nat_tests) in
-        subst (λ (z : ℤ). P k (number (slice_set row (x + 1) v) (k + 2)) z)
-        (sym (number_stays row (x + 1) (k + 1) v (λ same. omega arith)))
-        (subst (λ (z : ℤ). P k z (number row (k + 1))) (further k from) (known k after upto))
-    by_test false e =
-        let same : x ≡ k = grind (arith, nat_tests) in
-        subst (λ (m : ℕ). P m (number (slice_set row (x + 1) v) (m + 2))
-        (number (slice_set row (x + 1) v) (m + 1)))
-        same at
+number_before row x n v P h i j k l m = grind (arith, nat_tests, number_stays, get_or-set_same)

@@ -1,5 +1,6 @@
 -- Lines that are laid into rows of entries.
-use Rattle.std.proofs.Common.{◌≡◌, ◌≢◌, ℕ, ◌+◌, ◌-◌, ◌*◌, ◌<◌, ◌≤◌, arith, Bool, true, false, not, ◌&&◌, ◌||◌}
+use Rattle.std.proofs.lemmas.Grind.{common_steps}
+use Rattle.std.proofs.Common.{◌≡◌, ◌≢◌, ℕ, ◌+◌, ◌-◌, ◌*◌, ◌<◌, ◌≤◌, arith, Bool, true, false, not, ◌||◌}
 use Rattle.std.proofs.Common.{List, [], ◌∷◌, length, refl, ap, sym, ◌∙◌, subst, get_or-set_same, length-set}
 use Rattle.std.proofs.Common.{w16, to_z, of_z}
 use Rattle.std.specs.Prelude.{ℤ, pos, nat_lt, nat_le}
@@ -9,7 +10,6 @@ use Rattle.grid_moves.specs.declared.Dir.{Dir}
 use Rattle.grid_moves.specs.declared.Dir.TheVariants.{N, NE, E, SE, S, SW, W, NW}
 use Rattle.grid_moves.specs.Grid.{GridData, IsGrid, cell_number, is_inside}
 use Rattle.grid_moves.specs.Move.{dir_number, is_dir}
-use Rattle.grid_moves.proofs.Legal.{and_both}
 use Rattle.grid_moves.proofs.Places.{number_below}
 use Rattle.grid_moves.proofs.Dirs.{dir_number-few}
 use Rattle.pruning.proofs.Table.{at_dir, same_dir, same_bool, same_bool-is, by_test}
@@ -18,9 +18,9 @@ use Rattle.plus_tables.specs.declared.heading.Heading.TheVariants.{Upwards, Down
 use Rattle.plus_tables.specs.declared.lines.Line.{Line}
 use Rattle.plus_tables.specs.Tables.{IsShort, entry_place}
 use Rattle.plus_tables.specs.Sweep.{AreRight, is_upward, is_swept, nth_row, swept}
-use Rattle.plus_tables.specs.Rows.{number, flipped, is_along, seen, IsEntryRow}
+use Rattle.plus_tables.specs.Rows.{number, is_along, IsEntryRow}
 use Rattle.plus_tables.specs.Lines.{AreAhead, AreAlong}
-use Rattle.plus_tables.specs.Laid.{with_entry, with_cell, seen_part, part, as_tables, rows_there, AreLaid}
+use Rattle.plus_tables.specs.Laid.{with_entry, with_cell, part, as_tables, rows_there, AreLaid}
 use Rattle.plus_tables.specs.Laid.{AreSwept, IsAlongRight, IsRowSwept}
 use Rattle.plus_tables.proofs.Lining.{along_seen}
 use Rattle.plus_tables.specs.Entry.{table_entry}
@@ -45,21 +45,14 @@ dirs_of Upwards = W ∷ E ∷ NW ∷ NE ∷ N ∷ []
 dirs_of Downwards = SW ∷ SE ∷ S ∷ []
 
 dirs_are : (h : Heading) (e : Dir) → is_swept h e ≡ among (dirs_of h) e
-dirs_are Upwards e =
-    same_bool-is _ _ (at_dir (λ e. same_bool (is_swept Upwards e) (among (dirs_of Upwards) e)) refl e)
-dirs_are Downwards e =
-    same_bool-is _ _ (at_dir (λ e. same_bool (is_swept Downwards e) (among (dirs_of Downwards) e)) refl e)
+dirs_are h e = grind (arith, nat_tests)
 
 itself : (d : Dir) → is_dir d d ≡ true
 itself d = at_dir (λ d. is_dir d d) refl d
 
 -- two entries of a row are one only for one direction
 same_entry : (k x : ℕ) (d e : Dir) → k * 8 + dir_number e ≡ x * 8 + dir_number d → is_dir e d ≡ true
-same_entry k x d e h =
-    let few = dir_number-few d in
-    let less = dir_number-few e in
-    let same : dir_number e ≡ dir_number d = omega arith in
-    grind (arith, nat_tests)
+same_entry k x d e h = grind (arith, nat_tests)
 
 module _ (row : List ℤ) (x : ℕ) (room : x * 8 + 7 < length row) where
   module _ (told : Dir → ℤ) where
@@ -156,38 +149,12 @@ pub row_begins : (y w v : ℕ) → w ≡ v → y * (w * 8) ≡ y * v * 8
 row_begins y w v e = ap (λ (n : ℕ). y * (n * 8)) e ∙ omega arith
 
 pub row_ends : (y h w n : ℕ) → y < h → n ≡ h * w * 8 → y * (w * 8) + w * 8 ≤ n
-row_ends y h w n some e =
-    let rest : h ≡ y + 1 + (h - (y + 1)) = omega arith in
-    let all = e ∙ ap (λ (m : ℕ). m * w * 8) rest in below (h - (y + 1)) all
-  where
-    below : (r : ℕ) → n ≡ (y + 1 + r) * w * 8 → y * (w * 8) + w * 8 ≤ n
-    below r all = omega (arith, all)
-
--- the rows of a line are the entries of their directions
-seen_parts : (g : GridData) (h : Heading) (y : ℕ) (line : Line) → AreAhead g h y line → AreAlong g y line
-    → (e : Dir) → is_upward e ≡ true → IsEntryRow g y (seen h e) (seen_part line e)
-seen_parts g h y line told along N is = told.ahead
-seen_parts g h y line told along NE is = told.ahead_east
-seen_parts g h y line told along E is = (along_seen g h y along).0
-seen_parts g h y line told along SE is = absurd (cc)
-seen_parts g h y line told along S is = absurd (cc)
-seen_parts g h y line told along SW is = absurd (cc)
-seen_parts g h y line told along W is = (along_seen g h y along).1
-seen_parts g h y line told along NW is = told.ahead_west
+row_ends y h w n some e = grind (arith, nat_tests)
 
 parts : (g : GridData) (h : Heading) (y : ℕ) (line : Line) → AreAhead g h y line → AreAlong g y line
     → (e : Dir)
     → is_swept h e ≡ true → IsEntryRow g y e (part h line e)
-parts g Upwards y line told along e is = seen_parts g Upwards y line told along e is
-parts g Downwards y line told along e is =
-    subst (λ (d : Dir). IsEntryRow g y d (seen_part line (flipped e)))
-    (same_dir _ _ (at_dir (λ e. is_dir (flipped (flipped e)) e) refl e))
-    (seen_parts g Downwards y line told along (flipped e)
-    (by_both _ _ (at_dir (λ e. is_upward e || is_upward (flipped e)) refl e) is))
-  where
-    by_both : (a b : Bool) → (a || b) ≡ true → not a ≡ true → b ≡ true
-    by_both true b e f = absurd (cc)
-    by_both false b e f = e
+parts g h y line i j e k = grind (arith, nat_tests)
 
 pub row_swept : (g : GridData) → IsGrid g → (h : Heading) (y : ℕ) (line : Line) (old new : List ℤ)
     → AreAhead g h y line → AreAlong g y line → y < g.height → AreLaid h line g.width old new
@@ -213,12 +180,10 @@ module _ (g : GridData) (h : Heading) (y start k : ℕ) (all row : List ℤ) (be
   inside = omega (arith, room)
 
   filled : length row ≡ k
-  filled = swept_row.long ∙ ap (λ (n : ℕ). length (mid_of start n all)) (sym (spread start k))
-      ∙ mid_len start (start + k) all room ∙ spread start k
+  filled = grind (arith, common_steps, mid_of, spread, mid_len)
 
   as_long : length (put_mid start k all row) ≡ length all
-  as_long = ap (λ (n : ℕ). length (put_mid start n all row)) (sym (spread start k))
-      ∙ long_with start (start + k) all row (omega arith) room (filled ∙ sym (spread start k))
+  as_long = grind (arith, common_steps, put_mid, spread, long_with, filled)
 
   module _ (c : Cell) (e : Dir) (on : is_inside g c ≡ true) where
     place : ℕ
@@ -226,40 +191,24 @@ module _ (g : GridData) (h : Heading) (y start k : ℕ) (all row : List ℤ) (be
 
     on_row : c.y ≡ y → place ≡ start + (c.x * 8 + dir_number e)
     unfolding place
-    on_row same = ap (λ (n : ℕ). (n * g.width + c.x) * 8 + dir_number e) same
-        ∙ among_these y g.width c.x (dir_number e) start begins
+    on_row same = grind (arith, nat_tests)
 
     in_row : c.x * 8 + dir_number e < k
-    in_row =
-        let few = dir_number-few e in
-        let column : c.x < g.width = grind (arith, nat_tests) in
-        omega (arith, wide)
+    in_row = grind (arith, nat_tests)
 
     told_here : c.y ≡ y → is_swept h e ≡ true → number final place ≡ table_entry g c e
     unfolding final
-    told_here same is =
-        let column : c.x < g.width = grind (arith, nat_tests) in
-        ap (λ (n : ℕ). number final n) (on_row same)
-        ∙ read_within start k all row (pos 0) inside (c.x * 8 + dir_number e) (omega (arith, filled, in_row))
-        ∙ swept_row.told c.x e column is
-        ∙ ap (λ (n : ℕ). table_entry g (record { x = c.x; y = n }) e) (sym same)
+    told_here same is = grind (arith, nat_tests, final, on_row, read_within, inside, filled, in_row)
 
     kept_here : c.y ≡ y → is_swept h e ≡ false → number final place ≡ number all place
     unfolding final
     kept_here same is =
-        ap (λ (n : ℕ). number final n) (on_row same)
-        ∙ read_within start k all row (pos 0) inside (c.x * 8 + dir_number e) (omega (arith, filled, in_row))
-        ∙ swept_row.others c.x e is ∙ read_part start k all (c.x * 8 + dir_number e) (pos 0) in_row
-        ∙ ap (λ (n : ℕ). number all n) (sym (on_row same))
+        grind (arith, nat_tests, final, on_row, read_within, inside, filled, in_row, read_part)
 
     kept_above : c.y < y → number final place ≡ number all place
     unfolding final place
     kept_above up =
-        let few = dir_number-few e in
-        let column : c.x < g.width = grind (arith, nat_tests) in
-        read_before start k all row (pos 0) inside place
-        (earlier (cell_number g.width c) (y * g.width) (dir_number e) start
-        (number_below g.width y c column up) few begins)
+        grind (arith, nat_tests, dir_number-few, read_before, inside, place, earlier, number_below)
 
     kept_below : y < c.y → number final place ≡ number all place
     unfolding final place
@@ -276,46 +225,21 @@ module _ (g : GridData) (h : Heading) (y start k : ℕ) (all row : List ℤ) (be
       → ((c : Cell) (e : Dir) → after c e ≡ true → c.y ≢ y → before c e ≡ true)
       → AreRight (as_tables g (put_mid start k all row)) g after
   unfolding final place
-  right_swept before after was here elsewhere = record {
-    sized = record { width = refl; height = refl; corner = refl };
-    right = λ c e on l. by_row c e on l (nat_lt c.y y) refl (nat_lt y c.y) refl;
-  }
-    where
-      by_row : (c : Cell) (e : Dir) (on : is_inside g c ≡ true) → after c e ≡ true → (a : Bool)
-          → nat_lt c.y y ≡ a → (b : Bool) → nat_lt y c.y ≡ b → number final (place c e on) ≡ table_entry g c e
-      by_row c e on l true up b u =
-          let row_above : c.y < y = grind (arith, nat_tests) in
-          kept_above c e on row_above ∙ was c e on (elsewhere c e l (λ s. omega arith))
-      by_row c e on l false up true down =
-          let row_below : y < c.y = grind (arith, nat_tests) in
-          kept_below c e on row_below ∙ was c e on (elsewhere c e l (λ s. omega arith))
-      by_row c e on l false up false down =
-          let same : c.y ≡ y = grind (arith, nat_tests) in by_dir same (is_swept h e) refl
-        where
-          by_dir : c.y ≡ y → (b : Bool) → is_swept h e ≡ b → number final (place c e on) ≡ table_entry g c e
-          by_dir same true is = told_here c e on same is
-          by_dir same false is = kept_here c e on same is ∙ was c e on (here c e l same is)
+  right_swept before after h i j =
+      grind (arith, nat_tests, elsewhere, final, place, kept_above, kept_below, told_here, kept_here)
 
 -- one more row is swept: what was right stays so, and lies in rows that are there
 module _ (height n : ℕ) (below : n < height) (c : Cell) (e : Dir) where
   here_before : (h : Heading) → swept h height (n + 1) c e ≡ true → c.y ≡ nth_row h height n
       → is_swept h e ≡ false → swept h height n c e ≡ true
-  here_before Upwards i at is = absurd (let up = (and_both (is_upward e) (nat_lt c.y (n + 1)) i).0 in cc)
-  here_before Downwards i at is = by_test (is_upward e) is
-    where
-      by_test : (b : Bool) → not b ≡ false → (b || nat_le (height - n) c.y) ≡ true
-      by_test true is = refl
-      by_test false is = absurd (cc)
+  here_before h i j k = grind (arith, nat_tests)
 
   elsewhere_before : (h : Heading) → swept h height (n + 1) c e ≡ true → c.y ≢ nth_row h height n
       → swept h height n c e ≡ true
-  elsewhere_before Upwards i off = grind (arith, nat_tests)
-  elsewhere_before Downwards i off = grind (arith, nat_tests)
+  elsewhere_before h i j = grind (arith, nat_tests)
 
   there_before : (h : Heading) → c.y < height → swept h height n c e ≡ true → c.y < rows_there h height n
-  there_before Upwards low i = let up = (and_both (is_upward e) (nat_lt c.y n) i).1 in
-      grind (arith, nat_tests)
-  there_before Downwards low i = low
+  there_before h i j = grind (arith, nat_tests)
 
 long_on : (h : Heading) (height w n y start k old all : ℕ) → n < height → y ≡ nth_row h height n
     → start ≡ y * w * 8 → k ≡ w * 8 → old ≡ rows_there h height n * w * 8
@@ -381,19 +305,3 @@ along_right g Downwards n y start k old all below at known same begins wide x e 
     before : (up : Bool) → not up ≡ false → (up || nat_le (g.height - n) y) ≡ true
     before true is = refl
     before false is = absurd (cc)
-
--- the sweep that heads down begins where the other one ended
-pub swept_up : (g : GridData) (entries : List ℤ) → AreSwept g Upwards g.height entries
-    → AreSwept g Downwards 0 entries
-swept_up g entries up = record {
-  long = up.long;
-  right = record {
-    sized = up.right.sized;
-    right = λ c d inside h. up.right.right c d inside (upward (is_upward d) c inside h);
-  };
-}
-  where
-    upward : (b : Bool) (c : Cell) → is_inside g c ≡ true → (b || nat_le (g.height - 0) c.y) ≡ true
-        → (b && nat_lt c.y g.height) ≡ true
-    upward true c inside h = (and_both (nat_lt c.x g.width) (nat_lt c.y g.height) inside).1
-    upward false c inside h = absurd (grind (arith, nat_tests))

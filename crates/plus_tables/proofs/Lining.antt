@@ -1,24 +1,23 @@
 -- Rows as code hands them over, and from one row to the next.
 use Rattle.std.proofs.Common.{◌≡◌, ℕ, suc, ◌+◌, ◌-◌, ◌*◌, ◌<◌, ◌≤◌, arith, Bool, true, false, List, length}
-use Rattle.std.proofs.Common.{refl, ap, sym, ◌∙◌, subst}
-use Rattle.std.specs.Prelude.{ℤ, Some, replicate, nat_lt}
+use Rattle.std.proofs.Common.{ap, sym, ◌∙◌, subst}
+use Rattle.std.specs.Prelude.{ℤ, Some, replicate}
 use Rattle.std.proofs.lemmas.Bool.Decides.{nat_tests}
 use Rattle.std.proofs.lemmas.List.{get_or-replicate, length-replicate, get_or_past, with_items_is}
 use Rattle.std.specs.Vec.{with_items}
 use Rattle.grid_moves.specs.declared.Dir.{Dir}
 use Rattle.grid_moves.specs.declared.Dir.TheVariants.{N, NE, E, S, W, NW}
-use Rattle.grid_moves.specs.Grid.{GridData, IsGrid, is_free}
+use Rattle.grid_moves.specs.Grid.{GridData, IsGrid}
 use Rattle.grid_moves.specs.Move.{dir_number, row_ahead}
-use Rattle.grid_moves.proofs.Legal.{and_both, free_inside}
+use Rattle.grid_moves.proofs.Legal.{free_inside}
 use Rattle.plus_tables.specs.declared.lines.Line.{Line}
 use Rattle.plus_tables.specs.declared.lines.Band.{Band}
 use Rattle.plus_tables.specs.declared.lines.Rows.{Rows}
-use Rattle.plus_tables.specs.Entry.{table_entry}
 use Rattle.plus_tables.specs.Sweep.{is_swept, nth_row, IsNext}
 use Rattle.plus_tables.specs.Laid.{IsAlongRight}
 use Rattle.plus_tables.specs.declared.heading.Heading.{Heading}
 use Rattle.plus_tables.specs.declared.heading.Heading.TheVariants.{Upwards, Downwards}
-use Rattle.plus_tables.specs.Rows.{flag, number, IsEntryRow, IsFlagRow, IsRowAt, is_along, seen, AreRowsSeen}
+use Rattle.plus_tables.specs.Rows.{number, IsEntryRow, IsFlagRow, IsRowAt, is_along, seen, AreRowsSeen}
 use Rattle.plus_tables.specs.Lines.{AreAhead, AreAlong, IsLong, IsReady, IsKept, IsBlank}
 use Rattle.plus_tables.proofs.Rowing.{value_is}
 
@@ -38,28 +37,7 @@ flags_as g n row same e is = rw e is
 -- a row in which none is set is one below the map
 pub blank_row : (g : GridData) (n : ℕ) (row : List Bool) → row ≡ replicate (g.width + 2) false → g.height ≤ n
     → IsFlagRow g n row
-blank_row g n row e far = record {
-  long = ap length e ∙ length-replicate (g.width + 2) false;
-  border = ap (λ (r : List Bool). flag r 0) e ∙ never 0;
-  cells = λ x. ap (λ (r : List Bool). flag r (x + 1)) e ∙ never (x + 1)
-      ∙ sym (by_test x (is_free g (record { x = x; y = n })) refl);
-}
-  where
-    never : (k : ℕ) → flag (replicate (g.width + 2) false) k ≡ false
-    never k = by_place k (nat_lt k (g.width + 2)) refl
-      where
-        by_place : (k : ℕ) (b : Bool) → nat_lt k (g.width + 2) ≡ b
-            → flag (replicate (g.width + 2) false) k ≡ false
-        by_place k true h = get_or-replicate (g.width + 2) k false false (grind (arith, nat_tests))
-        by_place k false h =
-            let past : g.width + 2 ≤ k = grind (arith, nat_tests) in
-            get_or_past (replicate (g.width + 2) false) k false
-            (omega (arith, past, length-replicate (g.width + 2) false))
-
-    by_test : (x : ℕ) (b : Bool) → is_free g (record { x = x; y = n }) ≡ b
-        → is_free g (record { x = x; y = n }) ≡ false
-    by_test x false e = e
-    by_test x true e = absurd (let i = free_inside g (record { x = x; y = n }) e in omega (arith, i.1))
+blank_row g n row h i = grind (arith, nat_tests, length-replicate, get_or-replicate, get_or_past, free_inside)
 
 -- the rows beside a row
 pub row_itself : (y : ℕ) → IsRowAt (Some y) y
@@ -73,34 +51,27 @@ row_under y n e = subst (λ (m : ℕ). IsRowAt (row_ahead S y) m) (sym e) (row_i
 
 -- and the row that is swept next sees this one ahead
 pub row_next : (h : Heading) (y n : ℕ) → IsNext h y n → IsRowAt (row_ahead (seen h N) n) y
-row_next Upwards y n next = row_over n y (omega arith)
-row_next Downwards y n next = row_under n y next
+row_next h y n i = grind (arith, nat_tests)
 
 pub next_row : (h : Heading) (height n y : ℕ) → n + 1 < height → y ≡ nth_row h height n
     → IsNext h y (nth_row h height (n + 1))
-next_row Upwards height n y more at = omega arith
-next_row Downwards height n y more at = omega arith
+next_row h height n y i j = grind (arith, nat_tests)
 
 -- all that leads ahead leads to one row
 pub leads_ahead : (h : Heading) (y m : ℕ) → IsRowAt (row_ahead (seen h N) y) m
     → IsRowAt (row_ahead (seen h NE) y) m × IsRowAt (row_ahead (seen h NW) y) m
-leads_ahead Upwards y m lies = (lies, lies)
-leads_ahead Downwards y m lies = (lies, lies)
+leads_ahead h y m i = grind (arith, nat_tests)
 
 -- E and W are E and W on both maps
 pub along_seen : (g : GridData) (h : Heading) (m : ℕ) {line : Line} → AreAlong g m line
     → IsEntryRow g m (seen h E) line.east.items × IsEntryRow g m (seen h W) line.west.items
-along_seen g Upwards m along = (along.east, along.west)
-along_seen g Downwards m along = (along.east, along.west)
+along_seen g h m i = grind (arith, nat_tests)
 
 -- the entries along a row, as they are read back
 pub taken : (g : GridData) (h : Heading) (y : ℕ) (row out : List ℤ) (d : Dir) → is_along d ≡ true
     → is_swept h d ≡ false → IsAlongRight g h y row
     → ((x : ℕ) → x < g.width → number out (x + 1) ≡ number row (x * 8 + dir_number d)) → IsEntryRow g y d out
-taken g h y row out d along off right read v at inside =
-    let column : v.x < g.width = grind (arith, nat_tests) in
-    read v.x column ∙ right v.x d column along off
-    ∙ ap (λ (n : ℕ). table_entry g (record { x = v.x; y = n }) d) (sym at)
+taken g h y row out d along off right read v at inside = grind (arith, nat_tests)
 
 -- rows of flags with another one behind
 abbrev pub with_back : Band → List Bool → Band
@@ -125,13 +96,7 @@ pub lines_told : (g : GridData) (h : Heading) (y : ℕ) (this : Line) (east west
     → IsEntryRow g y E east → IsEntryRow g y W west → length east ≡ this.east.len
     → length west ≡ this.west.len
     → AreAhead g h y (with_along this east west) × AreAlong g y (with_along this east west)
-lines_told g h y this east west told east_is west_is east_fits west_fits = (
-  record { ahead = told.ahead; ahead_east = told.ahead_east; ahead_west = told.ahead_west },
-  record {
-    east = entries_as g y E east _ (with_items_is this.east east east_fits) east_is;
-    west = entries_as g y W west _ (with_items_is this.west west west_fits) west_is;
-  },
-)
+lines_told g h y this east west i j k l m = grind (arith, nat_tests, entries_as, with_items_is)
 
 -- once the row behind is read
 module _ {g : GridData} {h : Heading} {y n : ℕ} {band : Band} {last : Line} {row : List Bool}
@@ -160,29 +125,7 @@ module _ {g : GridData} {h : Heading} {y n : ℕ} {band : Band} {last : Line} {r
 
   -- the row and the two beside it
   around_row : AreRowsSeen g h y band.next.items band.here.items (with_items band.back row).items
-  around_row = by_heading h ready.rows.ahead_is lies
-    where
-      by_heading : (h : Heading) → IsRowAt (row_ahead (seen h N) y) ready.rows.ahead
-          → IsRowAt (row_ahead (seen h S) y) n
-          → AreRowsSeen g h y band.next.items band.here.items (with_items band.back row).items
-      by_heading Upwards ahead behind = record {
-        upper = ready.rows.ahead;
-        lower = n;
-        upper_is = ahead;
-        lower_is = behind;
-        above_is = ready.rows.next_is;
-        here_is = ready.rows.here_is;
-        below_is = behind_is;
-      }
-      by_heading Downwards ahead behind = record {
-        upper = n;
-        lower = ready.rows.ahead;
-        upper_is = behind;
-        lower_is = ahead;
-        above_is = behind_is;
-        here_is = ready.rows.here_is;
-        below_is = ready.rows.next_is;
-      }
+  around_row = grind (arith, nat_tests, behind_is)
 
   pub read_behind : IsReady g h y (with_back band row) last
       × AreRowsSeen g h y band.next.items band.here.items (with_items band.back row).items
@@ -201,15 +144,7 @@ module _ {g : GridData} {h : Heading} {y n : ℕ} {band : Band} {last : Line} {r
     line = lines_told g h y this east west told east_is west_is east_fits west_fits
 
     long_on : IsLong g (with_along this east west)
-    long_on = record {
-      ahead = long.ahead;
-      ahead_east = long.ahead_east;
-      ahead_west = long.ahead_west;
-      east = ap (λ (r : List ℤ). length r) (with_items_is this.east east east_fits)
-          ∙ omega (arith, long.east, this.east.ok.0);
-      west = ap (λ (r : List ℤ). length r) (with_items_is this.west west west_fits)
-          ∙ omega (arith, long.west, this.west.ok.0);
-    }
+    long_on = grind (arith, nat_tests)
 
     pub kept_on : IsKept g h n rows
     kept_on = record {
@@ -237,12 +172,7 @@ module _ {g : GridData} {h : Heading} {y n : ℕ} {band : Band} {last : Line} {r
 
 -- before the first row
 nothing : (g : GridData) → IsGrid g → (d : Dir) (row : List ℤ) (n : ℕ) → g.height ≤ n → IsEntryRow g n d row
-nothing g whole d row n far v e inside =
-    absurd (let both = and_both (nat_lt v.x g.width) (nat_lt v.y g.height) inside in
-    let row_below : v.y < g.height = below v.y g.height both.1 in omega arith)
-  where
-    below : (m n : ℕ) → nat_lt m n ≡ true → m < n
-    below m n h = grind (arith, nat_tests)
+nothing g whole d row n far v e inside = grind (arith, nat_tests)
 
 module _ (g : GridData) (whole : IsGrid g) (rows begun : Rows) (blank : IsBlank g rows)
     (far : begun.band.far.items ≡ rows.band.far.items) (next : begun.band.next.items ≡ rows.band.next.items)

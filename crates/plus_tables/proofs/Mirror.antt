@@ -1,21 +1,19 @@
 -- A map that is turned upside down: moves, forced neighbours and entries are those of the directions turned
 -- so.
-use Rattle.std.proofs.Common.{◌≡◌, arith, ℕ, ◌+◌, ◌-◌, ◌<◌, Bool, true, not, ◌&&◌, ◌||◌, List, length, refl}
+use Rattle.std.proofs.lemmas.Bool.Decides.{nat_tests}
+use Rattle.std.proofs.Common.{◌≡◌, arith, ℕ, ◌+◌, ◌-◌, ◌<◌, Bool, true, ◌&&◌, ◌||◌, List, length}
 use Rattle.std.proofs.Common.{ap, sym, ◌∙◌, subst}
 use Rattle.std.specs.Prelude.{ℤ}
 use Rattle.grid_moves.specs.declared.Corner.{Corner}
 use Rattle.grid_moves.specs.declared.Dir.{Dir}
-use Rattle.grid_moves.specs.declared.Dir.TheVariants.{N, NE, E, SE, S, SW, W, NW}
 use Rattle.grid_moves.specs.Grid.{GridData, IsGrid}
-use Rattle.grid_moves.specs.Move.{is_dir, row_ahead}
-use Rattle.grid_moves.specs.Ring.{is_free_on, is_shut, leads_on}
+use Rattle.grid_moves.specs.Move.{row_ahead}
+use Rattle.grid_moves.specs.Ring.{leads_on}
 use Rattle.pruning.specs.declared.turns.Side.{Side}
 use Rattle.pruning.specs.declared.turns.Side.TheVariants.{Right, Left}
-use Rattle.pruning.specs.Turns.{turn, quarter, rear, is_diagonal}
-use Rattle.pruning.specs.Marked.{is_forced_on}
+use Rattle.pruning.specs.Turns.{turn, is_diagonal}
 use Rattle.pruning.specs.Ring.{forced_beside, forced_on}
-use Rattle.pruning.proofs.Table.{other, at_both, at_dir, same_bool, same_bool-is, same_dir}
-use Rattle.plus_tables.specs.Local.{tells_mark}
+use Rattle.pruning.proofs.Table.{other}
 use Rattle.plus_tables.specs.declared.heading.Heading.{Heading}
 use Rattle.plus_tables.specs.declared.heading.Heading.TheVariants.{Upwards, Downwards}
 use Rattle.plus_tables.specs.Rows.{flag, number, ring_of, place_after, told, legal_by, mark_by, IsRowAt}
@@ -24,100 +22,40 @@ use Rattle.plus_tables.specs.Rows.{AreRowsSeen}
 use Rattle.plus_tables.proofs.Rowing.{forced_if, told_row}
 
 turn_flipped : (s : Side) (d : Dir) → turn s (flipped d) ≡ flipped (turn (other s) d)
-turn_flipped s d =
-    same_dir _ _ (at_both (λ s d. is_dir (turn s (flipped d)) (flipped (turn (other s) d))) refl s d)
-
-quarter_flipped : (s : Side) (d : Dir) → quarter s (flipped d) ≡ flipped (quarter (other s) d)
-quarter_flipped s d = ap (λ (e : Dir). turn s e) (turn_flipped s d) ∙ turn_flipped s (turn (other s) d)
-
-rear_flipped : (s : Side) (d : Dir) → rear s (flipped d) ≡ flipped (rear (other s) d)
-rear_flipped s d = ap (λ (e : Dir). turn s e) (quarter_flipped s d) ∙ turn_flipped s (quarter (other s) d)
+turn_flipped s d = grind (arith, nat_tests)
 
 diagonal_flipped : (d : Dir) → is_diagonal (flipped d) ≡ is_diagonal d
-diagonal_flipped d =
-    same_bool-is _ _ (at_dir (λ d. same_bool (is_diagonal (flipped d)) (is_diagonal d)) refl d)
+diagonal_flipped d = grind (arith, nat_tests)
 
 place_flipped : (d : Dir) (x : ℕ) → place_after d x ≡ place_after (flipped d) x
-place_flipped N x = refl
-place_flipped NE x = refl
-place_flipped E x = refl
-place_flipped SE x = refl
-place_flipped S x = refl
-place_flipped SW x = refl
-place_flipped W x = refl
-place_flipped NW x = refl
+place_flipped d x = grind (arith, nat_tests)
 
 either_way : (a b : Bool) → (a || b) ≡ (b || a)
 either_way a b = grind arith
 
 module _ (r : Corner) (a h b : List Bool) (x : ℕ) where
-  open_flipped : (d : Dir) → is_free_on (ring_of b h a x) (flipped d) ≡ is_free_on (ring_of a h b x) d
-  open_flipped N = refl
-  open_flipped NE = refl
-  open_flipped E = refl
-  open_flipped SE = refl
-  open_flipped S = refl
-  open_flipped SW = refl
-  open_flipped W = refl
-  open_flipped NW = refl
-
   can_flipped : (d : Dir) → leads_on r (ring_of b h a x) (flipped d) ≡ leads_on r (ring_of a h b x) d
-  can_flipped N = refl
-  can_flipped NE = refl
-  can_flipped E = refl
-  can_flipped SE = refl
-  can_flipped S = refl
-  can_flipped SW = refl
-  can_flipped W = refl
-  can_flipped NW = refl
+  can_flipped d = grind (arith, nat_tests)
 
   legal_flipped : (d : Dir) → legal_by r a h b d x ≡ legal_by r b h a (flipped d) x
   legal_flipped d = ap (λ (k : Bool). flag h (x + 1) && k) (sym (can_flipped d))
 
   forced_on_flipped : (d : Dir) (s : Side)
       → forced_beside r (ring_of b h a x) (flipped d) s ≡ forced_beside r (ring_of a h b x) d (other s)
-  forced_on_flipped d s = by_rule r (is_shut (ring_of b h a x)) (leads_on r (ring_of b h a x))
-      (is_shut (ring_of a h b x)) (leads_on r (ring_of a h b x))
-      (λ e. ap not (open_flipped e)) can_flipped
-    where
-      by_rule : (r : Corner) (i p j q : Dir → Bool) → ((e : Dir) → i (flipped e) ≡ j e)
-          → ((e : Dir) → p (flipped e) ≡ q e) → is_forced_on r i p (flipped d) s
-          ≡ is_forced_on r j q d (other s)
-      by_rule r i p j q same too = rw (
-        diagonal_flipped d,
-        rear_flipped s d,
-        quarter_flipped s d,
-        turn_flipped s d,
-        same (rear (other s) d),
-        same (quarter (other s) d),
-        too (quarter (other s) d),
-        too (turn (other s) d),
-      ) refl
+  forced_on_flipped d s = grind (arith, nat_tests)
 
   forced_flipped : (d : Dir) → forced_on r (ring_of a h b x) d ≡ forced_on r (ring_of b h a x) (flipped d)
-  forced_flipped d =
-      either_way (forced_beside r (ring_of a h b x) d Right) (forced_beside r (ring_of a h b x) d Left)
-      ∙ both _ _ _ _ (sym (forced_on_flipped d Right)) (sym (forced_on_flipped d Left))
-    where
-      both : (a b p q : Bool) → a ≡ p → b ≡ q → (a || b) ≡ (p || q)
-      both a b p q e f = rw (e, f) refl
+  forced_flipped d = grind (arith, nat_tests, either_way, forced_on_flipped)
 
 mark_flipped : (forced : List Bool) (right left : List ℤ) (d : Dir) (at : ℕ)
     → mark_by forced right left d at ≡ mark_by forced left right (flipped d) at
-mark_flipped forced right left d at =
-    rw (diagonal_flipped d, either_way (tells_mark (number right at)) (tells_mark (number left at))) refl
+mark_flipped forced right left d at = grind (arith, nat_tests)
 
 -- the entry of one column
 told_flipped : (legal same mark alike : Bool) (out next right left : ℤ) → legal ≡ same → mark ≡ alike
     → ((legal ≡ true → AreShort next right left) → out ≡ told legal mark next)
     → (same ≡ true → AreShort next left right) → out ≡ told same alike next
-told_flipped legal same mark alike out next right left e m is short =
-    is (λ h. let three = short (sym e ∙ h) in record {
-      ahead_is = three.ahead_is;
-      right_is = three.left_is;
-      left_is = three.right_is;
-    })
-    ∙ ap (λ (b : Bool). told b mark next) e ∙ ap (λ (b : Bool). told same b next) m
+told_flipped legal same mark alike out next right left e m is short = grind (arith, nat_tests)
 
 module _ (g : GridData) (whole : IsGrid g) where
   -- where a neighbour is forced

@@ -1,12 +1,12 @@
 -- An entry is told by right entries at the next cell.
-use Rattle.std.proofs.Common.{◌≡◌, ℕ, ◌<◌, arith, true, false, refl, sym, ◌∙◌}
-use Rattle.std.specs.Prelude.{pos, Some, None, nat_lt, if◌then◌else◌}
+use Rattle.std.proofs.Common.{◌≡◌, arith, true, false, refl, sym, ◌∙◌}
+use Rattle.std.specs.Prelude.{pos, Some, if◌then◌else◌}
 use Rattle.std.proofs.lemmas.Bool.Decides.{nat_tests}
 use Rattle.grid_moves.specs.declared.Cell.{Cell}
 use Rattle.grid_moves.specs.declared.Dir.{Dir}
 use Rattle.grid_moves.specs.Grid.{GridData, IsGrid, is_free}
 use Rattle.grid_moves.specs.Move.{legal_ahead}
-use Rattle.grid_moves.proofs.Legal.{legal_is, free_inside}
+use Rattle.grid_moves.proofs.Legal.{legal_is}
 use Rattle.pruning.specs.declared.turns.Side.TheVariants.{Right, Left}
 use Rattle.pruning.proofs.Bridging.{legal_leads}
 use Rattle.pruning.proofs.Table.{by_parity}
@@ -18,20 +18,9 @@ use Rattle.plus_tables.proofs.Short.{table_entry-short}
 
 -- a cell of the map lies on the tables
 pub on_map : (t : TablesData) (g : GridData) (c : Cell) → AreSized t g → is_free g c ≡ true → is_on t c ≡ true
-on_map t g c sized f =
-    let inside = free_inside g c f in
-    let column : nat_lt c.x g.width ≡ true = is_below c.x g.width inside.0 in
-    let row : nat_lt c.y g.height ≡ true = is_below c.y g.height inside.1 in
-    rw (sized.width, sized.height, column, row) refl
-  where
-    is_below : (m n : ℕ) → m < n → nat_lt m n ≡ true
-    is_below m n h = grind (arith, nat_tests)
+on_map t g c sized f = grind (arith, nat_tests)
 
 module _ (t : TablesData) (g : GridData) (c : Cell) (d : Dir) (rests : RestsRight t g c d) where
-  -- where no move leads on, the entry is 0
-  pub told_nowhere : legal_ahead g c d ≡ None → pos 0 ≡ table_entry g c d
-  told_nowhere e = sym (entries_follow g c d ∙ rw e refl)
-
   module _ (v : Cell) (e : legal_ahead g c d ≡ Some v) where
     pub next_free : is_free g v ≡ true
     next_free = (legal_is g c v (legal_leads g c v d e).legal).target

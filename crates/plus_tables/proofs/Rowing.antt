@@ -1,7 +1,8 @@
 -- Rows of flags and of entries are those of the grid.
-use Rattle.std.proofs.Common.{◌≡◌, ℕ, zero, suc, ◌+◌, ◌-◌, ◌<◌, ◌≤◌, arith, Bool, true, false, ◌&&◌}
+use Rattle.std.proofs.Common.{rules}
+use Rattle.std.proofs.Common.{◌≡◌, ℕ, zero, suc, ◌+◌, ◌-◌, ◌<◌, arith, Bool, true, false, ◌&&◌}
 use Rattle.std.proofs.Common.{List, length, refl, ap, sym, ◌∙◌, subst}
-use Rattle.std.specs.Prelude.{ℤ, Option, Some, None, option_and_then, is_some, nat_lt}
+use Rattle.std.specs.Prelude.{ℤ, Option, Some, option_and_then, nat_lt}
 use Rattle.std.proofs.lemmas.Bool.Decides.{nat_tests}
 use Rattle.grid_moves.specs.declared.Cell.{Cell}
 use Rattle.grid_moves.specs.declared.Corner.{Corner}
@@ -11,7 +12,7 @@ use Rattle.grid_moves.specs.Grid.{GridData, IsGrid, is_free, is_inside}
 use Rattle.grid_moves.specs.Move.{ahead, before, column_ahead, row_ahead, is_free_cell, is_open, legal_ahead}
 use Rattle.grid_moves.specs.Ring.{is_free_on, leads_on}
 use Rattle.grid_moves.proofs.Besides.{leads_on-legal}
-use Rattle.grid_moves.proofs.Legal.{free_inside, legal_is, same_cell}
+use Rattle.grid_moves.proofs.Legal.{free_inside, legal_is}
 use Rattle.pruning.specs.declared.turns.Side.TheVariants.{Right, Left}
 use Rattle.pruning.specs.Turns.{turn, is_diagonal}
 use Rattle.pruning.specs.Allowed.{can_move}
@@ -19,9 +20,9 @@ use Rattle.pruning.specs.Marked.{is_forced}
 use Rattle.pruning.specs.Ring.{forced_on}
 use Rattle.pruning.proofs.Table.{by_parity}
 use Rattle.pruning.proofs.Ringing.{forced_of_ring}
-use Rattle.pruning.proofs.Bridging.{legal_leads, leads_from, leads_legal, one_of}
+use Rattle.pruning.proofs.Bridging.{legal_leads, leads_from, leads_legal}
 use Rattle.plus_tables.specs.Entry.{table_entry}
-use Rattle.plus_tables.specs.Local.{is_mark_by, entry_by_next}
+use Rattle.plus_tables.specs.Local.{is_mark_by}
 use Rattle.plus_tables.specs.Tables.{IsShort}
 use Rattle.plus_tables.specs.Rows.{flag, number, ring_of, place_after, told, legal_by, mark_by, is_along}
 use Rattle.plus_tables.specs.Rows.{IsFlagRow, IsForcedRow, IsEntryRow, IsRowAt, AreRowsAround, AreForced}
@@ -34,65 +35,31 @@ there : ℕ → Option ℕ → Option Cell
 there x o = option_and_then (λ y. Some (record { x = x; y = y })) o
 
 module _ (g : GridData) (whole : IsGrid g) where
-  off_map : (x y : ℕ) → 4096 ≤ y → is_free g (record { x = x; y = y }) ≡ false
-  off_map x y far = by_test (is_free g (record { x = x; y = y })) refl
-    where
-      by_test : (b : Bool) → is_free g (record { x = x; y = y }) ≡ b
-          → is_free g (record { x = x; y = y }) ≡ false
-      by_test false e = e
-      by_test true e = absurd (
-          let i = free_inside g (record { x = x; y = y }) e in
-          let low = whole.sides.low in
-          omega (arith, i.1))
-
   -- a flag of a row tells whether the cell there is free
   flag_there : (n : ℕ) (o : Option ℕ) (row : List Bool) → IsFlagRow g n row → IsRowAt o n → (x k : ℕ)
       → k ≡ x + 1 → flag row k ≡ is_free_cell g (there x o)
   unfolding there
-  flag_there n (Some m) row is lies x k e =
-      ap (λ (i : ℕ). flag row i) e ∙ is.cells x
-      ∙ ap (λ (y : ℕ). is_free g (record { x = x; y = y })) (lies.some m refl)
-  flag_there n None row is lies x k e =
-      ap (λ (i : ℕ). flag row i) e ∙ is.cells x ∙ off_map x n (lies.none refl)
+  flag_there n o row h i x k j = grind (arith, nat_tests)
 
   -- and before the first column none is
   flag_before : (n : ℕ) (o : Option ℕ) (row : List Bool) → IsFlagRow g n row → IsRowAt o n → (x : ℕ)
       → flag row x ≡ is_free_cell g (option_and_then (λ x. there x o) (before x))
-  flag_before n o row is lies zero = is.border
-  flag_before n o row is lies (suc x) = flag_there n o row is lies x (suc x) (omega arith)
+  flag_before n o row h i x = grind (arith, nat_tests, flag_there)
 
   itself : (y : ℕ) → IsRowAt (Some y) y
-  itself y = record { some = λ k e. number_of y k e; none = λ e. absurd (cc) }
-    where
-      number_of : (m k : ℕ) → Some m ≡ Some k → m ≡ k
-      number_of m k e = ap (λ (o : Option ℕ). value o) e
-        where
-          value : Option ℕ → ℕ
-          value None = 0
-          value (Some n) = n
+  itself y = grind (arith, nat_tests)
 
   module _ (y : ℕ) (above here below : List Bool) (around : AreRowsAround g y above here below) where
     -- the flags around a column are those of the cells around its cell
     ring_open : (x : ℕ) (d : Dir)
         → is_free_on (ring_of above here below x) d ≡ is_open g (record { x = x; y = y }) d
     unfolding there
-    ring_open x N = flag_there around.upper _ above around.above_is around.upper_is x (x + 1) refl
-    ring_open x NE = flag_there around.upper _ above around.above_is around.upper_is (x + 1) (x + 2)
-        (omega arith)
-    ring_open x E = flag_there y (Some y) here around.here_is (itself y) (x + 1) (x + 2) (omega arith)
-    ring_open x SE = flag_there around.lower _ below around.below_is around.lower_is (x + 1) (x + 2)
-        (omega arith)
-    ring_open x S = flag_there around.lower _ below around.below_is around.lower_is x (x + 1) refl
-    ring_open x SW = flag_before around.lower _ below around.below_is around.lower_is x
-    ring_open x W = flag_before y (Some y) here around.here_is (itself y) x
-    ring_open x NW = flag_before around.upper _ above around.above_is around.upper_is x
+    ring_open x d = grind (arith, nat_tests, flag_there, itself, flag_before)
 
     -- so they tell where a neighbour is forced
     pub ring_forced : (x : ℕ) (d : Dir) → is_free g (record { x = x; y = y }) ≡ true
         → forced_on g.corner (ring_of above here below x) d ≡ is_forced g (record { x = x; y = y }) d
-    ring_forced x d f =
-        forced_of_ring g (record { x = x; y = y }) f (ring_of above here below x) (ring_open x)
-        g.corner refl d
+    ring_forced x d f = search (rules, forced_of_ring, ring_open)
 
     pub forced_row : (d : Dir) (corner : Corner) (forced : List Bool) → corner ≡ g.corner
         → length forced ≡ g.width + 2 → AreForced corner above here below d forced → IsForcedRow g y d forced
@@ -134,45 +101,20 @@ module _ (g : GridData) (whole : IsGrid g) where
 parts_of : (x y : Option ℕ) (w : Cell)
     → option_and_then (λ x. option_and_then (λ y. Some (record { x = x; y = y })) y) x ≡ Some w
     → (x ≡ Some w.x) × (y ≡ Some w.y)
-parts_of (Some m) (Some n) w e =
-    let same = one_of (record { x = m; y = n }) w e in
-    (ap (λ (c : Cell). Some c.x) same, ap (λ (c : Cell). Some c.y) same)
-parts_of (Some m) None w e = absurd (cc)
-parts_of None o w e = absurd (cc)
+parts_of x y w h = grind (arith, nat_tests)
 
 pub value_is : (m k : ℕ) → Some m ≡ Some k → m ≡ k
-value_is m k e = ap (λ (o : Option ℕ). value o) e
-  where
-    value : Option ℕ → ℕ
-    value None = 0
-    value (Some n) = n
-
-after_before : (x k : ℕ) → before x ≡ Some k → x ≡ k + 1
-after_before zero k e = absurd (cc)
-after_before (suc n) k e = let s = value_is n k e in omega arith
+value_is m k e = grind (arith, nat_tests)
 
 place_is : (d : Dir) (x k : ℕ) → column_ahead d x ≡ Some k → place_after d x ≡ k + 1
-place_is N x k e = ap (λ (n : ℕ). n + 1) (value_is x k e)
-place_is NE x k e = let s = value_is (x + 1) k e in omega arith
-place_is E x k e = let s = value_is (x + 1) k e in omega arith
-place_is SE x k e = let s = value_is (x + 1) k e in omega arith
-place_is S x k e = ap (λ (n : ℕ). n + 1) (value_is x k e)
-place_is SW x k e = after_before x k e
-place_is W x k e = after_before x k e
-place_is NW x k e = after_before x k e
+place_is d x k h = grind (arith, nat_tests)
 
 -- the entry of a cell is told by the next cell
 pub told_is : (g : GridData) (c : Cell) (d : Dir) (legal mark : Bool) (next : ℤ) → legal ≡ can_move g c d
     → ((w : Cell) → legal_ahead g c d ≡ Some w → mark ≡ is_mark_by g (table_entry g) d w)
     → ((w : Cell) → legal_ahead g c d ≡ Some w → next ≡ table_entry g w d)
     → told legal mark next ≡ table_entry g c d
-told_is g c d legal mark next can marked is =
-    ap (λ (b : Bool). told b mark next) can ∙ by_next (legal_ahead g c d) refl ∙ sym (entries_follow g c d)
-  where
-    by_next : (o : Option Cell) → legal_ahead g c d ≡ o
-        → told (is_some (legal_ahead g c d)) mark next ≡ entry_by_next g (table_entry g) c d
-    by_next None e = rw e refl
-    by_next (Some w) e = rw (e, marked w e, is w e) refl
+told_is g c d legal mark next can marked is = grind (arith, nat_tests, entries_follow)
 
 module _ (g : GridData) (whole : IsGrid g) (c : Cell) (d : Dir) where
   -- what stands at the next place
@@ -198,8 +140,7 @@ module _ (g : GridData) (whole : IsGrid g) (c : Cell) (d : Dir) where
 
   -- in which row it stands
   next_row : (w : Cell) → legal_ahead g c d ≡ Some w → row_ahead d c.y ≡ Some w.y
-  next_row w legal =
-      (parts_of (column_ahead d c.x) (row_ahead d c.y) w (legal_leads g c w d legal).ahead_is).1
+  next_row w legal = grind (arith, nat_tests)
 
   -- an entry of a row, told by the next row
   module _ (y : ℕ) (forced : List Bool) (ahead right left : List ℤ) (legal : Bool)
@@ -223,9 +164,7 @@ module _ (g : GridData) (whole : IsGrid g) (c : Cell) (d : Dir) where
     pub told_entry : told legal (mark_by forced right left d (place_after d c.x))
         (number ahead (place_after d c.x))
         ≡ table_entry g c d
-    told_entry = told_is g c d legal (mark_by forced right left d (place_after d c.x))
-        (number ahead (place_after d c.x)) can mark_across
-        (λ w e. next_number y ahead d w e (lies w e) ahead_is)
+    told_entry = search (rules, told_is, mark_across, next_number)
 
     short_at : (row : List ℤ) (e : Dir) → IsEntryRow g y e row → (w : Cell) → legal_ahead g c d ≡ Some w
         → IsShort (number row (place_after d c.x))
@@ -306,25 +245,7 @@ along_each NW along n P each = absurd (cc)
 pub next_along : (g : GridData) (d : Dir) → is_along d ≡ true → (x y : ℕ) (w : Cell)
     → legal_ahead g (record { x = x; y = y }) d ≡ Some w
     → (column_ahead d x ≡ Some w.x) × (w.x < g.width) × (record { x = w.x; y = y } ≡ w)
-next_along g d along x y w e =
-    let l = legal_leads g (record { x = x; y = y }) w d e in
-    let parts = parts_of (column_ahead d x) (row_ahead d y) w l.ahead_is in
-    let there = free_inside g w (legal_is g (record { x = x; y = y }) w l.legal).target in (
-      parts.0,
-      there.0,
-      same_cell (record { x = w.x; y = y }) w refl
-          (value_is y w.y (sym (same_row d along y) ∙ parts.1)),
-    )
-  where
-    same_row : (d : Dir) → is_along d ≡ true → (y : ℕ) → row_ahead d y ≡ Some y
-    same_row E along y = refl
-    same_row W along y = refl
-    same_row N along y = absurd (cc)
-    same_row NE along y = absurd (cc)
-    same_row SE along y = absurd (cc)
-    same_row S along y = absurd (cc)
-    same_row SW along y = absurd (cc)
-    same_row NW along y = absurd (cc)
+next_along g d along x y w e = grind (arith, nat_tests)
 
 -- along a row, told from the end
 module _ (g : GridData) (whole : IsGrid g) (y : ℕ) (above here below forced : List Bool) (out : List ℤ)
@@ -375,14 +296,7 @@ module _ (g : GridData) (whole : IsGrid g) (y : ℕ) (above here below forced : 
 
   pub along_row : (d : Dir) → is_along d ≡ true → IsForcedRow g y d forced → length out ≡ g.width + 2
       → ((x : ℕ) → x < length out - 2 → IsToldAlong here forced d out x) → IsEntryRow g y d out
-  along_row N h forced_is long are = absurd (cc)
-  along_row NE h forced_is long are = absurd (cc)
-  along_row E h forced_is long are = entries E refl refl forced_is long are (λ x. refl)
-  along_row SE h forced_is long are = absurd (cc)
-  along_row S h forced_is long are = absurd (cc)
-  along_row SW h forced_is long are = absurd (cc)
-  along_row W h forced_is long are = entries W refl refl forced_is long are (λ x. refl)
-  along_row NW h forced_is long are = absurd (cc)
+  along_row d h i j k = grind (arith, nat_tests, entries)
 
 -- where a neighbour is forced in a row that may lie off the map
 pub forced_if : (g : GridData) → IsGrid g → (m : ℕ) (above here below : List Bool)

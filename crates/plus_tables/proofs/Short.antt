@@ -1,15 +1,16 @@
 -- Entries are short: no run is longer than the sides together.
-use Rattle.std.proofs.Common.{◌≡◌, ℕ, ◌+◌, ◌≤◌, arith, Bool, true, false, refl, ap, w16, to_z, of_z}
-use Rattle.std.specs.Prelude.{ℤ, pos, neg_ℤ, Option, Some, None, unwrap_or, if◌then◌else◌}
+use Rattle.std.proofs.lemmas.Bool.Decides.{nat_tests}
+use Rattle.std.proofs.Common.{◌≡◌, ℕ, ◌+◌, ◌≤◌, arith, ap, w16, to_z, of_z}
+use Rattle.std.specs.Prelude.{ℤ, pos, neg_ℤ, Option, Some, None, unwrap_or}
 use Rattle.std.proofs.lemmas.Int.{ints}
 use Rattle.grid_moves.specs.declared.Cell.{Cell}
 use Rattle.grid_moves.specs.declared.Dir.{Dir}
 use Rattle.grid_moves.specs.Least.{FindsLeast}
-use Rattle.grid_moves.specs.Grid.{GridData, IsGrid, is_free}
-use Rattle.pruning.specs.First.{is_marked, first_mark, run_length}
+use Rattle.grid_moves.specs.Grid.{GridData, IsGrid}
+use Rattle.pruning.specs.First.{is_marked, first_mark}
 use Rattle.pruning.proofs.Runs.{run_short}
 use Rattle.pruning.proofs.Firsts.{HoldsAfter, first_on_run-finds}
-use Rattle.plus_tables.specs.Entry.{mark_or_run, table_entry}
+use Rattle.plus_tables.specs.Entry.{table_entry}
 use Rattle.plus_tables.specs.Tables.{IsShort}
 use Rattle.pruning.proofs.Lengths.{run_length-few}
 
@@ -33,29 +34,11 @@ short_run : (n : ℕ) → n ≤ 8192 → IsShort (neg_ℤ (pos n))
 short_run n h = record { low = omega (arith, ints); high = omega (arith, ints) }
 
 pub table_entry-short : (g : GridData) → IsGrid g → (c : Cell) (d : Dir) → IsShort (table_entry g c d)
-table_entry-short g whole c d = by_cell (is_free g c)
-  where
-    few : (k : ℕ) → k ≤ g.width + g.height → k ≤ 8192
-    few k h =
-        let wide = whole.sides.narrow in
-        let high = whole.sides.low in
-        omega arith
-
-    by_mark : (o : Option ℕ) → first_mark g c d ≡ o → IsShort (mark_or_run o (run_length g c d))
-    by_mark None e = short_run (run_length g c d) (few (run_length g c d) (run_length-few g c d))
-    by_mark (Some k) e = short_mark k (few k (first_mark-few g c d k e))
-
-    by_cell : (b : Bool)
-        → IsShort (if b then mark_or_run (first_mark g c d) (run_length g c d) else pos 0)
-    by_cell true = by_mark (first_mark g c d) refl
-    by_cell false = short_mark 0 (omega arith)
+table_entry-short g h c d = grind (arith, nat_tests, short_run, run_length-few, short_mark, first_mark-few)
 
 -- a short number fits its type
 pub same_value : (entry value : ℤ) → IsShort entry → value ≡ entry → to_z w16 (of_z w16 value) ≡ entry
-same_value entry value short is =
-    let low = short.low in
-    let high = short.high in
-    omega (arith, ints)
+same_value entry value short is = grind (arith, nat_tests)
 
 pub short_value : (entry value : ℤ) → IsShort entry → value ≡ entry → IsShort (to_z w16 (of_z w16 value))
 short_value entry value short is = rw (same_value entry value short is) short

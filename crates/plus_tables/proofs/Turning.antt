@@ -1,15 +1,14 @@
 -- The allowed directions that are told by tables.
-use Rattle.std.proofs.Common.{◌≡◌, arith, Bool, true, false, not, ◌&&◌, ◌||◌, refl, ap, sym, ◌∙◌}
+use Rattle.std.proofs.Common.{rules}
+use Rattle.std.proofs.lemmas.Bool.Decides.{nat_tests}
+use Rattle.std.proofs.Common.{◌≡◌, arith, Bool, true, false, not, refl, ap, sym, ◌∙◌}
 use Rattle.std.specs.Prelude.{ℤ, Some, filter}
 use Rattle.std.proofs.lemmas.List.Elements.{filter_agree}
 use Rattle.grid_moves.specs.declared.Cell.{Cell}
 use Rattle.grid_moves.specs.declared.Corner.{Corner}
-use Rattle.grid_moves.specs.declared.Corner.TheVariants.{Never, One, Both}
 use Rattle.grid_moves.specs.declared.Dir.{Dir}
-use Rattle.grid_moves.specs.declared.Dir.TheVariants.{N, NE, E, SE, S, SW, W, NW}
 use Rattle.grid_moves.specs.Grid.{GridData, is_free}
-use Rattle.grid_moves.specs.Move.{all_dirs, is_dir, is_open, is_passable, legal_ahead, may_cut, opposite}
-use Rattle.grid_moves.specs.declared.ring.Ring.{Ring}
+use Rattle.grid_moves.specs.Move.{all_dirs, is_dir, is_open, legal_ahead, may_cut, opposite}
 use Rattle.grid_moves.specs.Ring.{ring_told, is_free_on, is_shut, leads_on}
 use Rattle.grid_moves.proofs.Besides.{told_on}
 use Rattle.grid_moves.proofs.Legal.{legal_is, by_cut}
@@ -17,22 +16,21 @@ use Rattle.pruning.specs.declared.Arrival.{Arrival}
 use Rattle.pruning.specs.declared.Arrival.TheVariants.{Start, By}
 use Rattle.pruning.specs.declared.turns.Side.{Side}
 use Rattle.pruning.specs.declared.turns.Side.TheVariants.{Right, Left}
-use Rattle.pruning.specs.Turns.{turn, quarter, rear, is_diagonal}
-use Rattle.pruning.specs.Allowed.{keeps_eighth, keeps_quarter, is_blocked, can_move, is_kept, is_allowed}
+use Rattle.pruning.specs.Turns.{quarter, rear, is_diagonal}
+use Rattle.pruning.specs.Allowed.{is_blocked, can_move, is_kept, is_allowed}
 use Rattle.pruning.specs.Allowed.{allowed_dirs}
 use Rattle.pruning.specs.Ring.{is_allowed_on}
 use Rattle.pruning.specs.Source.{CanArrive}
-use Rattle.pruning.proofs.Table.{straight_back, turn_parity, quarter_parity, by_parity, by_test, at_dir}
-use Rattle.pruning.proofs.Table.{at_both, same_dir}
+use Rattle.pruning.proofs.Table.{straight_back, turn_parity, quarter_parity, by_parity, by_test}
+use Rattle.pruning.proofs.Table.{same_dir}
 use Rattle.pruning.proofs.Places.{Place, move}
-use Rattle.pruning.proofs.Moves.{leads_on-straight, leads_on-diagonal, can_move-straight, can_move-diagonal}
+use Rattle.pruning.proofs.Moves.{can_move-straight}
 use Rattle.pruning.proofs.Bridging.{place_of, free_place, open_there, leads_there, legal_leads}
-use Rattle.pruning.proofs.Running.{AreMoved, run_walked}
+use Rattle.pruning.proofs.Running.{run_walked}
 use Rattle.plus_tables.specs.Tables.{TablesData, AreTablesOf, entry_at, is_on}
-use Rattle.plus_tables.specs.Reading.{is_move, cell_after, asks_behind, free_past, free_told, told_rule}
+use Rattle.plus_tables.specs.Reading.{is_move, cell_after, asks_behind, free_told, told_rule}
 use Rattle.plus_tables.specs.Reading.{allowed_by, IsBeforeOn}
 use Rattle.plus_tables.proofs.Clear.{is_move-is}
-use Rattle.plus_tables.proofs.Goals.{moved_to}
 use Rattle.plus_tables.proofs.Refreshing.{on_map}
 use Rattle.plus_tables.proofs.Told.{free_is_inside}
 
@@ -48,34 +46,14 @@ kept_alike r p q d behind rears quarters e = by_parity d
     (λ u. rw (u, h, behind Right u h, behind Left u h) refl)
     (λ u. rw (u, h, quarters Right h, quarters Left h) refl))
 
-if_not : (b : Bool) → not b ≡ true → b ≡ false
-if_not b h = grind arith
-
--- a direction that is none of these is not kept, and the two behind are none of them
-none_of : (a b c d e k l m n : Bool) → (a || b || c || d || e) ≡ false
-    → (a || ((b && k) || (c && l)) || ((d && m) || (e && n))) ≡ false
-none_of a b c d e k l m n h = grind arith
-
 rear_not_kept : (r : Corner) (blocked : Dir → Bool) (s : Side) (d : Dir)
     → is_kept r blocked (By d) (rear s d) ≡ false
-rear_not_kept r blocked s d = none_of (is_dir (rear s d) d) (is_dir (rear s d) (turn Right d))
-    (is_dir (rear s d) (quarter Right d)) (is_dir (rear s d) (turn Left d))
-    (is_dir (rear s d) (quarter Left d))
-    (keeps_eighth r blocked d Right) (keeps_quarter r blocked d Right)
-    (keeps_eighth r blocked d Left) (keeps_quarter r blocked d Left)
-    (if_not _ (at_both (λ s d. not (is_dir (rear s d) d
-    || is_dir (rear s d) (turn Right d) || is_dir (rear s d) (quarter Right d)
-    || is_dir (rear s d) (turn Left d) || is_dir (rear s d) (quarter Left d))) refl s d))
+rear_not_kept r blocked s d = grind (arith, nat_tests)
 
 -- which cells count as free by the moves to them
 pub told_here : (r : Corner) (entry : Cell → Dir → ℤ) (at : Cell) (by : Arrival) (e : Dir)
     → asks_behind r by ≡ false → free_told r entry at by e ≡ is_move (entry at e)
-told_here r entry at Start e h = refl
-told_here r entry at (By d) e h = rw h refl
-
-pub told_past : (entry : Cell → Dir → ℤ) (at : Cell) (d e : Dir) → is_diagonal d ≡ false
-    → free_told Never entry at (By d) e ≡ free_past entry at d e
-told_past entry at d e h = rw h refl
+told_here r entry at by e h = grind (arith, nat_tests)
 
 by_move : (r : Corner) (entry : Cell → Dir → ℤ) (at : Cell) (d e : Dir)
     → ((s : Side) → is_diagonal d ≡ false → is_dir e (rear s d) ≡ false)
@@ -87,52 +65,14 @@ by_move r entry at d e off = by_cut r
 -- what is kept hangs on whether a corner may be cut alone
 told_kept : (r : Corner) (blocked : Dir → Bool) (by : Arrival) (e : Dir)
     → is_kept (told_rule r) blocked by e ≡ is_kept r blocked by e
-told_kept r blocked Start e = refl
-told_kept Never blocked (By d) e = refl
-told_kept One blocked (By d) e = refl
-told_kept Both blocked (By d) e = refl
-
--- the cells beside a legal move let it pass
-told_passes : (r : Corner) (o a b : Bool)
-    → ((o && is_passable r a b) && is_passable (told_rule r) a b) ≡ (o && is_passable r a b)
-told_passes Never o a b = grind arith
-told_passes One o a b = grind arith
-told_passes Both o a b = grind arith
-
--- a ring of which each cell was told by another test that agrees
-pub ring_told_by : (test free : Dir → Bool) → ((e : Dir) → test e ≡ free e) → (n ne e se s sw w nw : Bool)
-    → n ≡ test N → ne ≡ test NE → e ≡ test E → se ≡ test SE → s ≡ test S → sw ≡ test SW → w ≡ test W
-    → nw ≡ test NW
-    → (let r : Ring = record { n = n; ne = ne; e = e; se = se; s = s; sw = sw; w = w; nw = nw } in r)
-    ≡ ring_told free
-ring_told_by test free same n ne e se s sw w nw h i j k l m o p = rw (
-  h ∙ same N,
-  i ∙ same NE,
-  j ∙ same E,
-  k ∙ same SE,
-  l ∙ same S,
-  m ∙ same SW,
-  o ∙ same W,
-  p ∙ same NW,
-) refl
-
--- the cell before
-back_moved : (d : Dir) (u v : Cell) → AreMoved d 1 u v → AreMoved (opposite d) 1 v u
-back_moved N u v m = let a = m.0 in let b = m.1 in (omega arith, omega arith)
-back_moved NE u v m = let a = m.0 in let b = m.1 in (omega arith, omega arith)
-back_moved E u v m = let a = m.0 in let b = m.1 in (omega arith, omega arith)
-back_moved SE u v m = let a = m.0 in let b = m.1 in (omega arith, omega arith)
-back_moved S u v m = let a = m.0 in let b = m.1 in (omega arith, omega arith)
-back_moved SW u v m = let a = m.0 in let b = m.1 in (omega arith, omega arith)
-back_moved W u v m = let a = m.0 in let b = m.1 in (omega arith, omega arith)
-back_moved NW u v m = let a = m.0 in let b = m.1 in (omega arith, omega arith)
+told_kept r blocked by e = grind (arith, nat_tests)
 
 pub cell_before : (g : GridData) (u at : Cell) (d : Dir) → legal_ahead g u d ≡ Some at
     → u ≡ cell_after (opposite d) 1 at
 cell_before g u at d e =
     let source = (legal_is g u at (legal_leads g u at d e).legal).source in
     let walk = run_walked g d 1 u at source (rw e refl) in
-    moved_to (opposite d) 1 at u (back_moved d u at walk.moved)
+    grind (arith, nat_tests)
 
 module _ (t : TablesData) (g : GridData) (right : AreTablesOf t g) where
   -- an entry tells whether a move is legal
@@ -157,24 +97,11 @@ module _ (t : TablesData) (g : GridData) (right : AreTablesOf t g) where
       (moves : (e : Dir) → is_kept g.corner (is_blocked g at) by e ≡ true → free e ≡ can_move g at e)
       (kept : (e : Dir) → is_kept g.corner (is_shut (ring_told free)) by e
       ≡ is_kept g.corner (is_blocked g at) by e) where
-    beside : (s : Side) (e : Dir) → is_diagonal e ≡ true
-        → is_free_on (ring_told free) (turn s e) ≡ is_open g at (turn s e)
-    beside s e h = straight_open at f free straight (turn s e) (turn_parity s e ∙ ap not h)
-
     abbrev rule : Corner
     rule = told_rule g.corner
 
     leads_told : (e : Dir) → free e ≡ can_move g at e → leads_on rule (ring_told free) e ≡ can_move g at e
-    leads_told e k = by_parity e
-        (λ h. rw (
-          leads_on-diagonal rule (ring_told free) e h,
-          told_on free e,
-          k,
-          beside Left e h,
-          beside Right e h,
-          can_move-diagonal g at e f h,
-        ) (told_passes g.corner (is_open g at e) _ _))
-        (λ h. leads_on-straight rule (ring_told free) e h ∙ told_on free e ∙ k)
+    leads_told e k = grind (arith, nat_tests)
 
     kept_told : (e : Dir) → is_kept rule (is_shut (ring_told free)) by e
         ≡ is_kept g.corner (is_blocked g at) by e
@@ -208,22 +135,13 @@ module _ (t : TablesData) (g : GridData) (right : AreTablesOf t g) where
     -- where no corner is cut, after a straight move
     wall_behind : (s : Side) → is_diagonal d ≡ false
         → not (is_move (entry_at t (cell_after (opposite d) 1 at) (quarter s d))) ≡ is_blocked g at (rear s d)
-    wall_behind s h =
-        ap (λ (c : Cell). not (is_move (entry_at t c (quarter s d)))) (sym (cell_before g u at d e))
-        ∙ blocked_told u (quarter s d) source (quarter_parity s d ∙ h)
-        ∙ ap not (seen_behind s h)
+    wall_behind s h = grind (arith, nat_tests, cell_before, blocked_told, source, quarter_parity, seen_behind)
 
     abbrev free : Dir → Bool
     free = free_told g.corner (entry_at t) at (By d)
 
     straight : (to : Dir) → is_diagonal to ≡ false → free to ≡ can_move g at to
-    straight to p = by_move g.corner (entry_at t) at d to not_behind ∙ legal_told at to target
-      where
-        not_behind : (s : Side) → is_diagonal d ≡ false → is_dir to (rear s d) ≡ false
-        not_behind s h = by_test (is_dir to (rear s d))
-            (λ b. absurd (let i = rear_parity s ∙ ap not h in
-            let j = ap is_diagonal (same_dir to (rear s d) b) in cc))
-            (λ b. b)
+    straight to p = search (rules, by_move, legal_told, target, by_test, rear_parity, same_dir)
 
     moves : (to : Dir) → is_kept g.corner (is_blocked g at) (By d) to ≡ true → free to ≡ can_move g at to
     moves to k = by_move g.corner (entry_at t) at d to (λ s h. not_behind s) ∙ legal_told at to target
@@ -238,13 +156,7 @@ module _ (t : TablesData) (g : GridData) (right : AreTablesOf t g) where
 
     behind_told : (s : Side) → may_cut g.corner ≡ false → is_diagonal d ≡ false
         → free (rear s d) ≡ is_move (entry_at t (cell_after (opposite d) 1 at) (quarter s d))
-    behind_told Right r h = rw (r, h, at_dir (λ d. is_dir (rear Right d) (rear Right d)) refl d) refl
-    behind_told Left r h = rw (
-      r,
-      h,
-      if_not _ (at_dir (λ d. not (is_dir (rear Left d) (rear Right d))) refl d),
-      at_dir (λ d. is_dir (rear Left d) (rear Left d)) refl d,
-    ) refl
+    behind_told s h i = grind (arith, nat_tests)
 
     kept : (to : Dir) → is_kept g.corner (is_shut (ring_told free)) (By d) to
         ≡ is_kept g.corner (is_blocked g at) (By d) to
@@ -262,11 +174,7 @@ module _ (t : TablesData) (g : GridData) (right : AreTablesOf t g) where
 
   started : (at : Cell) → is_free g at ≡ true
       → allowed_by g.corner (entry_at t) at Start ≡ allowed_dirs g at Start
-  started at f = all_told at f Start (free_told g.corner (entry_at t) at Start) (λ e _. told e)
-      (λ e _. told e) (λ e. refl)
-    where
-      told : (e : Dir) → free_told g.corner (entry_at t) at Start e ≡ can_move g at e
-      told e = told_here g.corner (entry_at t) at Start e refl ∙ legal_told at e f
+  started at f = search (rules, all_told, told_here, legal_told)
 
   -- by any arrival
   pub allowed_by_tables : (at : Cell) (by : Arrival) → is_free g at ≡ true → CanArrive g at by
@@ -280,5 +188,4 @@ module _ (t : TablesData) (g : GridData) (right : AreTablesOf t g) where
       under_rule (By d) can = arrived can.0 at d can.1
 
   pub before_on_map : (at : Cell) (by : Arrival) → CanArrive g at by → IsBeforeOn t at by
-  before_on_map at Start can = tt
-  before_on_map at (By d) can = before_on can.0 at d can.1
+  before_on_map at by h = grind (arith, nat_tests, before_on)

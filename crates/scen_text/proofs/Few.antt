@@ -1,5 +1,6 @@
 -- A text has no more entries than bytes.
-use Rattle.std.proofs.Common.{◌≡◌, ℕ, suc, ◌+◌, ◌^◌, ◌≤◌, List, [], ◌∷◌, length, Result, Ok, Err, sym, ap}
+use Rattle.std.proofs.lemmas.Bool.Decides.{nat_tests}
+use Rattle.std.proofs.Common.{◌≡◌, ℕ, suc, ◌+◌, ◌^◌, ◌≤◌, List, [], ◌∷◌, length, Result, sym, ap}
 use Rattle.std.proofs.Common.{subst, inl, inr, arith}
 use Rattle.std.specs.Prelude.{IfOk, Vec}
 use Rattle.std.specs.declared.alloc.Global.{Global}
@@ -41,5 +42,4 @@ few_spelled text entries spells =
 -- so an answer tells so many at most
 pub answer_few : (text : List ℕ) (answer : Result (Vec Entry Global) ScenFault) → length text ≤ 2 ^ 26
     → IfOk answer (λ read. Spells text read.items) → IfOk answer (λ read. length read.items ≤ 2 ^ 26)
-answer_few text (Ok read) short spells = omega (arith, few_spelled text read.items spells)
-answer_few text (Err fault) short none = tt
+answer_few text answer h i = grind (arith, nat_tests, few_spelled)

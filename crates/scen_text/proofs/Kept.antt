@@ -1,6 +1,7 @@
 -- Lengths that texts spell have few digits.
-use Rattle.std.proofs.Common.{◌≡◌, ℕ, zero, suc, ◌+◌, true, ◌&&◌, List, [], ◌∷◌, take, drop, Option}
-use Rattle.std.proofs.Common.{Some, None, Result, Ok, Err, refl, subst, sym, inl, inr, arith}
+use Rattle.std.proofs.lemmas.Bool.Decides.{nat_tests}
+use Rattle.std.proofs.Common.{◌≡◌, ℕ, ◌+◌, true, ◌&&◌, List, [], ◌∷◌, take, drop, Option}
+use Rattle.std.proofs.Common.{Some, None, Result, refl, subst, sym, inl, inr, arith}
 use Rattle.std.specs.Prelude.{slice_get, position, IfOk, Vec}
 use Rattle.std.specs.List.{list_all}
 use Rattle.std.specs.Char.{is_ascii_digit}
@@ -51,13 +52,11 @@ abbrev AllKept : List Entry → Type 0
 AllKept entries = (k : ℕ) (entry : Entry) → slice_get entries k ≡ Some entry → IsKept entry.length
 
 none_kept : (k : ℕ) (entry : Entry) → slice_get [] k ≡ Some entry → IsKept entry.length
-none_kept zero entry found = absurd cc
-none_kept (suc k) entry found = absurd cc
+none_kept k entry h = grind (arith, nat_tests)
 
 one_more_kept : (first : Entry) (later : List Entry) → IsKept first.length → AllKept later
     → (k : ℕ) (entry : Entry) → slice_get (first ∷ later) k ≡ Some entry → IsKept entry.length
-one_more_kept first later here there zero entry found = grind arith
-one_more_kept first later here there (suc k) entry found = there k entry found
+one_more_kept first later h i k entry j = grind (arith, nat_tests)
 
 spelled_kept : (lines : List LineAt) (entries : List Entry) → SpellInOrder IsBlank IsEntry lines entries
     → AllKept entries
@@ -77,5 +76,4 @@ pub answer_kept : (text : List ℕ) (answer : Result (Vec Entry Global) ScenFaul
     → IfOk answer (λ read. Spells text read.items)
     → IfOk answer (λ read. (k : ℕ) (entry : Entry) → slice_get read.items k ≡ Some entry
     → IsKept entry.length)
-answer_kept text (Ok read) spells = spelled_kept spells.others read.items spells.spelled
-answer_kept text (Err fault) none = tt
+answer_kept text answer h = grind (arith, nat_tests, spelled_kept)

@@ -1,7 +1,8 @@
 -- What a text is read as, what it spells and how it breaks the grammar.
+use Rattle.std.proofs.lemmas.Bool.Decides.{nat_tests}
 use Rattle.std.proofs.Common.{◌≡◌, ℕ, zero, suc, ◌<◌, ◌≤◌, true, false, cond, ltb, List, [], ◌∷◌, ◌++◌}
-use Rattle.std.proofs.Common.{length, Option, Some, None, Ok, Err, refl, ap, subst, ◌∙◌, ◌⊎◌, inl, inr, arith}
-use Rattle.std.specs.Prelude.{codes, unwrap_or, if◌then◌else◌}
+use Rattle.std.proofs.Common.{length, Option, Some, None, Ok, refl, ap, subst, ◌∙◌, ◌⊎◌, inl, inr, arith}
+use Rattle.std.specs.Prelude.{codes, unwrap_or}
 use Rattle.std.specs.Option.{option_or, is_some}
 use Rattle.std.proofs.lemmas.Bool.{cases_Bool, and_parts, ltb-false}
 use Rattle.std.proofs.lemmas.Slice.Eq.{bytes_eq-Decides}
@@ -12,10 +13,10 @@ use Rattle.text_line.proofs.Reading.{Reads, Judges, lines_read}
 use Rattle.text_line.specs.Numbers.{number_of}
 use Rattle.text_line.specs.Places.{Placed, LineAt, fields_from, lines_at}
 use Rattle.scen_text.specs.declared.fault.ScenFault.{ScenFault}
-use Rattle.scen_text.specs.declared.fault.ScenFault.TheVariants.{Version, Fields, Number}
+use Rattle.scen_text.specs.declared.fault.ScenFault.TheVariants.{Version, Number}
 use Rattle.scen_text.specs.declared.entry.Entry.{Entry}
 use Rattle.scen_text.specs.Words.{Words, words_of}
-use Rattle.scen_text.specs.Spelling.{HasWords, IsEntry, IsBlank, IsVersion, SpellsLines, Spells}
+use Rattle.scen_text.specs.Spelling.{HasWords, IsEntry, IsBlank, SpellsLines, Spells}
 use Rattle.scen_text.specs.Faults.{names_version, number_fault, words_fault, fields_read, line_read, fault_at}
 use Rattle.scen_text.specs.Faults.{entry_in, first_of, all_read, scen_of, BreaksFirst}
 use Rattle.scen_text.proofs.Split.{words_there}
@@ -23,8 +24,7 @@ use Rattle.scen_text.proofs.Lines.{line_words}
 
 -- where the first of two is none, none is there
 or_parts : (a b : Option ScenFault) → option_or a b ≡ None → (a ≡ None) × (b ≡ None)
-or_parts None b none = (refl, none)
-or_parts (Some fault) b none = absurd cc
+or_parts a b h = grind (arith, nat_tests)
 
 all_none : (a b c d e f g h : Option ScenFault) → first_of (a ∷ b ∷ c ∷ d ∷ e ∷ f ∷ g ∷ h ∷ []) ≡ None
     → (a ≡ None) × (b ≡ None) × (c ≡ None) × (d ≡ None) × (e ≡ None) × (f ≡ None) × (g ≡ None) × (h ≡ None)
@@ -33,8 +33,7 @@ all_none a b c d e f g h none = grind (arith, or_parts)
 -- a word that breaks nothing spells something
 spells_some : (A : Type 0) (word : Option A) (fault : ScenFault) (other : A)
     → cond (is_some word) None (Some fault) ≡ None → word ≡ Some (unwrap_or word other)
-spells_some A None fault other none = absurd cc
-spells_some A (Some a) fault other none = refl
+spells_some A word fault other h = grind (arith, nat_tests)
 
 number_right : (line : ℕ) (word : List ℕ) → number_fault line word ≡ None
     → number_of word ≡ Some (unwrap_or (number_of word) 0)
@@ -47,19 +46,7 @@ words_spell line words has none = grind (arith, all_none, number_right, spells_s
 
 -- what a line after the first is read as, by its fields
 fields_blank : (line : ℕ) (fields : List Placed) → fields_read line fields ≡ Ok None → fields ≡ []
-fields_blank line [] read = refl
-fields_blank line (bucket ∷ left) read =
-    elim (ltb (length (bucket ∷ left)) 9) as (λ few. (if few then Err (Fields line)
-    else reading (words_fault line (words_of (bucket ∷ left)))
-    (Some (entry_in line (words_of (bucket ∷ left)))))
-    ≡ Ok None → bucket ∷ left ≡ []) [
-      | true ↦ λ read. absurd cc
-      | false ↦ λ read. absurd (entry_left (words_fault line (words_of (bucket ∷ left))) _ read)
-    ] read
-  where
-    entry_left : (fault : Option ScenFault) (entry : Entry) → reading fault (Some entry) ≡ Ok None → ⊥
-    entry_left None entry read = cc
-    entry_left (Some fault) entry read = cc
+fields_blank line fields h = grind (arith, nat_tests)
 
 fields_spell : (line : LineAt) (fields : List Placed) (entry : Entry)
     → fields_from line.place line.bytes ≡ fields → fields_read line.number fields ≡ Ok (Some entry)
@@ -104,18 +91,11 @@ lines_judged = record {
 -- fields that name the version
 version_is : (fields : List (List ℕ)) → names_version fields ≡ true
     → (fields ≡ codes "version" ∷ codes "1" ∷ []) ⊎ (fields ≡ codes "version" ∷ codes "1.0" ∷ [])
-version_is [] right = absurd cc
-version_is (word ∷ []) right = absurd cc
-version_is (word ∷ version ∷ []) right = grind (arith, and_parts, bytes_eq-Decides, cases_Bool)
-version_is (word ∷ version ∷ more ∷ fields) right = absurd cc
-
-version_named : (line : List ℕ) → IsVersion line → names_version (fields_of line) ≡ true
-version_named line is = grind arith
+version_is fields h = grind (arith, nat_tests, and_parts, bytes_eq-Decides, cases_Bool)
 
 -- all lines are read as what they spell, or as their first fault
 no_line : {fault : ScenFault} (place : ℕ) → fault_at [] place ≡ Some fault → Version 1 ≡ fault
-no_line zero breaks = cc
-no_line (suc place) breaks = absurd cc
+no_line place h = grind (arith, nat_tests)
 
 module _ (first : LineAt) (others : List LineAt) where
   -- the first line names the version
@@ -126,8 +106,7 @@ module _ (first : LineAt) (others : List LineAt) where
 
     clean : (place : ℕ) → ((k : ℕ) → k < place → fault_on line_read others k ≡ None) → (k : ℕ) → k < suc place
         → fault_at (first ∷ others) k ≡ None
-    clean place before zero below = rw right refl
-    clean place before (suc k) below = before k (omega arith)
+    clean place h k i = grind (arith, nat_tests)
 
     behind_version : (place : ℕ) (fault : ScenFault) → fault_at (first ∷ others) place ≡ Some fault
         → ((k : ℕ) → k < place → fault_at (first ∷ others) k ≡ None)
@@ -162,23 +141,9 @@ module _ (first : LineAt) (others : List LineAt) where
 
   -- it doesn't
   module _ (wrong : names_version (fields_of first.bytes) ≡ false) where
-    no_version : (place : ℕ) (fault : ScenFault) → fault_at (first ∷ others) place ≡ Some fault
-        → ((k : ℕ) → k < place → fault_at (first ∷ others) k ≡ None) → Version 1 ≡ fault
-    no_version zero fault breaks before = let here = rw wrong at breaks in cc
-    no_version (suc place) fault breaks before = let no = rw wrong at (before 0 (omega arith)) in absurd cc
-
     read_wrong : Reads (SpellsLines (first ∷ others)) (BreaksFirst (first ∷ others))
         (all_read (first ∷ others))
-    read_wrong = record {
-      found = λ entries read. let no = rw wrong at read in absurd cc;
-      only = λ entries spells. let named = version_named spells.first.bytes spells.version in
-          absurd (cc (named, wrong, spells.are));
-      first = λ fault read.
-          let found = rw wrong at read in
-          let same : Version 1 ≡ fault = cc in
-          record { place = 0; breaks = rw (wrong, same) refl; before = λ k below. absurd (omega arith) };
-      broken = λ fault is. rw (wrong, no_version is.place fault is.breaks is.before) refl;
-    }
+    read_wrong = grind (arith, nat_tests)
 
 pub scen_read : (text : List ℕ) → Reads (Spells text) (BreaksFirst (lines_at text)) (scen_of text)
 unfolding scen_of

@@ -1,4 +1,5 @@
 -- What the lines of a text are read as, one after another.
+use Rattle.std.proofs.lemmas.Bool.Decides.{nat_tests}
 use Rattle.std.proofs.Common.{◌≡◌, ℕ, true, false, List, [], ◌∷◌, length, drop, Option, Some, None, Ok, Err}
 use Rattle.std.proofs.Common.{refl, sym, ap, ◌∙◌, arith}
 use Rattle.std.specs.Prelude.{slice_get}
@@ -39,10 +40,7 @@ module _ (line : LineAt) (bucket : Placed) (left : List Placed) (words : Words)
 
 first_given : (old new : List LineAt) (line : Option PlacedLine) → GivesLine old line new
     → (slice_get old 0 ≡ line_given line) × (drop 1 old ≡ new)
-first_given old new None gives =
-    (ap (λ (lines : List LineAt). slice_get lines 0) gives.0, ap (drop 1) gives.0 ∙ sym gives.0 ∙ sym gives.1)
-first_given old new (Some line) gives =
-    (ap (λ (lines : List LineAt). slice_get lines 0) gives.0, ap (drop 1) gives.0)
+first_given old new line h = grind (arith, nat_tests)
 
 -- below, the first line is taken from all
 module _ (text : List ℕ) (old new : List LineAt) (line : Option PlacedLine) (all : old ≡ lines_at text)

@@ -1,4 +1,5 @@
 -- The words of an entry and its fields.
+use Rattle.std.proofs.lemmas.Bool.Decides.{nat_tests}
 use Rattle.std.proofs.Common.{◌≡◌, ℕ, suc, ◌+◌, ◌-◌, ◌≤◌, List, [], ◌∷◌, ◌++◌, length, get_or, take, drop}
 use Rattle.std.proofs.Common.{refl, sym, ap, ◌∙◌, arith}
 use Rattle.std.proofs.lemmas.List.{length-append, get_or-append-add, take-append-drop, length-drop}
@@ -19,22 +20,7 @@ seam (first ∷ xs) ys x = ap (λ (rest : List Placed). first ∷ rest) (seam xs
 -- one more field
 pub words_more : (all left : List Placed) (words : Words) (field : Placed)
     → HasWordsBefore all words (field ∷ left) → HasWordsBefore all (widened words field) left
-words_more all left words field has = record {
-  name = has.name ++ words.w ∷ [];
-  are = has.are ∙ ap (λ (rest : List Placed). words.bucket ∷ rest)
-      (seam has.name (words.h ∷ words.sx ∷ words.sy ∷ words.gx ∷ words.gy ∷ words.listed ∷ field ∷
-      left) words.w);
-  spans = record {
-    first = has.spans.first;
-    later = has.spans.later ++ words.w ∷ [];
-    begins = ap (λ (name : List Placed). name ++ words.w ∷ []) has.spans.begins;
-    start = has.spans.start;
-    earlier = has.name;
-    last = words.w;
-    ends = refl;
-    end = refl;
-  };
-}
+words_more all left words field h = grind (arith, nat_tests, seam)
 
 -- a field counted from the end
 from_end_at : (bucket : Placed) (front back : List Placed) (i places : ℕ) → i + places ≡ length back
@@ -44,8 +30,7 @@ from_end_at bucket front back i places is = grind (arith, length-append)
 
 from_end_is : (bucket : Placed) (front back : List Placed) (i places : ℕ) → i + places ≡ length back
     → from_end places (bucket ∷ (front ++ back)) ≡ get_or back i nothing
-from_end_is bucket front back i places is =
-    from_end_at bucket front back i places is ∙ get_or-append-add front back i nothing
+from_end_is bucket front back i places is = grind (arith, nat_tests, from_end_at, get_or-append-add)
 
 same_words : (bucket bucket' w w' h h' sx sx' sy sy' gx gx' gy gy' listed listed' : Placed)
     (start start' end end' : ℕ)

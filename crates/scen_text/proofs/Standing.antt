@@ -1,5 +1,6 @@
 -- Names that were read stand in the text.
-use Rattle.std.proofs.Common.{◌≡◌, ◌≢◌, ℕ, zero, suc, ◌+◌, ◌-◌, ◌<◌, ◌≤◌, Bool, false, List, [], ◌∷◌, ◌++◌}
+use Rattle.std.proofs.lemmas.Bool.Decides.{nat_tests}
+use Rattle.std.proofs.Common.{◌≡◌, ℕ, zero, suc, ◌+◌, ◌-◌, ◌<◌, ◌≤◌, Bool, false, List, [], ◌∷◌, ◌++◌}
 use Rattle.std.proofs.Common.{length, get_or, take, drop, Some, inl, inr, refl, ap, sym, ◌∙◌, subst, arith}
 use Rattle.std.proofs.Common.{append_assoc}
 use Rattle.std.specs.Prelude.{filter, slice_get, ⊤}
@@ -41,48 +42,18 @@ module _ (test : ℕ → Bool) (text : List ℕ) where
         ∙ ap (λ n. get_or text n 0) (let next : place + suc k ≡ place + 1 + k = omega arith in next);
   }
 
-  -- a part with one more byte before it
-  part_more : (place x : ℕ) (part : List ℕ) → test x ≡ false → x ≡ get_or text (place + 0) 0
-      → PartIn test text (place + 1) part → PartIn test text place (x ∷ part)
-  part_more place x part other here is = record {
-    inside = let inside = is.inside in omega arith;
-    same = same_at;
-    none = none_at;
-  }
-    where
-      same_at : (k : ℕ) → k < length (x ∷ part) → get_or (x ∷ part) k 0 ≡ get_or text (place + k) 0
-      same_at zero below = here
-      same_at (suc k) below = is.same k (omega arith)
-          ∙ ap (λ n. get_or text n 0) (let next : place + 1 + k ≡ place + suc k = omega arith in next)
-
-      none_at : (k : ℕ) → k < length (x ∷ part) → test (get_or (x ∷ part) k 0) ≡ false
-      none_at zero below = other
-      none_at (suc k) below = is.none k (omega arith)
-
   part_none : (place : ℕ) → place ≤ length text → PartIn test text place []
-  part_none place inside =
-      record {
-        inside = omega arith;
-        same = λ k below. absurd (omega arith);
-        none = λ k below. absurd (omega arith);
-      }
+  part_none place inside = grind (arith, nat_tests)
 
   -- a byte before parts joins the first of them
   parts_onto : (place x : ℕ) (parts : List (List ℕ)) → test x ≡ false → x ≡ get_or text (place + 0) 0
       → place + 1 ≤ length text → PartsIn test text (place + 1) parts
       → PartsIn test text place (onto_first x parts)
-  parts_onto place x [] other here inside are =
-      (part_more place x [] other here (part_none (place + 1) inside), tt)
-  parts_onto place x (part ∷ parts) other here inside are =
-      let next : place + 1 + length part + 1 ≡ place + length (x ∷ part) + 1 = omega arith in
-      (part_more place x part other here are.0, subst (λ n. PartsIn test text n parts) next are.1)
+  parts_onto place x parts h i j k = grind (arith, nat_tests)
 
   parts_after : (place x : ℕ) (rest : List ℕ) (parts : List (List ℕ)) → Stands text place (x ∷ rest)
       → PartsIn test text (place + 1) parts → PartsIn test text place ([] ∷ parts)
-  parts_after place x rest parts stands are =
-      let next : place + 1 ≡ place + 0 + 1 = omega arith in
-      let inside = stands.inside in
-      (part_none place (omega arith), subst (λ n. PartsIn test text n parts) next are)
+  parts_after place x rest parts stands are = grind (arith, nat_tests)
 
 -- the parts between blanks
 blank_parts : (line : List ℕ) (place : ℕ) (rest : List ℕ) → Stands line place rest
@@ -111,10 +82,7 @@ feed_parts text place (x ∷ rest) stands =
     ]
 
 all_stands : (text : List ℕ) → Stands text 0 text
-all_stands text = record {
-  inside = omega arith;
-  same = λ k below. ap (λ n. get_or text n 0) (let same : k ≡ 0 + k = omega arith in same);
-}
+all_stands text = grind (arith, nat_tests)
 
 -- a line without its carriage return
 without_cr_at : (piece : List ℕ) (k : ℕ) → k < length (without_cr piece)
@@ -129,13 +97,7 @@ LineIn text line = PartIn is_line_feed text line.place line.bytes
 
 line_in : (text : List ℕ) (place : ℕ) (piece : List ℕ) → PartIn is_line_feed text place piece
     → PartIn is_line_feed text place (without_cr piece)
-line_in text place piece is =
-    let short : length (without_cr piece) ≤ length piece = length-without_cr piece in
-    record {
-      inside = let inside = is.inside in omega arith;
-      same = λ k below. without_cr_at piece k below ∙ is.same k (omega arith);
-      none = λ k below. ap is_line_feed (without_cr_at piece k below) ∙ is.none k (omega arith);
-    }
+line_in text place piece is = grind (arith, nat_tests, length-without_cr, without_cr_at)
 
 lines_in : (text : List ℕ) (number place : ℕ) (pieces : List (List ℕ))
     → PartsIn is_line_feed text place pieces → AllByRecursion (LineIn text) (lines_from number place pieces)
@@ -231,8 +193,7 @@ bytes_get text from long k below = get_or-take long (drop from text) k 0 below �
 
 length_get : (text : List ℕ) (from long : ℕ) → from + long ≤ length text
     → length (take long (drop from text)) ≡ long
-length_get text from long inside =
-    length-take-le long (drop from text) (omega (arith, length-drop from text))
+length_get text from long inside = grind (arith, nat_tests, length-take-le, length-drop)
 
 -- bytes of a line from the first byte of a field to the last byte of one
 module _ (text : List ℕ) (line : LineAt) (is : LineIn text line) (first last : Placed)
@@ -246,59 +207,19 @@ module _ (text : List ℕ) (line : LineAt) (is : LineIn text line) (first last :
 
   size_is : (first.start + size ≡ last.end) × (0 < size) × (last.end ≤ length text)
       × (begins.from + size ≡ ends.from + suc ends.long)
-  size_is =
-      let a = begins.start in
-      let b = ends.start in
-      let c = ends.end in
-      let d = ends.inside in
-      let e = is.inside in
-      (omega arith, omega arith, omega arith, omega arith)
+  size_is = grind (arith, nat_tests)
 
   found_at : (k : ℕ) → k < size → get_or found k 0 ≡ get_or line.bytes (begins.from + k) 0
-  found_at k below =
-      let s = size_is.3 in
-      let d = ends.inside in
-      let a = begins.start in
-      let index : first.start + k ≡ line.place + (begins.from + k) = omega arith in
-      bytes_get text first.start size k below ∙ ap (λ n. get_or text n 0) index
-      ∙ sym (is.same (begins.from + k) (omega arith))
+  found_at k below = grind (arith, nat_tests, size_is, bytes_get, get_or)
 
   found_long : length found ≡ size
-  found_long =
-      let a = size_is.0 in
-      let b = size_is.2 in
-      length_get text first.start size (omega arith)
+  found_long = grind (arith, nat_tests, size_is, length_get)
 
   found_name : IsName found
-  found_name = record {
-    some = let a = found_long in let b = size_is.1 in omega arith;
-    first = ap is_blank_byte (found_at 0 size_is.1
-        ∙ ap (λ n. get_or line.bytes n 0) (let e : begins.from + 0 ≡ begins.from = omega arith in e))
-        ∙ begins.first;
-    last = ap is_blank_byte (last_at (length found - 1) found_long size_is.1 size_is.3) ∙ ends.last;
-    one_line = λ k below. plain k (let a = found_long in omega arith);
-  }
-    where
-      last_at : (k : ℕ) → length found ≡ size → 0 < size → begins.from + size ≡ ends.from + suc ends.long
-          → get_or found (length found - 1) 0 ≡ get_or line.bytes (ends.from + ends.long) 0
-      last_at k e some same =
-          let here : begins.from + (length found - 1) ≡ ends.from + ends.long = omega arith in
-          found_at (length found - 1) (omega arith) ∙ ap (λ n. get_or line.bytes n 0) here
-
-      plain : (k : ℕ) → k < size → get_or found k 0 ≢ 10
-      plain k below ten =
-          let s = size_is.3 in
-          let d = ends.inside in
-          let feed : is_line_feed 10 ≡ false =
-          ap is_line_feed (sym ten ∙ found_at k below) ∙ is.none (begins.from + k) (omega arith) in
-          absurd (cc)
+  found_name = grind (arith, nat_tests, found_long, size_is, found_at, get_or)
 
   found_stands : NameStands text (record { start = first.start; end = last.end })
-  found_stands = record {
-    order = let a = size_is.0 in omega arith;
-    inside = size_is.2;
-    is = found_name;
-  }
+  found_stands = grind (arith, nat_tests, size_is, found_name)
 
 -- so the name of an entry stands in the text
 entry_stands : (text : List ℕ) (line : LineAt) (entry : Entry) → LineIn text line → IsEntry line entry

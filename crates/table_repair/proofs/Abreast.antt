@@ -1,4 +1,5 @@
 -- Walks back that keep abreast: one of them goes on or ends, and what they change adds up.
+use Rattle.std.proofs.lemmas.Bool.Decides.{nat_tests}
 use Rattle.std.proofs.Common.{◌≡◌, ℕ, zero, suc, ◌+◌, ◌⊎◌, inl, inr, arith, Bool, true, false, refl, sym, ◌∙◌}
 use Rattle.std.proofs.Common.{◌||◌, List, [], ◌∷◌, ◌++◌, length}
 use Rattle.std.specs.Prelude.{Option, Some, None, option_and_then}
@@ -11,31 +12,22 @@ use Rattle.grid_moves.proofs.Legal.{is_same-cell, is_same-itself}
 use Rattle.plus_tables.specs.Tables.{TablesData}
 use Rattle.table_repair.specs.declared.walks.Walk.{Walk}
 use Rattle.table_repair.specs.Abreast.{is_at_one, no_cell, IsOnward, KeepAbreast}
-use Rattle.table_repair.specs.Mending.{IsRight, AreReady, IsMended, Mends, FollowBut, Sweeps, either}
+use Rattle.table_repair.specs.Mending.{IsRight, IsMended, Mends, FollowBut, Sweeps, either}
 use Rattle.table_repair.specs.Mending.{cell_after}
 use Rattle.table_repair.proofs.Lines.{after_before}
-use Rattle.table_repair.proofs.Mends.{mends_none, mends_wider, mends_then, still_mended, right_stays}
+use Rattle.table_repair.proofs.Mends.{mends_wider, mends_then, still_mended, right_stays}
 use Rattle.table_repair.proofs.Mends.{ready_stays, follow_more}
 use Rattle.table_repair.proofs.Walking.{or_false, false_or, or_left, or_right}
 
 -- `||` of three, none of which holds
 or_joined : (a b c : Bool) → (a || (b || c)) ≡ false → ((a || b) || c) ≡ false
-or_joined true b c k = k
-or_joined false b c k = k
-
-or_parted : (a b c : Bool) → ((a || b) || c) ≡ false → (a || (b || c)) ≡ false
-or_parted true b c k = k
-or_parted false b c k = k
+or_joined a b c h = grind (arith, nat_tests)
 
 or_swapped : (a b c : Bool) → ((a || b) || c) ≡ false → (b || (a || c)) ≡ false
-or_swapped true true c k = k
-or_swapped true false c k = k
-or_swapped false true c k = k
-or_swapped false false c k = k
+or_swapped a b c h = grind (arith, nat_tests)
 
 or_further : (a b c d : Bool) → d ≡ (b || c) → (a || d) ≡ ((a || b) || c)
-or_further true b c d e = refl
-or_further false b c d e = e
+or_further a b c d h = grind (arith, nat_tests)
 
 -- so many moves, and then so many more
 pub after_further : (d : Dir) (j k : ℕ) (u v w : Cell) → cell_after d j u ≡ Some v → cell_after d k v ≡ Some w
@@ -69,8 +61,7 @@ pub at_next : (next : Walk) (w : Cell) → is_at_one (next ∷ []) w ≡ true �
 at_next next w a = grind (arith, is_same-cell)
 
 pub or_either : (a b : Bool) → (a || b) ≡ true → (a ≡ true) ⊎ (b ≡ true)
-or_either true b h = inl refl
-or_either false b h = inr h
+or_either a b h = grind (arith, nat_tests)
 
 -- what lies behind a cell that was reached lies behind its start
 mended_further : {h : GridData} {d : Dir} {starts piece : Cell → Bool} {now new : TablesData} {n m : ℕ}
@@ -94,35 +85,10 @@ mends_through : {h : GridData} {d : Dir} {starts piece : Cell → Bool} {old now
 mends_through first reached mends =
     mends_then first mends (λ u k. mended_further reached u k)
 
-pub abreast_none : {h : GridData} {d : Dir} {t : TablesData} {walks : List Walk} → AreReady h t d
-    → ((w : Cell) → is_at_one walks w ≡ true → is_inside h w ≡ true)
-    → ((w : Cell) → is_at_one walks w ≡ true → IsRight h t w d)
-    → KeepAbreast h d (is_at_one walks) t t walks no_cell 0
-abreast_none {t = t} ready i r = record {
-  ready = ready;
-  inside = i;
-  mended = λ w k. record {
-    right = r w k;
-    moves = 0;
-    few = omega arith;
-    start = w;
-    starts_there = k;
-    reaches = refl;
-  };
-  mends = mends_none t;
-  follows = λ later f. f;
-}
-
 module _ {h : GridData} {d : Dir} {starts : Cell → Bool} {old now : TablesData} {v : Walk} {rest : List Walk}
     {n : ℕ} (abreast : KeepAbreast h d starts old now (v ∷ rest) no_cell n) where
-  pub first_inside : is_inside h v.at ≡ true
-  first_inside = abreast.inside v.at (at_first v rest)
-
   pub first_mended : IsMended h now d starts n v.at
   first_mended = abreast.mended v.at (at_first v rest)
-
-  pub first_right : IsRight h now v.at d
-  first_right = first_mended.right
 
   module _ {new : TablesData} {m : ℕ} (mends : Mends h d (λ w. is_same w v.at) now new m) where
     -- what was made right behind the first walk lies behind its start
@@ -201,11 +167,7 @@ module _ {h : GridData} {d : Dir} {starts : Cell → Bool} {old now : TablesData
 pub abreast_ends : {h : GridData} {d : Dir} {starts : Cell → Bool} {old now : TablesData}
     {walks : List Walk} {n : ℕ}
     → KeepAbreast h d starts old now walks no_cell n → walks ≡ [] → Sweeps h d starts old now
-abreast_ends {walks = walks} abreast e later f =
-    follow_more (λ w k. false_or (is_at_one walks w) (later w) (none w) k) (abreast.follows later f)
-  where
-    none : (w : Cell) → is_at_one walks w ≡ false
-    none w = rw e refl
+abreast_ends h i = grind (arith, nat_tests)
 
 -- So the changes of two stretches add up: the second begins at cells that the first has reached, or that were
 -- left, and what the first left waits for these or is left still.
@@ -254,31 +216,4 @@ pub abreast_enter : {h : GridData} {d : Dir} {starts row : Cell → Bool} {old n
     → ((w : Cell) → row w ≡ true → is_inside h w ≡ true)
     → ((w : Cell) → row w ≡ true → IsRight h now w d) → ((w : Cell) → row w ≡ true → starts w ≡ true)
     → KeepAbreast h d starts old now more no_cell n
-abreast_enter {row = row} {walks = walks} {more = more} first there inside right starts_there = record {
-  ready = first.ready;
-  inside = λ w k. elim (one_of_both w k) [
-    | inl a ↦ first.inside w a
-    | inr a ↦ inside w a
-  ];
-  mended = λ w k. elim (one_of_both w k) [
-    | inl a ↦ first.mended w a
-    | inr a ↦ record {
-      right = right w a;
-      moves = 0;
-      few = omega arith;
-      start = w;
-      starts_there = starts_there w a;
-      reaches = refl;
-    }
-  ];
-  mends = first.mends;
-  follows = λ later f. follow_more
-      (λ w k. regroup (is_at_one more w) (is_at_one walks w) (row w) (later w) (there w) k)
-      (first.follows later f);
-}
-  where
-    one_of_both : (w : Cell) → is_at_one more w ≡ true → (is_at_one walks w ≡ true) ⊎ (row w ≡ true)
-    one_of_both w k = or_either (is_at_one walks w) (row w) (sym (there w) ∙ k)
-
-    regroup : (z a b c : Bool) → z ≡ (a || b) → (z || c) ≡ false → (a || (b || c)) ≡ false
-    regroup z a b c e k = or_parted a b c (rw e at k)
+abreast_enter h i j k l = grind (arith, nat_tests)

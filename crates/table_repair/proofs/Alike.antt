@@ -1,16 +1,16 @@
 -- Two grids that are alike around a cell have the same moves and marks there.
-use Rattle.std.proofs.Common.{◌≡◌, ℤ, Bool, true, false, refl, ap, sym, ◌∙◌, ◌||◌}
+use Rattle.std.proofs.Common.{arith}
+use Rattle.std.proofs.lemmas.Bool.Decides.{nat_tests}
+use Rattle.std.proofs.Common.{◌≡◌, ℤ, true, false, refl, ap, sym, ◌∙◌}
 use Rattle.std.specs.Prelude.{Option, Some, None, option_map, unwrap_or, pos, if◌then◌else◌, option_and_then}
 use Rattle.grid_moves.specs.declared.Cell.{Cell}
-use Rattle.grid_moves.specs.declared.Corner.{Corner}
 use Rattle.grid_moves.specs.declared.Dir.{Dir}
 use Rattle.grid_moves.specs.Grid.{GridData, is_free}
 use Rattle.grid_moves.specs.Move.{ahead, corner_of, is_legal, legal_ahead, is_open, is_free_cell}
 use Rattle.pruning.specs.declared.turns.Side.{Side}
 use Rattle.pruning.specs.declared.turns.Side.TheVariants.{Right, Left}
-use Rattle.pruning.specs.Turns.{turn, quarter, rear, is_diagonal}
-use Rattle.pruning.specs.Allowed.{is_blocked, can_move}
-use Rattle.pruning.specs.Marked.{is_forced, is_forced_on}
+use Rattle.pruning.specs.Turns.{turn, is_diagonal}
+use Rattle.pruning.specs.Marked.{is_forced}
 use Rattle.pruning.proofs.Bridging.{legal_leads}
 use Rattle.pruning.proofs.Table.{by_parity}
 use Rattle.plus_tables.specs.Entry.{table_entry}
@@ -25,18 +25,7 @@ pub record AreAlike (g h : GridData) (p : Cell) : Type 0 where
 
 pub alike_apart : (c : Cell) (g h : GridData) → DifferAtMostAt c g h → (p : Cell) → is_near p c ≡ false
     → AreAlike g h p
-alike_apart c g h differ p far = record {
-  corner = differ.corner;
-  free = λ u n. differ.others u (λ same. apart u n same);
-}
-  where
-    apart : (u : Cell) → is_near u p ≡ true → u ≡ c → ⊥
-    apart u n same =
-        let there : is_near p c ≡ true = rw (← same) (near_back u p n) in
-        absurd (cc)
-
-abbrev on_either : Corner → (Dir → Bool) → (Dir → Bool) → Dir → Bool
-on_either r blocked can d = is_forced_on r blocked can d Right || is_forced_on r blocked can d Left
+alike_apart c g h i p j = grind (arith, nat_tests)
 
 module _ (g h : GridData) (p : Cell) (a : AreAlike g h p) where
   legal_same : (u v : Cell) → is_near u p ≡ true → is_near v p ≡ true → is_legal h u v ≡ is_legal g u v
@@ -72,21 +61,7 @@ module _ (g h : GridData) (p : Cell) (a : AreAlike g h p) where
       by_cell (Some v) e = a.free v (near_back p v (near_ahead d p v e))
 
   pub forced_same : (d : Dir) → is_forced h p d ≡ is_forced g p d
-  forced_same d =
-      ap (λ (r : Corner). on_either r (is_blocked h p) (can_move h p) d) a.corner
-      ∙ both _ _ _ _ (on_side g.corner Right) (on_side g.corner Left)
-    where
-      both : (k l m n : Bool) → k ≡ l → m ≡ n → (k || m) ≡ (l || n)
-      both k l m n e f = cc
-
-      on_side : (r : Corner) (s : Side) → is_forced_on r (is_blocked h p) (can_move h p) d s
-          ≡ is_forced_on r (is_blocked g p) (can_move g p) d s
-      on_side r s = rw (
-        opens_same (rear s d),
-        moves_from (quarter s d),
-        opens_same (quarter s d),
-        moves_from (turn s d),
-      ) refl
+  forced_same d = grind (arith, nat_tests, opens_same, moves_from)
 
 -- told by the entries at the next cell
 module _ (g h : GridData) (d : Dir) (v : Cell) (a : AreAlike g h v) (kept : IsKept g h v d)

@@ -1,5 +1,7 @@
 -- Which entries wait before the first sweep: near the edited cell, and for the diagonals where straight
 -- entries changed.
+use Rattle.std.proofs.Common.{arith}
+use Rattle.std.proofs.lemmas.Bool.Decides.{nat_tests}
 use Rattle.std.proofs.Common.{◌≡◌, ℕ, ◌<◌, ◌≤◌, inl, inr, Bool, true, false, refl, sym, ◌∙◌}
 use Rattle.std.specs.Prelude.{pos, Option, Some, None, option_map, unwrap_or}
 use Rattle.grid_moves.specs.declared.Cell.{Cell}
@@ -23,8 +25,8 @@ use Rattle.table_repair.specs.Mending.{is_in_reach, span_beside}
 use Rattle.table_repair.proofs.Alike.{changes_spread_back}
 use Rattle.table_repair.proofs.Lines.{after_moved}
 use Rattle.table_repair.proofs.Walking.{walk_short}
-use Rattle.table_repair.proofs.Rows.{not_true, true_false}
-use Rattle.table_repair.proofs.Reach.{near_beside, block_reached, line_reached, block_inside}
+use Rattle.table_repair.proofs.Rows.{true_false}
+use Rattle.table_repair.proofs.Reach.{block_reached, line_reached, block_inside}
 
 -- where no cell of the map lies ahead the entry is 0
 edge_entry : (k : GridData) (u : Cell) (d : Dir) → ((v : Cell) → ahead d u ≡ Some v → is_inside k v ≡ false)
@@ -69,17 +71,14 @@ module _ (c : Cell) (g h : GridData) (differ : DifferAtMostAt c g h) where
       → rows ≡ span_beside c.y h.height → columns ≡ span_beside c.x h.width
       → ((v : Cell) → is_inside h v ≡ true → is_in rows columns v ≡ true → waits v ≡ true)
       → (v : Cell) → is_inside h v ≡ true → waits v ≡ false → is_near v c ≡ false
-  far_apart rows columns waits r s block v i w = not_true (is_near v c) (λ n.
-      true_false (waits v) (block v i (rw (r, s) (near_beside h c v i n))) w)
+  far_apart rows columns waits r s block v i w = grind (arith, nat_tests)
 
   -- before the straight sweeps
   pub straight_begins : (t : TablesData) (d : Dir) (rows columns : Span)
       → rows ≡ span_beside c.y h.height → columns ≡ span_beside c.x h.width → is_diagonal d ≡ false
       → AreTablesOf t g → FollowBut h t d (is_in rows columns)
-  straight_begins t d rows columns r s k tables = follow_from t d (is_in rows columns)
-      (λ u i. tables.right u d (sym (same_inside u) ∙ i))
-      (far_apart rows columns (is_in rows columns) r s (λ v i j. j))
-      (λ v i w l side. absurd (true_false (is_diagonal d) l k))
+  straight_begins t d rows columns r s k tables =
+      grind (arith, nat_tests, follow_from, same_inside, far_apart, true_false)
 
   -- before those of a diagonal direction
   pub diagonal_begins : (t now : TablesData) (n by : ℕ) (d : Dir) (rows columns : Span)

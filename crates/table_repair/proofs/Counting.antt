@@ -7,6 +7,7 @@ use Rattle.std.proofs.lemmas.Bool.Decides.{Decides-int_eq}
 use Rattle.std.proofs.lemmas.List.{set-get_or}
 use Rattle.grid_moves.specs.declared.Cell.{Cell}
 use Rattle.grid_moves.specs.declared.Dir.{Dir}
+use Rattle.grid_moves.specs.Move.{dir_number}
 use Rattle.grid_moves.proofs.Places.{one_place, one_cell, number_below}
 use Rattle.grid_moves.proofs.Dirs.{dir_number-few, one_dir}
 use Rattle.plus_tables.specs.Tables.{TablesData, IsWhole, entry_place, entry_at, tables_with, is_on}
@@ -46,8 +47,7 @@ module _ (t : TablesData) (whole : IsWhole t) (u : Cell) (on : is_on t u ≡ tru
   pub count-with : (d : Dir) (x : ℤ) (r : List ℤ) → length t.entries ≡ length r
       → x ≡ get_or r (entry_place t.width u d) (pos 0) → entry_at t u d ≢ x
       → places_differing t.entries r ≡ places_differing (tables_with t u d x).entries r + 1
-  count-with d x r e s n =
-      rw s (one_less t.entries r (entry_place t.width u d) (place_within d) e (rw (← s) n))
+  count-with d x r e s n = grind (arith, nat_tests, one_less, place_within)
 
   pub with_itself : (d : Dir) → tables_with t u d (entry_at t u d) ≡ t
   with_itself d = grind (arith, set-get_or)

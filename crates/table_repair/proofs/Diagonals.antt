@@ -1,4 +1,5 @@
 -- The two sweeps for a diagonal direction.
+use Rattle.std.proofs.lemmas.Bool.Decides.{nat_tests}
 use Rattle.std.proofs.Common.{◌≡◌, ℕ, ◌+◌, ◌*◌, ◌≤◌, arith, Bool, true, false, refl, mul-le-mul}
 use Rattle.grid_moves.specs.declared.Dir.{Dir}
 use Rattle.grid_moves.specs.Grid.{GridData}
@@ -23,11 +24,7 @@ module _ (h : GridData) (rows columns : Span) {wide rear : Span} (by : ℕ) (d :
 
   pub first_waits : {t : TablesData} → FollowBut h t d (is_in_reach h rows columns by d)
       → CanSweep h t d (is_in rows wide)
-  first_waits f = record {
-    later = is_in rear columns;
-    follow = both_parts f;
-    none_ahead = rw is_rear (rear_behind d rows columns wide by h.height diagonal);
-  }
+  first_waits h = grind (arith, nat_tests, both_parts, rear_behind)
 
   pub second_waits : {t now : TablesData} → FollowBut h t d (is_in_reach h rows columns by d)
       → Sweeps h d (is_in rows wide) t now → CanSweep h now d (is_in rear columns)
@@ -48,30 +45,13 @@ module _ (h : GridData) (rows columns : Span) {wide rear : Span} (by : ℕ) (d :
       → Mends h d (is_in rear columns) now new n → Mends h d any_cell t new (m + n)
   both_mend a b = mends_both (mends_wider (λ w k. refl) a) (mends_wider (λ w k. refl) b)
 
-  -- they lie on the map
-  wide_end : (before : Bool) → IsBlock h rows columns → (widened before columns by h.width).end ≤ h.width
-  wide_end true b = let n = b.narrow in omega arith
-  wide_end false b = omega arith
-
   wide_short : (before : Bool) → IsBlock h rows columns
       → span_length (widened before columns by h.width) ≤ h.width
-  wide_short true b = let n = b.narrow in omega arith
-  wide_short false b = omega arith
-
-  rear_end : (before : Bool) → IsBlock h rows columns → (span_next before rows by h.height).end ≤ h.height
-  rear_end true b = let n = b.low in let m = b.some_row in omega arith
-  rear_end false b = omega arith
+  wide_short before h = grind (arith, nat_tests)
 
   rear_short : (before : Bool) → IsBlock h rows columns
       → span_length (span_next before rows by h.height) ≤ h.height
-  rear_short true b = let n = b.low in let m = b.some_row in omega arith
-  rear_short false b = omega arith
-
-  pub wide_within : IsBlock h rows columns → wide.end ≤ h.width
-  wide_within b = rw is_wide (wide_end (goes_right d) b)
-
-  pub rear_within : IsBlock h rows columns → rear.end ≤ h.height
-  rear_within b = rw is_rear (rear_end (goes_down d) b)
+  rear_short before h = grind (arith, nat_tests)
 
   -- how many cells that are, at most three of them in each row behind the block
   pub cells_few : IsBlock h rows columns

@@ -1,5 +1,6 @@
 -- Sweeps for directions of one kind, one after the other.
-use Rattle.std.proofs.Common.{◌≡◌, ℕ, ◌+◌, ◌⊎◌, inl, inr, arith, Bool, true, false, ap, sym, ◌∙◌}
+use Rattle.std.proofs.lemmas.Bool.Decides.{nat_tests}
+use Rattle.std.proofs.Common.{◌≡◌, ℕ, ◌+◌, ◌⊎◌, inl, inr, arith, Bool, true, false, ◌∙◌}
 use Rattle.std.proofs.lemmas.Bool.{cases_Bool}
 use Rattle.grid_moves.specs.declared.Cell.{Cell}
 use Rattle.grid_moves.specs.declared.Dir.{Dir}
@@ -7,35 +8,18 @@ use Rattle.grid_moves.specs.Grid.{GridData, is_inside}
 use Rattle.grid_moves.specs.Move.{is_dir}
 use Rattle.pruning.proofs.Table.{same_dir}
 use Rattle.plus_tables.specs.Tables.{TablesData, entry_at}
-use Rattle.table_repair.specs.Mending.{AreRight, AreBesideRight, AreReady, AreSound, FollowBut, IsMended}
+use Rattle.table_repair.specs.Mending.{AreRight, AreSound, FollowBut, IsMended}
 use Rattle.table_repair.specs.Mending.{Mends, MendsKind}
-use Rattle.table_repair.proofs.Mends.{sized_kept, still_mended}
+use Rattle.table_repair.proofs.Mends.{still_mended}
 use Rattle.table_repair.proofs.Lines.{right_ahead}
-
-pub ready_from : (h : GridData) (t : TablesData) (d : Dir) → AreSound h t → AreBesideRight h t d
-    → AreReady h t d
-ready_from h t d s b = record { grid = s.grid; sized = s.sized; whole = s.whole; beside = b }
 
 pub sound_stays : {h : GridData} {d : Dir} {starts : Cell → Bool} {old new : TablesData} {n : ℕ}
     → Mends h d starts old new n → AreSound h old → AreSound h new
-sound_stays m s = record {
-  grid = s.grid;
-  sized = sized_kept m s.sized;
-  whole = record {
-    sides = rw (m.width, m.height) s.whole.sides;
-    whole = rw (m.width, m.height) (m.length_kept ∙ s.whole.whole);
-  };
-}
+sound_stays h i = grind (arith, nat_tests)
 
 -- a direction is another one
 apart : (kind : Dir → Bool) (d e : Dir) → kind d ≡ true → kind e ≡ false → is_dir e d ≡ false
-apart kind d e h k = elim (cases_Bool (is_dir e d)) [
-  | inr i ↦ i
-  | inl i ↦
-      let same : kind e ≡ kind d = ap kind (same_dir e d i) in
-      let t : true ≡ false = sym h ∙ sym same ∙ k in
-      absurd (cc)
-]
+apart kind d e h i = grind (arith, nat_tests)
 
 module _ {h : GridData} {kind : Dir → Bool} {starts : Cell → Bool} where
   -- one direction more

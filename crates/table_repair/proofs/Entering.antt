@@ -1,5 +1,6 @@
 -- A narrow block is swept row by row: in each row walks begin beside those that have come to it.
-use Rattle.std.proofs.Common.{◌≡◌, ℕ, suc, ◌+◌, ◌<◌, ◌≤◌, inl, inr, arith, Bool, true, false, refl, sym, ◌∙◌}
+use Rattle.std.proofs.lemmas.Bool.Decides.{nat_tests}
+use Rattle.std.proofs.Common.{◌≡◌, ℕ, suc, ◌+◌, ◌<◌, ◌≤◌, inl, inr, arith, Bool, true, false, refl}
 use Rattle.std.proofs.Common.{◌||◌, List, []}
 use Rattle.std.specs.Prelude.{nat_eq}
 use Rattle.grid_moves.specs.declared.Cell.{Cell}
@@ -16,11 +17,11 @@ use Rattle.table_repair.specs.Mending.{IsRight, AreReady, IsMended, CanSweep, ei
 use Rattle.table_repair.specs.Mending.{is_in, goes_down}
 use Rattle.table_repair.proofs.Abreast.{abreast_beside, abreast_enter, abreast_then, or_either}
 use Rattle.table_repair.proofs.Lines.{after_moved, right_ahead}
-use Rattle.table_repair.proofs.Mends.{mends_none, right_stays}
+use Rattle.table_repair.proofs.Mends.{right_stays}
 use Rattle.table_repair.proofs.Moving.{ahead_moved}
 use Rattle.table_repair.proofs.Rows.{not_true, row_of_block, row_or_rest}
 use Rattle.table_repair.proofs.Sweeping.{IsTaken, among_parts, number_same}
-use Rattle.table_repair.proofs.Walking.{or_false, false_or, or_left, or_right}
+use Rattle.table_repair.proofs.Walking.{or_false, false_or, or_right}
 
 -- the row is one of those that are left, or lies behind them
 abbrev pub IsPast : Bool → Span → ℕ → Type 0
@@ -28,8 +29,7 @@ IsPast true left y = y < left.end
 IsPast false left y = left.first ≤ y
 
 among_past : (down : Bool) (left : Span) (y : ℕ) → is_among left y ≡ true → IsPast down left y
-among_past true left y i = (among_parts left y i).1
-among_past false left y i = (among_parts left y i).0
+among_past down left y h = grind (arith, nat_tests)
 
 pub row_below : (h : GridData) (rows : Span) (y : ℕ) → is_among rows y ≡ true → rows.end ≤ h.height
     → y < h.height
@@ -38,13 +38,7 @@ row_below h rows y i low = let p = among_parts rows y i in let l = p.1 in omega 
 -- nothing has begun
 pub enter_none : {h : GridData} {d : Dir} {all : Cell → Bool} {t : TablesData} {walks : List Walk}
     → AreReady h t d → walks ≡ [] → KeepAbreast h d all t t walks all 0
-enter_none {t = t} ready e = rw e (record {
-  ready = ready;
-  inside = λ w k. absurd (cc);
-  mended = λ w k. absurd (cc);
-  mends = mends_none t;
-  follows = λ later f. f;
-})
+enter_none h i = grind (arith, nat_tests)
 
 pub past_none : (down : Bool) (left : Span) (walks : List Walk) → walks ≡ [] → (w : Cell)
     → is_at_one walks w ≡ true → IsPast down left w.y
@@ -146,12 +140,4 @@ pub entered_behind : (d : Dir) (row : Cell → Bool) (walks kept all onward : Li
     → ((w : Cell) → is_at_one all w ≡ (is_at_one kept w || row w))
     → ((w : Cell) → is_at_one onward w ≡ true → IsBehindOne d (is_at_one all) w) → (w : Cell)
     → is_at_one onward w ≡ true → IsBehindOne d (either (is_at_one walks) row) w
-entered_behind d row walks kept all onward same there behind w k =
-    let b = behind w k in
-    record { from = b.from; stood = stood b.from b.stood; behind = b.behind }
-  where
-    stood : (v : Cell) → is_at_one all v ≡ true → (is_at_one walks v || row v) ≡ true
-    stood v a = elim (or_either (is_at_one kept v) (row v) (sym (there v) ∙ a)) [
-      | inl i ↦ or_left (is_at_one walks v) (row v) (same v i)
-      | inr i ↦ or_right (is_at_one walks v) (row v) i
-    ]
+entered_behind d row walks kept all onward same there behind w k = grind (arith, nat_tests)

@@ -1,4 +1,5 @@
 -- A round in one list: the walks that go on move to its front.
+use Rattle.std.proofs.lemmas.Bool.Decides.{nat_tests}
 use Rattle.std.proofs.Common.{◌≡◌, ℕ, ◌+◌, ◌<◌, ◌≤◌, arith, Bool, true, refl, sym, ◌∙◌, ◌||◌, List, ◌∷◌}
 use Rattle.std.proofs.Common.{◌++◌, length, get_or, take, drop}
 use Rattle.std.proofs.lemmas.List.{drop_more, drop-set-lt, take_more_set, length-set}
@@ -80,9 +81,4 @@ module _ {h : GridData} {d : Dir} {old now : TablesData} {first steps : ℕ} {he
     -- or it ends
     pub place_ends : {more : List Walk} {further : ℕ} → on ≡ None → more ≡ list → further ≡ onward
         → InPlace h d old new first counted here more further (i + 1)
-    place_ends e f g = rw (f, g) (record {
-      round = next_round (none_on e refl);
-      rest = parts.1;
-      few = let a = place.few in omega arith;
-      size = place.size;
-    })
+    place_ends h i j = grind (arith, nat_tests, next_round, none_on, parts)

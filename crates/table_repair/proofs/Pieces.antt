@@ -1,7 +1,7 @@
 -- A row is swept piece by piece along a diagonal direction, which leads from no cell of it to another.
+use Rattle.std.proofs.lemmas.Bool.Decides.{nat_tests}
 use Rattle.std.proofs.Common.{◌≡◌, ℕ, suc, ◌+◌, ◌*◌, ◌-◌, ◌<◌, ◌≤◌, ◌⊎◌, inl, inr, arith, Bool, true, false}
-use Rattle.std.proofs.Common.{refl, sym, ◌∙◌, ◌||◌, List, [], ◌∷◌, ◌++◌, length}
-use Rattle.std.specs.Prelude.{nat_eq}
+use Rattle.std.proofs.Common.{refl, sym, ◌∙◌, ◌||◌, List, [], ◌∷◌, ◌++◌}
 use Rattle.grid_moves.specs.declared.Cell.{Cell}
 use Rattle.grid_moves.specs.declared.Dir.{Dir}
 use Rattle.grid_moves.specs.Grid.{GridData, is_inside}
@@ -13,12 +13,12 @@ use Rattle.plus_tables.specs.Tables.{TablesData}
 use Rattle.table_repair.specs.declared.span.Span.{Span}
 use Rattle.table_repair.specs.declared.walks.Walk.{Walk}
 use Rattle.table_repair.specs.Abreast.{is_at_one}
-use Rattle.table_repair.specs.Mending.{IsRight, Mends, CanSweep, Sweeps, either, is_among, is_in_row}
+use Rattle.table_repair.specs.Mending.{IsRight, Mends, CanSweep, Sweeps, either, is_in_row}
 use Rattle.table_repair.proofs.Abreast.{at_both}
-use Rattle.table_repair.proofs.Lines.{after_moved, right_ahead}
+use Rattle.table_repair.proofs.Lines.{after_moved, right_ahead, is_inside-from}
 use Rattle.table_repair.proofs.Mends.{mends_wider, follow_more}
 use Rattle.table_repair.proofs.Rows.{and_true, not_true}
-use Rattle.table_repair.proofs.Sweeping.{Swept, swept_more, swept_all, among_parts, among_from, number_same}
+use Rattle.table_repair.proofs.Sweeping.{Swept, swept_more, among_from}
 use Rattle.table_repair.proofs.Walking.{false_or}
 
 -- what is told of one test, told of another that answers the same
@@ -28,11 +28,7 @@ mends_same same m = mends_wider (λ w k. sym (same w) ∙ k) m
 
 pub sweeps_same : (h : GridData) (d : Dir) (one other : Cell → Bool) → ((w : Cell) → one w ≡ other w)
     → (old new : TablesData) → Sweeps h d one old new → Sweeps h d other old new
-sweeps_same h d one other same old new sweeps later f =
-    sweeps later (follow_more (λ w k. either_way (one w) (other w) (later w) (same w) k) f)
-  where
-    either_way : (a b c : Bool) → a ≡ b → (a || c) ≡ false → (b || c) ≡ false
-    either_way a b c e k = rw (← e) k
+sweeps_same h d one other same old new sweeps later f = grind (arith, nat_tests)
 
 -- the columns from one on, and below another
 abbrev pub part : ℕ → ℕ → Span
@@ -40,9 +36,7 @@ part first end = record { first = first; end = end }
 
 row_parts : (y : ℕ) (s : Span) (w : Cell) → is_in_row y s w ≡ true
     → (w.y ≡ y) × ((s.first ≤ w.x) × (w.x < s.end))
-row_parts y s w i =
-    let p = and_both (nat_eq w.y y) (is_among s w.x) i in
-    (number_same w.y y p.0, among_parts s w.x p.1)
+row_parts y s w i = grind (arith, nat_tests)
 
 row_from : (y : ℕ) (s : Span) (w : Cell) → w.y ≡ y → s.first ≤ w.x → w.x < s.end → is_in_row y s w ≡ true
 row_from y s w e l m = grind (arith, and_true, among_from)
@@ -106,10 +100,7 @@ module _ {h : GridData} {d : Dir} (y : ℕ) (columns : Span) (first : ℕ) {old 
 pub pieces_done : {h : GridData} {d : Dir} (y : ℕ) (columns : Span) (first : ℕ) {old now : TablesData} {n : ℕ}
     → Swept h d (is_in_row y columns) (is_in_row y (part first columns.end)) old now n
     → columns.end ≤ first → Sweeps h d (is_in_row y columns) old now
-pieces_done y columns first swept l =
-    swept_all swept (λ w. not_true (is_in_row y (part first columns.end) w)
-    (λ i. let p = row_parts y (part first columns.end) w i in
-    let a = p.1.0 in let b = p.1.1 in absurd (omega arith)))
+pieces_done y columns first swept l = grind (arith, nat_tests)
 
 -- the last column is reached
 pub last_column : (y : ℕ) (s : Span) (x : ℕ) (before : List Walk) (w : Cell) → x ≤ s.end → s.end ≤ x
@@ -131,7 +122,3 @@ pub piece_counted : (steps now start changed one first next end all : ℕ) → f
     → steps + (end - first) ≤ start + changed + all → now ≤ steps + one + (next - first)
     → now + (end - next) ≤ start + (changed + one) + all
 piece_counted steps now start changed one first next end all l m h k = omega arith
-
-pub piece_short : (walks before : List Walk) (n : ℕ) → before ≡ [] → length walks ≡ length before + n
-    → n ≤ 512 → length walks ≤ 512
-piece_short walks before n e long short = grind arith

@@ -1,5 +1,6 @@
 -- Straight entries that changed lie in reach of the diagonal sweeps.
-use Rattle.std.proofs.Common.{◌≡◌, ℕ, ◌+◌, ◌<◌, ◌≤◌, ◌⊎◌, inl, inr, arith, Bool, true, false}
+use Rattle.std.proofs.lemmas.Bool.Decides.{nat_tests}
+use Rattle.std.proofs.Common.{◌≡◌, ℕ, ◌+◌, ◌<◌, ◌≤◌, ◌⊎◌, arith, Bool, true, false}
 use Rattle.std.specs.Prelude.{suc}
 use Rattle.grid_moves.specs.declared.Cell.{Cell}
 use Rattle.grid_moves.specs.declared.Dir.{Dir}
@@ -12,31 +13,25 @@ use Rattle.pruning.specs.declared.turns.Side.TheVariants.{Right, Left}
 use Rattle.pruning.specs.Turns.{turn, is_diagonal}
 use Rattle.pruning.proofs.Running.{AreMoved}
 use Rattle.table_repair.specs.declared.span.Span.{Span}
-use Rattle.table_repair.specs.Differ.{is_near}
 use Rattle.table_repair.specs.Mending.{is_among, is_in, span_beside, widened, span_next, is_in_reach}
 use Rattle.table_repair.specs.Mending.{goes_right, goes_down, NoneAhead}
 use Rattle.table_repair.proofs.Moving.{is_near-parts}
-use Rattle.table_repair.proofs.Lines.{after_moved}
+use Rattle.table_repair.proofs.Lines.{after_moved, inside_parts, is_inside-from}
 use Rattle.table_repair.proofs.Sweeping.{among_parts, among_from}
 use Rattle.table_repair.proofs.Rows.{and_true, not_true}
-use Rattle.table_repair.proofs.Walking.{or_left, or_right}
+use Rattle.table_repair.proofs.Walking.{or_right}
 
 wide_before : (s : Span) (by side a b k : ℕ) → is_among s b ≡ true → b ≡ a + k → k ≤ by
     → is_among (widened true s by side) a ≡ true
-wide_before s by side a b k i m l =
-    let p = among_parts s b i in among_from (widened true s by side) a (omega arith) (omega arith)
+wide_before s by side a b k i m l = grind (arith, nat_tests)
 
 wide_behind : (s : Span) (by side a b k : ℕ) → is_among s b ≡ true → a ≡ b + k → k ≤ by → a < side
     → is_among (widened false s by side) a ≡ true
-wide_behind s by side a b k i m l j =
-    let p = among_parts s b i in among_from (widened false s by side) a (omega arith) (omega arith)
+wide_behind s by side a b k i m l j = grind (arith, nat_tests)
 
 wide_still : (before : Bool) (s : Span) (by side a : ℕ) → is_among s a ≡ true → a < side
     → is_among (widened before s by side) a ≡ true
-wide_still true s by side a i j =
-    let p = among_parts s a i in among_from (widened true s by side) a (omega arith) p.1
-wide_still false s by side a i j =
-    let p = among_parts s a i in among_from (widened false s by side) a p.0 (omega arith)
+wide_still before s by side a h i = grind (arith, nat_tests)
 
 below_or : (a b : ℕ) → (a ≤ b) ⊎ (b < a)
 below_or a b = grind arith
@@ -52,8 +47,7 @@ next_behind s by side a b k i m l j = grind (arith, among_parts, below_or, among
 module _ (h : GridData) (rows columns : Span) (by : ℕ) (d : Dir) (v : Cell) (i : is_inside h v ≡ true) where
   in_row : is_among rows v.y ≡ true → is_among (widened (goes_right d) columns by h.width) v.x ≡ true
       → is_in_reach h rows columns by d v ≡ true
-  in_row p q = or_left (is_in rows (widened (goes_right d) columns by h.width) v) _
-      (and_true (is_among rows v.y) (is_among (widened (goes_right d) columns by h.width) v.x) p q)
+  in_row p q = grind (arith, nat_tests)
 
   -- the block is in reach
   pub block_reached : is_in rows columns v ≡ true → is_in_reach h rows columns by d v ≡ true
@@ -62,9 +56,7 @@ module _ (h : GridData) (rows columns : Span) (by : ℕ) (d : Dir) (v : Cell) (i
   in_column : is_among columns v.x ≡ true
       → (is_among rows v.y ≡ true) ⊎ (is_among (span_next (goes_down d) rows by h.height) v.y ≡ true)
       → is_in_reach h rows columns by d v ≡ true
-  in_column p (inl q) = block_reached (and_true (is_among rows v.y) (is_among columns v.x) q p)
-  in_column p (inr q) = or_right (is_in rows (widened (goes_right d) columns by h.width) v) _
-      (and_true (is_among (span_next (goes_down d) rows by h.height) v.y) (is_among columns v.x) q p)
+  in_column h i = grind (arith, nat_tests, block_reached, and_true, or_right)
 
 -- and so is what lies that far behind it in a component
 pub line_reached : (h : GridData) (rows columns : Span) (by : ℕ) (d : Dir) (s : Side) → is_diagonal d ≡ true
@@ -109,16 +101,6 @@ line_reached h rows columns by d s diagonal v start k l m j i = by_dir d s diago
     by_dir E s q m = absurd (cc)
     by_dir S s q m = absurd (cc)
     by_dir W s q m = absurd (cc)
-
--- what is near a cell lies in the rows and columns beside it
-pub near_beside : (h : GridData) (c v : Cell) → is_inside h v ≡ true → is_near v c ≡ true
-    → is_in (span_beside c.y h.height) (span_beside c.x h.width) v ≡ true
-near_beside h c v i n =
-    let p = inside_is h v i in
-    let q = is_near-parts v c n in
-    and_true (is_among (span_beside c.y h.height) v.y) (is_among (span_beside c.x h.width) v.x)
-    (among_from (span_beside c.y h.height) v.y (omega arith) (omega arith))
-    (among_from (span_beside c.x h.width) v.x (omega arith) (omega arith))
 
 -- the rows behind the block lie ahead of none of its cells
 pub rear_behind : (d : Dir) (rows columns wide : Span) (by side : ℕ) → is_diagonal d ≡ true

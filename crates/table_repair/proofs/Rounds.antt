@@ -1,4 +1,5 @@
 -- Rounds of walks back: in each, every walk goes one move on or ends.
+use Rattle.std.proofs.lemmas.Bool.Decides.{nat_tests}
 use Rattle.std.proofs.Common.{◌≡◌, ℕ, zero, suc, ◌+◌, ◌-◌, ◌*◌, ◌<◌, ◌≤◌, inl, inr, arith, Bool, true, false}
 use Rattle.std.proofs.Common.{refl, sym, ◌∙◌, ◌||◌, List, [], ◌∷◌, ◌++◌, length, length-append}
 use Rattle.std.proofs.Common.{append_assoc, get_or, drop}
@@ -16,8 +17,9 @@ use Rattle.table_repair.specs.declared.walks.Walk.{Walk}
 use Rattle.table_repair.specs.Abreast.{is_at_one, no_cell, IsBehindOne, IsOnward, KeepAbreast, back_room}
 use Rattle.table_repair.specs.Abreast.{room_of}
 use Rattle.table_repair.specs.Mending.{IsRight, AreReady, Mends, FollowBut, either, goes_down}
-use Rattle.table_repair.proofs.Abreast.{abreast_none, abreast_next, abreast_then, at_both, at_first, at_next}
-use Rattle.table_repair.proofs.Abreast.{at_others, first_inside, first_right, or_either}
+use Rattle.table_repair.proofs.Abreast.{abreast_none, abreast_next, abreast_then, at_both, at_first}
+use Rattle.table_repair.proofs.Abreast.{at_next, at_others, first_inside, first_right, or_either}
+use Rattle.table_repair.proofs.Lines.{inside_parts}
 use Rattle.table_repair.proofs.Moving.{ahead_moved}
 
 pub room_both : (h : GridData) (d : Dir) (xs ys : List Walk)
@@ -35,9 +37,7 @@ room_next : (h : GridData) (d : Dir) (v : Walk) (rest : List Walk) (t : TablesDa
     → is_diagonal d ≡ true → ((next : Walk) → on ≡ Some next → IsOnward h t d v.at next.at)
     → length (option_to_list on) + room_of h d (rest ++ option_to_list on) ≤ room_of h d (v ∷ rest)
 unfolding room_of
-room_next h d v rest t None k onward =
-    let e = room_both h d rest [] in omega arith
-room_next h d v rest t (Some next) k onward = grind (arith, room_both, room_behind)
+room_next h d v rest t on i j = grind (arith, nat_tests, room_both, room_behind)
 
 pub room_few : (h : GridData) (d : Dir) (walks : List Walk) → IsGrid h
     → ((w : Cell) → is_at_one walks w ≡ true → is_inside h w ≡ true)
@@ -74,12 +74,7 @@ pub queued_none : {h : GridData} {d : Dir} {t : TablesData} {steps : ℕ} {walks
     → ((w : Cell) → is_at_one walks w ≡ true → is_inside h w ≡ true)
     → ((w : Cell) → is_at_one walks w ≡ true → IsRight h t w d)
     → Queued h d (is_at_one walks) t t steps steps (length walks) (room_of h d walks) walks 0
-queued_none ready i r = record {
-  abreast = abreast_none ready i r;
-  few = omega arith;
-  counted = omega arith;
-  later = omega arith;
-}
+queued_none h i j = grind (arith, nat_tests)
 
 -- in a round: those walks that are left of it, and those that went on
 pub record Round (h : GridData) (d : Dir) (old now : TablesData) (first steps : ℕ) (here onward : List Walk)
@@ -95,12 +90,7 @@ pub round_begins : {h : GridData} {d : Dir} {t : TablesData} {steps : ℕ} {walk
     → ((w : Cell) → is_at_one walks w ≡ true → is_inside h w ≡ true)
     → ((w : Cell) → is_at_one walks w ≡ true → IsRight h t w d)
     → here ≡ walks → onward ≡ [] → Round h d t t steps steps here onward 0
-round_begins {walks = walks} ready i r e f = rw (e, f) (record {
-  queued = rw (append-nil walks) (queued_none ready i r);
-  fewer = omega arith;
-  within = omega arith;
-  behind = λ w k. absurd (cc);
-})
+round_begins h i j k l = grind (arith, nat_tests, append-nil, queued_none)
 
 -- a walk of a list stands where one does
 at_index : (vs : List Walk) (i : ℕ) (v : Walk) → i < length vs → is_at_one vs (get_or vs i v).at ≡ true
@@ -122,15 +112,6 @@ module _ {h : GridData} {d : Dir} {old now : TablesData} {first steps : ℕ} {he
   queue : Queued h d (is_at_one here) old now first steps (length here) (room_of h d here)
       (its_walk ∷ others) (length onward)
   queue = rw (← queue_is) round.queued
-
-  pub walk_ready : AreReady h now d
-  walk_ready = queue.abreast.ready
-
-  pub walk_inside : is_inside h (get_or here i v).at ≡ true
-  walk_inside = first_inside queue.abreast
-
-  pub walk_right : IsRight h now (get_or here i v).at d
-  walk_right = first_right queue.abreast
 
   pub round_next : {new : TablesData} {counted : ℕ} {on : Option Walk} → is_diagonal d ≡ true
       → Mends h d (λ w. is_same w (get_or here i v).at) now new (length (option_to_list on))

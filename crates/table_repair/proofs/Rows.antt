@@ -1,4 +1,5 @@
 -- A row is swept column by column, and a block row by row.
+use Rattle.std.proofs.lemmas.Bool.Decides.{nat_tests}
 use Rattle.std.proofs.Common.{◌≡◌, ℕ, suc, ◌+◌, ◌<◌, ◌≤◌, inl, inr, arith, Bool, true, false, refl, ◌&&◌}
 use Rattle.std.proofs.Common.{◌||◌}
 use Rattle.std.specs.Prelude.{nat_eq}
@@ -14,15 +15,14 @@ use Rattle.table_repair.specs.Mending.{IsRight, FollowBut, Mends, CanSweep, Swee
 use Rattle.table_repair.specs.Mending.{is_in_row, is_in, goes_right, goes_down}
 use Rattle.table_repair.proofs.Lines.{after_moved, right_ahead}
 use Rattle.table_repair.proofs.Walking.{or_false, false_or}
-use Rattle.table_repair.proofs.Sweeping.{IsTaken, Swept, swept_more, swept_all, row_ahead, rows_ahead}
+use Rattle.table_repair.proofs.Sweeping.{IsTaken, Swept, swept_more, row_ahead, rows_ahead}
 use Rattle.table_repair.proofs.Sweeping.{among_parts, same_number, number_same}
 
 pub and_true : (a b : Bool) → a ≡ true → b ≡ true → (a && b) ≡ true
 and_true a b h k = grind arith
 
 pub not_true : (b : Bool) → (b ≡ true → ⊥) → b ≡ false
-not_true true h = absurd (h refl)
-not_true false h = refl
+not_true b h = grind (arith, nat_tests)
 
 pub true_false : (b : Bool) → b ≡ true → b ≡ false → ⊥
 true_false b h k = cc
@@ -76,14 +76,7 @@ module _ {down : Bool} (rows columns : Span) {left rest : Span} {y : ℕ}
   -- what was left is in that row, or in those that are left
   pub row_or_rest : (w : Cell) → is_in_row y columns w ≡ false → is_in rest columns w ≡ false
       → is_in left columns w ≡ false
-  row_or_rest w s r = not_true (is_in left columns w) (λ i.
-      let p = and_both (is_among left w.y) (is_among columns w.x) i in
-      elim (taken.rest w.y p.0) [
-        | inl e ↦ true_false (is_in_row y columns w)
-            (and_true (nat_eq w.y y) (is_among columns w.x) (rw e (same_number y)) p.1) s
-        | inr a ↦ true_false (is_in rest columns w)
-            (and_true (is_among rest w.y) (is_among columns w.x) a p.1) r
-      ])
+  row_or_rest w s r = grind (arith, nat_tests)
 
 module _ {h : GridData} {d : Dir} (rows columns : Span) {left rest : Span} {y : ℕ} {old now : TablesData}
     {n : ℕ}
@@ -133,19 +126,15 @@ module _ {h : GridData} {d : Dir} (rows columns : Span) {left rest : Span} {y : 
 -- no cell of an empty block
 pub none_left : (left columns : Span) → ((k : ℕ) → is_among left k ≡ false) → (w : Cell)
     → is_in left columns w ≡ false
-none_left left columns none w = not_true (is_in left columns w)
-    (λ i. true_false (is_among left w.y) (and_both (is_among left w.y) (is_among columns w.x) i).0 (none w.y))
+none_left left columns none w = grind (arith, nat_tests)
 
 -- nothing is left
 pub row_done : {h : GridData} {d : Dir} (y : ℕ) (columns left : Span) {old now : TablesData} {n : ℕ}
     → Swept h d (is_in_row y columns) (is_in_row y left) old now n
     → ((k : ℕ) → is_among left k ≡ false) → Sweeps h d (is_in_row y columns) old now
-row_done y columns left swept none =
-    swept_all swept (λ w. not_true (is_in_row y left w)
-    (λ i. true_false (is_among left w.x) (and_both (nat_eq w.y y) (is_among left w.x) i).1 (none w.x)))
+row_done y columns left swept none = grind (arith, nat_tests)
 
 pub block_done : {h : GridData} {d : Dir} (rows columns left : Span) {old now : TablesData} {n : ℕ}
     → Swept h d (is_in rows columns) (is_in left columns) old now n
     → ((k : ℕ) → is_among left k ≡ false) → Sweeps h d (is_in rows columns) old now
-block_done rows columns left swept none =
-    swept_all swept (none_left left columns none)
+block_done rows columns left swept none = grind (arith, nat_tests)

@@ -1,20 +1,17 @@
 -- A sweep, piece by piece, from the far end.
-use Rattle.std.proofs.Common.{◌≡◌, ℕ, suc, ◌+◌, ◌-◌, ◌<◌, ◌≤◌, ◌⊎◌, inl, inr, arith, Bool, true, false, refl}
-use Rattle.std.proofs.Common.{sym, ◌∙◌, ◌||◌}
-use Rattle.std.specs.Prelude.{Option, Some, None, if◌then◌else◌, nat_lt, nat_eq}
-use Rattle.std.proofs.lemmas.Bool.{cases_Bool}
+use Rattle.std.proofs.Common.{◌≡◌, ℕ, suc, ◌+◌, ◌<◌, ◌≤◌, ◌⊎◌, arith, Bool, true, false}
+use Rattle.std.proofs.Common.{◌||◌}
+use Rattle.std.specs.Prelude.{Option, Some, None, nat_eq}
 use Rattle.std.proofs.lemmas.Bool.Decides.{nat_tests}
 use Rattle.grid_moves.specs.declared.Cell.{Cell}
 use Rattle.grid_moves.specs.declared.Dir.{Dir}
-use Rattle.grid_moves.specs.declared.Dir.TheVariants.{N, NE, E, SE, S, SW, W, NW}
 use Rattle.grid_moves.specs.Grid.{GridData}
-use Rattle.grid_moves.proofs.Legal.{and_both}
 use Rattle.pruning.proofs.Running.{AreMoved}
 use Rattle.plus_tables.specs.Tables.{TablesData}
 use Rattle.table_repair.specs.declared.span.Span.{Span}
 use Rattle.table_repair.specs.Mending.{AreReady, FollowBut, Mends, Sweeps, either, is_among, span_length}
 use Rattle.table_repair.specs.Mending.{far_number, without_far, is_in_row, is_in, goes_right, goes_down}
-use Rattle.table_repair.proofs.Mends.{mends_none, mends_both, mends_wider, follow_more, ready_stays}
+use Rattle.table_repair.proofs.Mends.{mends_both, mends_wider, follow_more, ready_stays}
 use Rattle.table_repair.proofs.Walking.{or_false, false_or}
 
 -- the second number is nearer than the first, from the end or from the beginning
@@ -48,48 +45,6 @@ among_parts s k h = (grind (arith, nat_tests), grind (arith, nat_tests))
 pub among_from : (s : Span) (k : ℕ) → s.first ≤ k → k < s.end → is_among s k ≡ true
 among_from s k h l = grind (arith, nat_tests)
 
-some_number : (n m : ℕ) → Some n ≡ Some m → n ≡ m
-some_number n m h = cc
-
-taken_last : (first end n : ℕ) → first < end → n ≡ end - 1
-    → IsTaken true (record { first = first; end = end }) n (record { first = first; end = end - 1 })
-taken_last first end n l e = record {
-  member = grind (arith, nat_tests);
-  rest = λ k h. grind (arith, nat_tests);
-  within = λ k h. grind (arith, nat_tests);
-  nearer = λ k h. grind (arith, nat_tests);
-  edge = (omega arith, omega arith);
-  shorter = omega arith;
-}
-
-taken_first : (first end n : ℕ) → first < end → n ≡ first
-    → IsTaken false (record { first = first; end = end }) n (record { first = first + 1; end = end })
-taken_first first end n l e = record {
-  member = grind (arith, nat_tests);
-  rest = λ k h. grind (arith, nat_tests);
-  within = λ k h. grind (arith, nat_tests);
-  nearer = λ k h. grind (arith, nat_tests);
-  edge = (omega arith, omega arith);
-  shorter = omega arith;
-}
-
-pub is_taken : (from_end : Bool) (old new : Span) (n : ℕ) → far_number from_end old ≡ Some n
-    → new ≡ without_far from_end old → IsTaken from_end old n new
-is_taken from_end old new n t w = by_test from_end (nat_lt old.first old.end) refl t w
-  where
-    by_test : (from_end b : Bool) → nat_lt old.first old.end ≡ b
-        → (if b then Some (if from_end then old.end - 1 else old.first) else None) ≡ Some n
-        → new ≡ (if b then (if from_end then record { first = old.first; end = old.end - 1 }
-        else record { first = old.first + 1; end = old.end }) else old)
-        → IsTaken from_end old n new
-    by_test from_end false e t w = absurd (cc)
-    by_test true true e t w =
-        let l : old.first < old.end = grind (arith, nat_tests) in
-        rw w (taken_last old.first old.end n l (sym (some_number (old.end - 1) n t)))
-    by_test false true e t w =
-        let l : old.first < old.end = grind (arith, nat_tests) in
-        rw w (taken_first old.first old.end n l (sym (some_number old.first n t)))
-
 -- nothing is left
 pub none_taken : (from_end : Bool) (s : Span) → far_number from_end s ≡ None → (k : ℕ) → is_among s k ≡ false
 none_taken from_end s t k = grind arith
@@ -101,10 +56,6 @@ pub record Swept (h : GridData) (d : Dir) (all left : Cell → Bool) (old now : 
   pub mends : Mends h d all old now n
   pub follows : (later : Cell → Bool) → FollowBut h old d (either all later)
       → FollowBut h now d (either left later)
-
-pub swept_none : {h : GridData} {d : Dir} {all : Cell → Bool} {t : TablesData} → AreReady h t d
-    → Swept h d all all t t 0
-swept_none {t = t} r = record { ready = r; mends = mends_none t; follows = λ later f. f }
 
 pub swept_more : {h : GridData} {d : Dir} {all left piece rest : Cell → Bool} {old now new : TablesData}
     {n m : ℕ} → Swept h d all left old now n
@@ -125,60 +76,19 @@ swept_more {left = left} {piece = piece} {rest = rest} swept split within mends 
         let q = or_false (rest w) (later w) p.1 in
         false_or (left w) (later w) (split w p.0 q.0) q.1
 
--- where nothing is left
-pub swept_all : {h : GridData} {d : Dir} {all left : Cell → Bool} {old now : TablesData} {n : ℕ}
-    → Swept h d all left old now n → ((w : Cell) → left w ≡ false) → Sweeps h d all old now
-swept_all {left = left} swept none later f =
-    follow_more (λ w k. false_or (left w) (later w) (none w) k) (swept.follows later f)
-
 -- no cell ahead of the one taken from a row is left there
 pub row_ahead : (d : Dir) (k : ℕ) (v w : Cell) (y : ℕ) (old rest : Span) → IsTaken (goes_right d) old v.x rest
     → v.y ≡ y → AreMoved d (suc k) v w → is_in_row y old w ≡ false
-row_ahead d k v w y old rest t e m = elim (cases_Bool (is_in_row y old w)) [
-  | inr i ↦ i
-  | inl i ↦
-      let p = and_both (nat_eq w.y y) (is_among old w.x) i in
-      absurd (not_left d m (number_same w.y y p.0 ∙ sym e) t.nearer (t.rest w.x p.1))
-]
-  where
-    not_left : (d : Dir) → AreMoved d (suc k) v w → w.y ≡ v.y
-        → ((n : ℕ) → is_among rest n ≡ true → IsNearer (goes_right d) v.x n)
-        → (w.x ≡ v.x) ⊎ (is_among rest w.x ≡ true) → ⊥
-    not_left N m e t l = let a = m.1 in omega arith
-    not_left NE m e t l = let a = m.1 in omega arith
-    not_left S m e t l = let a = m.1 in omega arith
-    not_left SE m e t l = let a = m.1 in omega arith
-    not_left SW m e t l = let a = m.1 in omega arith
-    not_left NW m e t l = let a = m.1 in omega arith
-    not_left E m e t (inl l) = let a = m.0 in omega arith
-    not_left E m e t (inr l) = let a = m.0 in let b = t w.x l in omega arith
-    not_left W m e t (inl l) = let a = m.0 in omega arith
-    not_left W m e t (inr l) = let a = m.0 in let b = t w.x l in omega arith
+row_ahead d k v w y old rest h i j = grind (arith, nat_tests)
 
 -- no cell ahead of a row that is taken lies in those that are left
 pub rows_ahead : (d : Dir) (k : ℕ) (v w : Cell) (old rest columns : Span) → IsTaken (goes_down d) old v.y rest
     → AreMoved d (suc k) v w → is_in rest columns w ≡ false
-rows_ahead d k v w old rest columns t m = elim (cases_Bool (is_in rest columns w)) [
-  | inr i ↦ i
-  | inl i ↦ absurd (not_left d m t.nearer (and_both (is_among rest w.y) (is_among columns w.x) i).0)
-]
-  where
-    not_left : (d : Dir) → AreMoved d (suc k) v w
-        → ((n : ℕ) → is_among rest n ≡ true → IsNearer (goes_down d) v.y n)
-        → is_among rest w.y ≡ true → ⊥
-    not_left N m t l = let a = m.1 in let b = t w.y l in omega arith
-    not_left NE m t l = let a = m.1 in let b = t w.y l in omega arith
-    not_left E m t l = let a = m.1 in let b = t w.y l in omega arith
-    not_left SE m t l = let a = m.1 in let b = t w.y l in omega arith
-    not_left S m t l = let a = m.1 in let b = t w.y l in omega arith
-    not_left SW m t l = let a = m.1 in let b = t w.y l in omega arith
-    not_left W m t l = let a = m.1 in let b = t w.y l in omega arith
-    not_left NW m t l = let a = m.1 in let b = t w.y l in omega arith
+rows_ahead d k v w old rest columns h i = grind (arith, nat_tests)
 
 -- the same, as code tells it
 pub taken_told : {from_end side : Bool} → from_end ≡ side → (old : Span) {new : Span} {n : ℕ}
     {answer : Option ℕ}
     → answer ≡ Some n → answer ≡ far_number from_end old → new ≡ without_far from_end old
     → IsTaken side old n new
-taken_told {from_end = from_end} e old {new = new} {n = n} is told rest =
-    rw (← e) (is_taken from_end old new n (sym told ∙ is) rest)
+taken_told h old i j k = grind (arith, nat_tests)

@@ -1,5 +1,6 @@
 -- One walk back from a cell, as long as entries change.
-use Rattle.std.proofs.Common.{◌≡◌, ◌≢◌, ℕ, suc, ◌+◌, ◌<◌, ◌⊎◌, inl, inr, arith, Bool, true, false, refl, sym}
+use Rattle.std.proofs.lemmas.Bool.Decides.{nat_tests}
+use Rattle.std.proofs.Common.{◌≡◌, ◌≢◌, ℕ, suc, ◌+◌, ◌<◌, ◌⊎◌, inl, inr, arith, Bool, true, false, sym}
 use Rattle.std.proofs.Common.{◌∙◌, ◌||◌, length-set}
 use Rattle.std.specs.Prelude.{Some, None}
 use Rattle.std.proofs.lemmas.Bool.{cases_Bool}
@@ -19,7 +20,7 @@ use Rattle.table_repair.specs.Counted.{places_differing}
 use Rattle.table_repair.specs.Mending.{IsRight, AreBesideRight, AreReady, IsMended, Mends, FollowBut}
 use Rattle.table_repair.specs.Mending.{cell_after, behind_on}
 use Rattle.table_repair.proofs.Counting.{entry-with, entry-with_other, count-with, with_itself}
-use Rattle.table_repair.proofs.Lines.{behind_on-from, one_behind, after_before, after_moved}
+use Rattle.table_repair.proofs.Lines.{behind_on-from, one_behind, after_before, after_moved, inside_parts}
 use Rattle.table_repair.proofs.Mends.{mends_none, still_mended, on_inside, ready_stays}
 
 -- what waits for this cell, and for those that wait later
@@ -39,14 +40,7 @@ pub record Walked (h : GridData) (d : Dir) (v : Cell) (old now : TablesData) (at
 
 pub walked_none : {h : GridData} {d : Dir} {v : Cell} {t : TablesData} → AreReady h t d → is_inside h v ≡ true
     → IsRight h t v d → Walked h d v t t v 0
-walked_none {t = t} s i r = record {
-  ready = s;
-  reaches = refl;
-  inside = i;
-  right = r;
-  mends = mends_none t;
-  follows = λ later f. f;
-}
+walked_none h i j = grind (arith, nat_tests)
 
 pub or_false : (a b : Bool) → (a || b) ≡ false → (a ≡ false) × (b ≡ false)
 or_false a b h = (grind arith, grind arith)
@@ -79,13 +73,7 @@ apart w u s k = let t : is_same w u ≡ true = rw k (is_same-itself u) in absurd
 passed : {h : GridData} {d : Dir} {t : TablesData} {at_cell : Cell} (later : Cell → Bool)
     → FollowBut h t d (or_later at_cell later)
     → ((p : Cell) → is_inside h p ≡ true → ahead d p ≡ Some at_cell → IsRight h t p d) → FollowBut h t d later
-passed {at_cell = at_cell} later g right = record {
-  next = λ p w j k l m q. elim (cases_Bool (is_same w at_cell)) [
-    | inl s ↦ right p j (rw (← is_same-cell w at_cell s) k)
-    | inr s ↦ g.next p w j k l (false_or (is_same w at_cell) (later w) s m) q
-  ];
-  last = g.last;
-}
+passed later h i = grind (arith, nat_tests)
 
 module _ {h : GridData} {d : Dir} {v : Cell} {old now : TablesData} {at_cell : Cell} (u : Cell) {n : ℕ}
     (walked : Walked h d v old now at_cell n) (e : ahead d u ≡ Some at_cell) (i : is_inside h u ≡ true) where
@@ -107,14 +95,10 @@ module _ {h : GridData} {d : Dir} {v : Cell} {old now : TablesData} {at_cell : C
 
     stays : (w : Cell) (f : Dir) → is_inside h w ≡ true → (w ≡ u → f ≡ d → ⊥)
         → entry_at new w f ≡ entry_at now w f
-    stays w f j other = rw is (entry-with_other now whole u on d f w (table_entry h u d)
-        (on_inside now h walked.ready.sized w j) other)
+    stays w f j other = grind (arith, nat_tests, entry-with_other, whole, on, on_inside)
 
     right_kept : (w : Cell) → is_inside h w ≡ true → IsRight h now w d → IsRight h new w d
-    right_kept w j r = elim (cases_Bool (is_same w u)) [
-      | inl s ↦ (let same = is_same-cell w u s in rw same set_right)
-      | inr s ↦ stays w d j (λ k l. apart w u s k) ∙ r
-    ]
+    right_kept w h i = grind (arith, nat_tests, cases_Bool, is_same-cell, set_right, stays, apart)
 
     pub walk_goes_on : AreReady h old d → entry_at now u d ≢ table_entry h u d
         → Walked h d v old new u (n + 1)

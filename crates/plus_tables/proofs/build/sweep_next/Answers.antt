@@ -1,3 +1,4 @@
+use Rattle.std.proofs.lemmas.Bool.Decides.{nat_tests}
 use Rattle.std.proofs.Common.{◌≡◌, ℕ, ◌+◌, ◌*◌, ◌-◌, ◌<◌, List, length, arith, ap, sym, ◌∙◌, subst}
 use Rattle.std.specs.Prelude.{ℤ}
 use Rattle.std.proofs.lemmas.List.{with_items_is}
@@ -11,22 +12,7 @@ use Rattle.plus_tables.proofs.build.sweep_next.Goals as goal
 use borrow.Rule.Slice.PartMut.{put_mid}
 
 pub sweep_row-requires-clause-along : goal.sweep_row-requires-clause-along
-sweep_row-requires-clause-along g c =
-    let grid : GridData = g.T.Terrain.grid c.args.t.now in
-    let h = c.args.heading in
-    let n = c.args.n in
-    let y = c.nth_row-y.result in
-    let wide = c.width.result * 8 in
-    let start = y * wide in
-    let old = c.args.entries.now.items in
-    let all = c.deref_mut.result.now in
-    let at : y ≡ nth_row h grid.height n =
-    c.nth_row-y.ensures ∙ ap (λ (m : ℕ). nth_row h m n) c.height.ensures.is in
-    let begins : start ≡ y * grid.width * 8 = row_begins y c.width.result grid.width c.width.ensures.is in
-    let same = λ (i : ℕ) (l : i < length old). ap (λ (es : List ℤ). number es i) c.deref_mut.ensures.value
-    ∙ c.in_ok-make_room.ensures.kept i l in
-    along_right grid h n y start (start + wide - start) old all c.requires.inside at c.requires.swept
-    same begins (omega (arith, c.width.ensures.is))
+sweep_row-requires-clause-along g c = grind (arith, nat_tests, row_begins, along_right)
 
 pub returns-clause-swept : goal.returns-clause-swept
 returns-clause-swept g c =

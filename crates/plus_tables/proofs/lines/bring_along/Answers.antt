@@ -1,9 +1,10 @@
+use Rattle.std.proofs.lemmas.Bool.Decides.{nat_tests}
 use Rattle.std.proofs.Common.{◌<◌, arith, ap, refl}
 use Rattle.grid_moves.specs.declared.Dir.TheVariants.{E, W}
 use Rattle.grid_moves.specs.Grid.{GridData}
 use Rattle.plus_tables.specs.declared.heading.Heading.{Heading}
 use Rattle.plus_tables.specs.Sweep.{is_swept}
-use Rattle.plus_tables.proofs.Lining.{entries_as, taken}
+use Rattle.plus_tables.proofs.Lining.{taken}
 use Rattle.plus_tables.proofs.Alike.{alike_along}
 use Rattle.plus_tables.proofs.lines.bring_along.Goals as goal
 
@@ -15,10 +16,8 @@ returns-then-are_alike g c =
     let below = c.has_ahead.ensures c.if-has_ahead.true ready.rows.ahead ready.rows.ahead_is in
     let high : ready.rows.ahead < grid.height = omega (arith, below, c.height.ensures.is) in
     let along = alike_along grid c.requires.whole c.args.y c.args.band.now last
-    (c.are_alike.ensures c.if-are_alike.true) c.args.heading ready c.requires.ready.1 high in (
-      entries_as grid c.args.y E last.east.items c.copy_along.new.east c.copy_along.ensures.east along.east,
-      entries_as grid c.args.y W last.west.items c.copy_along.new.west c.copy_along.ensures.west along.west,
-    )
+    (c.are_alike.ensures c.if-are_alike.true) c.args.heading ready c.requires.ready.1 high in
+    grind (arith, nat_tests)
 
 pub returns-in-Downwards : goal.returns-in-Downwards
 returns-in-Downwards g c =

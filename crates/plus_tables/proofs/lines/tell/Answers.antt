@@ -1,4 +1,5 @@
-use Rattle.std.proofs.Common.{◌≡◌, ◌<◌, ◌∙◌, ap, length, refl, arith}
+use Rattle.std.proofs.lemmas.Bool.Decides.{nat_tests}
+use Rattle.std.proofs.Common.{◌<◌, refl, arith}
 use Rattle.std.proofs.lemmas.List.{with_items_is}
 use Rattle.grid_moves.specs.declared.Dir.TheVariants.{N, NE, E, W, NW}
 use Rattle.grid_moves.specs.Grid.{GridData}
@@ -7,61 +8,13 @@ use Rattle.plus_tables.proofs.Lining.{along_seen, entries_as, leads_ahead, seen_
 use Rattle.plus_tables.proofs.lines.tell.Goals as goal
 
 pub tell_ahead-requires : goal.tell_ahead-requires
-tell_ahead-requires g c =
-    let rows = c.requires.ready.2.rows in
-    let long = c.requires.ready.2.long in
-    record {
-      whole = c.requires.whole;
-      forced = c.requires.forced;
-      out = ap length c.deref_mut.ensures.value ∙ c.requires.long.ahead;
-      beyond = ap length c.deref.ensures.value ∙ rows.far_is.long;
-      beyond_here = ap length c.deref-2.ensures.value ∙ rows.next_is.long;
-      beyond_behind = ap length c.deref-3.ensures.value ∙ rows.here_is.long;
-      rows = ap length c.deref-4.ensures.value ∙ rows.next_is.long;
-      here = ap length c.deref-5.ensures.value ∙ rows.here_is.long;
-      behind = ap length c.deref-6.ensures.value ∙ rows.back_is.long;
-      ahead = ap length c.deref-7.ensures.value ∙ long.ahead;
-      right = ap length c.deref-8.ensures.value ∙ long.ahead;
-      left = ap length c.deref-9.ensures.value ∙ long.ahead;
-    }
+tell_ahead-requires g c = grind (arith, nat_tests)
 
 pub tell_ahead-requires-2 : goal.tell_ahead-requires-2
-tell_ahead-requires-2 g c =
-    let rows = c.requires.ready.2.rows in
-    let long = c.requires.ready.2.long in
-    record {
-      whole = c.requires.whole;
-      forced = c.tell_ahead.auto.forced ∙ c.requires.forced;
-      out = ap length c.deref_mut-2.ensures.value ∙ c.requires.long.ahead_east;
-      beyond = ap length c.deref.ensures.value ∙ rows.far_is.long;
-      beyond_here = ap length c.deref-2.ensures.value ∙ rows.next_is.long;
-      beyond_behind = ap length c.deref-3.ensures.value ∙ rows.here_is.long;
-      rows = ap length c.deref-4.ensures.value ∙ rows.next_is.long;
-      here = ap length c.deref-5.ensures.value ∙ rows.here_is.long;
-      behind = ap length c.deref-6.ensures.value ∙ rows.back_is.long;
-      ahead = ap length c.deref-10.ensures.value ∙ long.ahead_east;
-      right = ap length c.deref-11.ensures.value ∙ long.east;
-      left = ap length c.deref-12.ensures.value ∙ long.ahead;
-    }
+tell_ahead-requires-2 g c = grind (arith, nat_tests)
 
 pub tell_ahead-requires-3 : goal.tell_ahead-requires-3
-tell_ahead-requires-3 g c =
-    let rows = c.requires.ready.2.rows in
-    let long = c.requires.ready.2.long in
-    record {
-      whole = c.requires.whole;
-      forced = c.tell_ahead-2.auto.forced ∙ c.tell_ahead.auto.forced ∙ c.requires.forced;
-      out = ap length c.deref_mut-3.ensures.value ∙ c.requires.long.ahead_west;
-      beyond = ap length c.deref.ensures.value ∙ rows.far_is.long;
-      beyond_here = ap length c.deref-2.ensures.value ∙ rows.next_is.long;
-      beyond_behind = ap length c.deref-3.ensures.value ∙ rows.here_is.long;
-      rows = ap length c.deref-4.ensures.value ∙ rows.next_is.long;
-      here = ap length c.deref-5.ensures.value ∙ rows.here_is.long;
-      behind = ap length c.deref-6.ensures.value ∙ rows.back_is.long;
-      ahead = ap length c.deref-13.ensures.value ∙ long.ahead_west;
-      right = ap length c.deref-14.ensures.value ∙ long.ahead;
-      left = ap length c.deref-15.ensures.value ∙ long.west;
-    }
+tell_ahead-requires-3 g c = grind (arith, nat_tests)
 
 pub returns-clause-told : goal.returns-clause-told
 returns-clause-told g c = λ h y ready around.
@@ -110,18 +63,4 @@ returns-clause-told g c = λ h y ready around.
     }
 
 pub returns-clause-long : goal.returns-clause-long
-returns-clause-long g c =
-    let long = c.requires.long in
-    let ahead : length c.tell_ahead.new.out ≡ length c.args.this.now.ahead.items = omega arith in
-    let east : length c.tell_ahead-2.new.out ≡ length c.args.this.now.ahead_east.items = omega arith in
-    let west : length c.tell_ahead-3.new.out ≡ length c.args.this.now.ahead_west.items = omega arith in
-    record {
-      ahead = ap length (with_items_is c.args.this.now.ahead c.tell_ahead.new.out (omega arith)) ∙ ahead
-          ∙ long.ahead;
-      ahead_east = ap length (with_items_is c.args.this.now.ahead_east c.tell_ahead-2.new.out (omega arith))
-          ∙ east ∙ long.ahead_east;
-      ahead_west = ap length (with_items_is c.args.this.now.ahead_west c.tell_ahead-3.new.out (omega arith))
-          ∙ west ∙ long.ahead_west;
-      east = long.east;
-      west = long.west;
-    }
+returns-clause-long g c = grind (arith, nat_tests, with_items_is)

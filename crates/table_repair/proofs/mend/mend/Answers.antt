@@ -1,16 +1,10 @@
 -- Each refresh is a further cell of the walk, or its end.
+use Rattle.std.proofs.lemmas.Bool.Decides.{nat_tests}
 use Rattle.std.proofs.Common.{arith, sym, ◌∙◌}
 use Rattle.table_repair.proofs.Lines.{behind_on-is}
-use Rattle.table_repair.proofs.Mends.{on_inside}
-use Rattle.table_repair.proofs.Walking.{walked_none, walk_stops, walk_goes_on, walk_ends, walk_short}
+use Rattle.table_repair.proofs.Walking.{walk_stops, walk_goes_on, walk_ends, walk_short}
 use Rattle.table_repair.proofs.Walking.{rests_right, nothing_set}
 use Rattle.table_repair.proofs.mend.mend.Goals as goal
-
-pub loop-before-init : goal.loop-before-init
-loop-before-init g c = record {
-  walked = walked_none c.requires.ready c.requires.inside c.requires.right;
-  counted = omega arith;
-}
 
 pub refresh-requires-clause-sized : goal.refresh-requires-clause-sized
 refresh-requires-clause-sized g c = c.loop-before.invariant.walked.ready.sized
@@ -22,13 +16,6 @@ refresh-requires-clause-rests g c =
     (sym c.cell_before.ensures ∙ c.in-Some.is) in
     rests_right c.args.grid.now c.loop-before.tables c.args.d c.in-Some.before c.loop-before.at l.0
     w.inside w.right w.ready.beside
-
-pub refresh-requires-clause-inside : goal.refresh-requires-clause-inside
-refresh-requires-clause-inside g c =
-    let w = c.loop-before.invariant.walked in
-    let l = behind_on-is c.args.grid.now c.args.d c.in-Some.before c.loop-before.at
-    (sym c.cell_before.ensures ∙ c.in-Some.is) in
-    on_inside c.loop-before.tables c.args.grid.now w.ready.sized c.in-Some.before l.1
 
 pub returns-then-not-refresh-clause-mends : goal.returns-then-not-refresh-clause-mends
 returns-then-not-refresh-clause-mends g c =
@@ -50,17 +37,10 @@ returns-then-not-refresh-clause-follows g c = λ later f.
     rw same (walk_stops c.in-Some.before w l.0 l.1 right later f)
 
 pub returns-then-not-refresh-clause-few : goal.returns-then-not-refresh-clause-few
-returns-then-not-refresh-clause-few g c =
-    let w = c.loop-before.invariant.walked in
-    walk_short c.args.grid.now c.args.d c.args.from c.loop-before.at c.loop-before.changed
-    c.requires.ready.grid c.requires.inside w.inside w.reaches
+returns-then-not-refresh-clause-few g c = grind (arith, nat_tests, walk_short)
 
 pub overflow_add-changed : goal.overflow_add-changed
-overflow_add-changed g c =
-    let w = c.loop-before.invariant.walked in
-    let few = walk_short c.args.grid.now c.args.d c.args.from c.loop-before.at c.loop-before.changed
-    c.requires.ready.grid c.requires.inside w.inside w.reaches in
-    omega arith
+overflow_add-changed g c = grind (arith, nat_tests, walk_short)
 
 pub loop-before-smaller : goal.loop-before-smaller
 loop-before-smaller g c = grind (arith, walk_short)

@@ -101,6 +101,3 @@ returns-clause-sweeps g c =
 
 pub returns-clause-few : goal.returns-clause-few
 returns-clause-few g c = grind arith
-
-pub returns-clause-steps : goal.returns-clause-steps
-returns-clause-steps g c = grind arith

@@ -1,18 +1,8 @@
 -- Each piece is swept in its turn.
 use Rattle.std.proofs.Common.{◌≤◌, arith}
-use Rattle.table_repair.proofs.Sweeping.{swept_none}
 use Rattle.table_repair.proofs.Pieces.{piece_right, piece_next, pieces_done, piece_few, piece_counted}
 use Rattle.table_repair.proofs.Totals.{later_on}
 use Rattle.table_repair.proofs.sweep.sweep_abreast.Goals as goal
-
-pub piece-init : goal.piece-init
-piece-init g c = record {
-  swept = swept_none c.requires.ready;
-  begun = omega arith;
-  few = omega arith;
-  counted = omega arith;
-  later = omega arith;
-}
 
 pub mend_abreast-changed-requires-clause-right : goal.mend_abreast-changed-requires-clause-right
 mend_abreast-changed-requires-clause-right g c =

@@ -6,14 +6,8 @@ use Rattle.table_repair.proofs.walks.enter.Goals as goal
 pub loop-x-init : goal.loop-x-init
 loop-x-init c = grind (arith, none_there)
 
-pub push-requires : goal.push-requires
-push-requires c = grind arith
-
 pub loop-x-preserved : goal.loop-x-preserved
 loop-x-preserved c = grind (arith, one_more_there)
 
 pub returns-clause-there : goal.returns-clause-there
 returns-clause-there c = grind (arith, last_column)
-
-pub returns-clause-length : goal.returns-clause-length
-returns-clause-length c = grind arith

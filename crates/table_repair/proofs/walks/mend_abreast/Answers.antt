@@ -1,17 +1,10 @@
 -- The walks of the piece begin at its cells.
 use Rattle.std.proofs.Common.{arith}
 use Rattle.table_repair.specs.Abreast.{is_at_one}
-use Rattle.table_repair.specs.Mending.{is_in_row, span_length}
+use Rattle.table_repair.specs.Mending.{is_in_row}
 use Rattle.table_repair.proofs.Abreast.{abreast_ends}
-use Rattle.table_repair.proofs.Pieces.{mends_same, sweeps_same, piece_short, piece_there, row_on_map}
+use Rattle.table_repair.proofs.Pieces.{mends_same, sweeps_same, piece_there, row_on_map}
 use Rattle.table_repair.proofs.walks.mend_abreast.Goals as goal
-
-pub enter-requires-clause-few : goal.enter-requires-clause-few
-enter-requires-clause-few g c = grind arith
-
-pub lead_out-requires-clause-short : goal.lead_out-requires-clause-short
-lead_out-requires-clause-short g c = piece_short c.enter.new.walks.items c.new-walks.result.items
-    (span_length c.args.columns) c.new-walks.ensures c.enter.ensures.length c.requires.short
 
 pub lead_out-requires-clause-inside : goal.lead_out-requires-clause-inside
 lead_out-requires-clause-inside g c = grind (arith, row_on_map, piece_there)
