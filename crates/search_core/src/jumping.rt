@@ -169,7 +169,7 @@ fn offer_jump<J: JumpSource, L: Ledger, M: Ledger>(
     ensures fewest { steps.old ≤ steps.new }
 {
     if let Some(k) = j.stop(last.state.cell, d, ends.to, steps) {
-        space.offer(ends.to, offer_after(last, d, k), own);
+        space.offer_by_arrival(ends.to, offer_after(last, d, k), own);
     }
 }
 
