@@ -1,7 +1,7 @@
 -- What an offer leaves as it was.
 use Rattle.std.proofs.Common.{◌≡◌, ℕ, ◌-◌, ◌<◌, ◌≤◌, length, List}
 use Rattle.std.proofs.Common.{Bool, true, false, arith}
-use Rattle.std.specs.Prelude.{Option, Some, slice_get, slice_index_or}
+use Rattle.std.specs.Prelude.{Option, Some, None, slice_get, slice_index_or}
 use Rattle.std.proofs.lemmas.Bool.Decides.{nat_tests}
 use Rattle.std.proofs.lemmas.Grind.{common_steps}
 use Rattle.std.proofs.lemmas.Option.{slice_get_within, slice_get-get_or}
@@ -57,3 +57,7 @@ open_of key k c id n h l = by_flag (slice_index_or k.open_at id false) (slice_ge
 -- an entry but 0 tells what was looked up
 pub entry_some : (o : Option ℕ) (e : ℕ) → e ≡ entry_for o → (e ≡ 0 → ⊥) → o ≡ Some (e - 1)
 entry_some o e h1 h2 = grind (arith, nat_tests, common_steps)
+
+-- an entry 0 tells that nothing was found
+pub entry_none : (o : Option ℕ) (e : ℕ) → e ≡ entry_for o → e ≡ 0 → o ≡ None
+entry_none o e h1 h2 = grind (arith, nat_tests, common_steps)

@@ -1,5 +1,5 @@
 -- What a contract sees of a `Space`.
-use Rattle.std.specs.Prelude.{◌≡◌, ℕ, ◌-◌, ◌<◌, ◌≤◌, ◌+◌, min}
+use Rattle.std.specs.Prelude.{◌≡◌, Bool, true, false, ℕ, ◌-◌, ◌<◌, ◌≤◌, ◌+◌, min}
 use Rattle.grid_moves.specs.declared.Cell.{Cell}
 use Rattle.grid_moves.specs.Grid.{cell_number}
 use Rattle.best_first.specs.declared.state.Layout.{Layout}
@@ -14,6 +14,11 @@ pub record SpaceData : Type 0 where
   pub width : ℕ
   pub table : Table
   pub spare : ℕ
+
+-- the layout in which a cell has one state, or that in which it has nine
+abbrev pub layout_by : Bool → Layout
+layout_by true = ByCell
+layout_by false = ByArrival
 
 -- there is room for so many records more, where cells have them
 abbrev pub HasRoomFor : Layout → ℕ → ℕ → ℕ → Type 0

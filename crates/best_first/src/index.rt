@@ -144,8 +144,10 @@ impl Index {
         }
     }
 
-    /// Sets the entry for a state, told its cell's number.
-    pub(crate) fn put(&mut self, cell: usize, state: State, entry: u32)
+    /// Sets the entry for a state, told the layout and its cell's number.
+    #[inline(always)]
+    pub(crate) fn put(&mut self, layout: Layout, cell: usize, state: State, entry: u32)
+        requires told { layout ≡ self.old.layout }
         requires heads { AreHeads self.old.layout self.old.heads.items self.old.records.items }
         requires within { cell < length self.old.heads.items }
         requires room { HasRoomFor self.old.layout 1 (vec_len self.old.records) (vec_capacity self.old.records) }
@@ -156,7 +158,7 @@ impl Index {
         ensures one_more { vec_len self.new.records ≤ vec_len self.old.records + 1 }
         ensures capacity { vec_capacity self.new.records ≡ vec_capacity self.old.records }
     {
-        match self.layout {
+        match layout {
             Layout::ByCell => self.heads[cell] = entry,
             Layout::ByArrival => {
                 let arrival = number_of_arrival(state.arrival);

@@ -3,8 +3,8 @@
 ghost use Rattle.std.specs.Prelude.{◌≡◌, ℕ, suc, ◌+◌, ◌-◌, ◌*◌, ◌<◌, ◌≤◌, ◌^◌, [], ◌∷◌, ◌++◌, length, true, false, Some, None, OnOk, OnErr, IfOk, IfNone, IfSome, vec_len, vec_capacity, slice_get, slice_set};
 ghost use Rattle.best_first.specs.Index.{entry_for, AreBlank, AreCovered, IsExact, AreParts};
 ghost use Rattle.best_first.specs.Node.{state_of, ranks_before};
-ghost use Rattle.best_first.specs.Space.{SpaceData, IsPlaced, KeepsShape, HasRoomFor, room_in};
-ghost use Rattle.best_first.specs.State.{state_in, place_of, start_at};
+ghost use Rattle.best_first.specs.Space.{SpaceData, IsPlaced, KeepsShape, HasRoomFor, room_in, layout_by};
+ghost use Rattle.best_first.specs.State.{state_in, state_told, place_of, start_at};
 ghost use Rattle.best_first.specs.Table.{Table, lookup, node_for, added, replaced, is_bettered, offered, begun, closed_at, IsFirstNode, NoneOpen, ClosedBelow};
 ghost use Rattle.grid_moves.specs.Grid.{cell_number};
 ghost use Rattle.grid_moves.specs.Points.{estimate};
@@ -12,8 +12,9 @@ ghost use Rattle.root2_cost.specs.Rank.{rank_of};
 
 use crate::index::Index;
 use crate::node::estimate_rank;
+use crate::state::layout_by;
 use crate::{Layout, NoMemory, Node, Offer, Place, State};
-use grid_moves::{Cell, Dir, number_of};
+use grid_moves::{Cell, number_of};
 use open_list::Pool;
 use std::alloc::Global;
 use std::marker::Model;
@@ -175,7 +176,9 @@ impl Space {
             to,
         };
         add_first(&mut self.pool, node_for(goal, offer), steps);
-        self.index.put(number_of(width, start) as usize, to, 1);
+        let layout = self.index.layout;
+        self.index
+            .put(layout, number_of(width, start) as usize, to, 1);
         Ok(())
     }
 
@@ -204,24 +207,32 @@ impl Space {
         make_room(&mut self.pool, &mut self.index, 8)
     }
 
-    // 0 where a state has no node, or the number of its node and one.
+    // 0 where a state has no node, or the number of its node and one; told the number of its cell.
     #[inline(always)]
-    fn find(&self, layout: Layout, state: State) -> u32
-        requires told { layout ≡ self.now.layout }
+    fn find<const BY_CELL: bool>(&self, number: u32, state: State) -> u32
+        requires told { layout_by BY_CELL ≡ self.now.layout }
         requires narrow { self.now.width ≤ 4096 }
         requires placed { IsPlaced self.now.width self.now.places state.cell }
+        requires number { number ≡ cell_number self.now.width state.cell }
         ensures { result ≡ entry_for (lookup self.now.layout self.now.table.nodes
             (state_in self.now.layout state)) }
     {
-        self.index
-            .entry(layout, number_of(self.width, state.cell) as usize, state)
+        self.index.entry(layout_by(BY_CELL), number as usize, state)
     }
 
-    // Adds a node for a state that has none.
+    // Adds a node for a state that has none, told the number of the state's cell.
     #[inline(always)]
-    fn add<L: Ledger>(&mut self, state: State, node: Node, steps: &mut Steps<L>)
+    fn add<const BY_CELL: bool, L: Ledger>(
+        &mut self,
+        number: u32,
+        state: State,
+        node: Node,
+        steps: &mut Steps<L>,
+    )
+        requires told { layout_by BY_CELL ≡ self.old.layout }
         requires narrow { self.old.width ≤ 4096 }
         requires placed { IsPlaced self.old.width self.old.places state.cell }
+        requires number { number ≡ cell_number self.old.width state.cell }
         requires made { node.place ≡ place_of state }
         requires new { lookup self.old.layout self.old.table.nodes (state_in self.old.layout state) ≡ None }
         requires room { 1 ≤ self.old.spare }
@@ -231,36 +242,38 @@ impl Space {
     {
         let id = self.pool.add(node, steps);
         self.index
-            .put(number_of(self.width, state.cell) as usize, state, id + 1);
+            .put(layout_by(BY_CELL), number as usize, state, id + 1);
     }
 
-    // The same, told the parts of the node: a node would be handed over in memory, these are in registers.
+    // The same, told the parts of the node: a node would be handed over in memory, these are in registers. The
+    // number of the cell, which was found before, is not made again, and the place tells the state.
     #[inline(never)]
-    fn add_parts<L: Ledger>(
+    fn add_parts<const BY_CELL: bool, L: Ledger>(
         &mut self,
-        cell: Cell,
-        arrival: Option<Dir>,
+        number: u32,
+        place: Place,
         key: u64,
         parent: u32,
         steps: &mut Steps<L>,
     )
+        requires told { layout_by BY_CELL ≡ self.old.layout }
         requires narrow { self.old.width ≤ 4096 }
-        requires placed { IsPlaced self.old.width self.old.places cell }
+        requires placed { IsPlaced self.old.width self.old.places (state_told place).cell }
+        requires number { number ≡ cell_number self.old.width (state_told place).cell }
+        requires made { place ≡ place_of (state_told place) }
         requires new { lookup self.old.layout self.old.table.nodes
-            (state_in self.old.layout (record { cell = cell; arrival = arrival })) ≡ None }
+            (state_in self.old.layout (state_told place)) ≡ None }
         requires room { 1 ≤ self.old.spare }
-        ensures table { self.new.table ≡ added (record {
-          key = key;
-          parent = parent;
-          place = place_of (record { cell = cell; arrival = arrival });
-        }) self.old.table }
+        ensures table { self.new.table ≡ added (record { key = key; parent = parent; place = place })
+            self.old.table }
         ensures shape { KeepsShape self.old self.new }
         ensures spare { self.old.spare ≤ self.new.spare + 1 }
     {
-        let state = State { cell, arrival };
-        let place = Place::of(state);
-        let node = Node { key, parent, place };
-        self.add(state, node, steps);
+        let state = State {
+            cell: place.cell(),
+            arrival: place.arrival(),
+        };
+        self.add::<BY_CELL, L>(number, state, Node { key, parent, place }, steps);
     }
 
     // Puts a node of a lesser key in the place of an open one of the same state.
@@ -300,16 +313,15 @@ impl Space {
         self.lower(id, Node { key, parent, place }, steps);
     }
 
-    // Offers a way on from a taken state, told the layout.
+    // Offers a way on from a taken state. The layout is a constant, so there is no look at it.
     #[inline(always)]
-    fn offer_in<L: Ledger>(
+    fn offer_in<const BY_CELL: bool, L: Ledger>(
         &mut self,
-        layout: Layout,
         goal: Cell,
         offer: Offer,
         steps: &mut Steps<L>,
     )
-        requires told { layout ≡ self.old.layout }
+        requires told { layout_by BY_CELL ≡ self.old.layout }
         requires narrow { self.old.width ≤ 4096 }
         requires placed { IsPlaced self.old.width self.old.places offer.to.cell }
         requires fits { offer.rank < 2 ^ 63 }
@@ -320,22 +332,23 @@ impl Space {
         ensures spare { self.old.spare ≤ self.new.spare + 1 }
     {
         let node = node_for(goal, offer);
-        let entry = self.find(layout, offer.to);
+        let number = number_of(self.width, offer.to.cell);
+        let entry = self.find::<BY_CELL>(number, offer.to);
         if entry == 0 {
-            let State { cell, arrival } = offer.to;
-            self.add_parts(cell, arrival, node.key, node.parent, steps);
+            self.add_parts::<BY_CELL, L>(number, node.place, node.key, node.parent, steps);
         } else if node.key < self.pool.node(entry - 1).key {
             self.lower_parts(entry - 1, node.key, node.parent, node.place, steps);
         }
     }
 
-    /// Offers a way on from a taken state: its node is added where the state has none, and takes the
-    /// place of the state's node where that one has a greater key.
+    /// Offers a way on from a taken state, where a cell has a state for each arrival: its node is added where
+    /// the state has none, and takes the place of the state's node where that one has a greater key.
     ///
     /// No closed node may have a greater key than the offer. As the estimate is consistent, none has
     /// where the offer is one of the state that was taken last.
     #[inline(always)]
-    pub fn offer<L: Ledger>(&mut self, goal: Cell, offer: Offer, steps: &mut Steps<L>)
+    pub fn offer_by_arrival<L: Ledger>(&mut self, goal: Cell, offer: Offer, steps: &mut Steps<L>)
+        requires layout { self.old.layout ≡ Layout.ByArrival }
         requires narrow { self.old.width ≤ 4096 }
         requires placed { IsPlaced self.old.width self.old.places offer.to.cell }
         requires fits { offer.rank < 2 ^ 63 }
@@ -345,10 +358,10 @@ impl Space {
         ensures shape { KeepsShape self.old self.new }
         ensures spare { self.old.spare ≤ self.new.spare + 1 }
     {
-        self.offer_in(self.index.layout, goal, offer, steps);
+        self.offer_in::<false, L>(goal, offer, steps);
     }
 
-    /// The same where each cell has one state, with no look at the layout.
+    /// The same where each cell has one state.
     #[inline(always)]
     pub fn offer_by_cell<L: Ledger>(&mut self, goal: Cell, offer: Offer, steps: &mut Steps<L>)
         requires layout { self.old.layout ≡ Layout.ByCell }
@@ -361,7 +374,7 @@ impl Space {
         ensures shape { KeepsShape self.old self.new }
         ensures spare { self.old.spare ≤ self.new.spare + 1 }
     {
-        self.offer_in(Layout::ByCell, goal, offer, steps);
+        self.offer_in::<true, L>(goal, offer, steps);
     }
 
     /// Takes the open node that ranks first, and gives its number, or `None` where none is open.

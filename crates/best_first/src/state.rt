@@ -1,6 +1,7 @@
 //! States: a cell and how it was come to.
 
 ghost use Rattle.std.specs.Prelude.{◌≡◌, ◌*◌, ◌<◌, ◌≤◌};
+ghost use Rattle.best_first.specs.Space.{layout_by};
 ghost use Rattle.best_first.specs.State.{arrival_number, cell_of_number, state_number, start_at};
 
 use grid_moves::{Cell, Dir, dir_number, number_of};
@@ -19,6 +20,18 @@ pub enum Layout {
     ByCell,
     /// Nine: the start's, and one for each direction of arrival.
     ByArrival,
+}
+
+// The layout in which a cell has one state, or that in which it has nine: a constant where the answer is one.
+#[inline(always)]
+pub(crate) fn layout_by(by_cell: bool) -> Layout
+    ensures { result ≡ layout_by by_cell }
+{
+    if by_cell {
+        Layout::ByCell
+    } else {
+        Layout::ByArrival
+    }
 }
 
 // The number of the direction, or 8 for the start.

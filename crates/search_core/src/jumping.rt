@@ -14,7 +14,7 @@ ghost use Rattle.search_core.specs.Jumping as spec;
 ghost use Rattle.search_core.specs.Serving.{OnSome, OnEach};
 
 use best_first::{Offer, Space, State};
-use grid_moves::{Cell, Dir, dir_number, estimate};
+use grid_moves::{Cell, Dir, dir_number};
 use pruning::{Arrival, JumpSource, Packed, is_diagonal};
 use root2_cost::Cost;
 use std::sync::ledger::Ledger;
@@ -137,7 +137,7 @@ pub(crate) fn last_at(space: &Space, goal: Cell, at: u32) -> Last
     let cell = node.place.cell();
     Last {
         at,
-        rank: node.key - estimate(cell, goal).rank(),
+        rank: node.cost_rank(goal),
         state: State {
             cell,
             arrival: node.place.arrival(),
@@ -169,7 +169,7 @@ fn offer_jump<J: JumpSource, L: Ledger, M: Ledger>(
     ensures fewest { steps.old ≤ steps.new }
 {
     if let Some(k) = j.stop(last.state.cell, d, ends.to, steps) {
-        space.offer(ends.to, offer_after(last, d, k), own);
+        space.offer_by_arrival(ends.to, offer_after(last, d, k), own);
     }
 }
 

@@ -1,5 +1,6 @@
 use Rattle.std.proofs.Common.{◌≡◌, ◌+◌, ◌≤◌, sym, subst, length, ℕ, suc, arith}
 use Rattle.std.specs.Prelude.{None}
+use Rattle.grid_moves.specs.Grid.{cell_number}
 use Rattle.best_first.specs.declared.state.Layout.{Layout}
 use Rattle.best_first.specs.Index.{IsPut, AreParts}
 use Rattle.best_first.specs.Space.{IsPlaced}
@@ -26,10 +27,11 @@ invariant_of-self g c =
     let narrow : i.width ≤ 4096 = grind arith in
     let new : lookup i.index.layout i.pool.nodes (state_in i.index.layout c.args.state) ≡ None =
     grind arith in
+    let number : c.args.number ≡ cell_number i.width c.args.state.cell = grind arith in
     let entry : c.add-id.result + 1 ≡ suc (length i.pool.nodes) = grind arith in
     let put = subst (λ (n : ℕ). IsPut i.index.layout i.index.heads.items c.put.new.self.heads.items
     i.index.records.items c.put.new.self.records.items n
-    (arrival_number (state_in i.index.layout c.args.state).arrival) (c.add-id.result + 1)) c.number_of.ensures
+    (arrival_number (state_in i.index.layout c.args.state).arrival) (c.add-id.result + 1)) number
     c.put.ensures.put in
     let l = c.put.ensures.one_more in
     subst (λ (y : Layout). AreParts y i.width c.add-id.new.self.nodes c.put.new.self.heads.items
