@@ -3,16 +3,11 @@ use Rattle.std.proofs.Common.{◌≡◌, Bool, true, sym, ◌∙◌}
 use Rattle.std.specs.Prelude.{Some}
 use Rattle.grid_moves.specs.declared.Cell.{Cell}
 use Rattle.grid_moves.specs.declared.Dir.{Dir}
-use Rattle.grid_moves.specs.Grid.{GridData, is_free}
+use Rattle.grid_moves.specs.Grid.{GridData}
 use Rattle.grid_moves.specs.Move.{beyond, legal_ahead}
-use Rattle.grid_moves.proofs.Legal.{legal_is}
 use Rattle.pruning.specs.Allowed.{can_move}
-use Rattle.pruning.proofs.Bridging.{legal_leads}
 use Rattle.jump_plain.proofs.Besides.{beyond_legal}
 
 pub legal_next : (g : GridData) (u v : Cell) (d : Dir) (leads : Bool) → leads ≡ can_move g u d → leads ≡ true
     → v ≡ beyond d u → legal_ahead g u d ≡ Some v
 legal_next g u v d leads told on e = beyond_legal g u v d e (sym told ∙ on)
-
-pub free_next : (g : GridData) (u v : Cell) (d : Dir) → legal_ahead g u d ≡ Some v → is_free g v ≡ true
-free_next g u v d legal = (legal_is g u v (legal_leads g u v d legal).legal).target
