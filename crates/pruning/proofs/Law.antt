@@ -10,7 +10,6 @@ use Rattle.grid_moves.specs.Grid.{GridData}
 use Rattle.grid_moves.specs.Move.{is_legal, move_cost}
 use Rattle.grid_moves.specs.Walk.{is_walk, cost_of, last_of}
 use Rattle.grid_moves.proofs.Legal.{and_both}
-use Rattle.grid_moves.proofs.Walks.{last-joined, walk-joined, cost-joined}
 use Rattle.pruning.specs.declared.Arrival.TheVariants.{Start, By}
 use Rattle.pruning.specs.Allowed.{is_allowed}
 use Rattle.pruning.specs.Canonical.{FollowsRule, IsCanonicalWalk}
@@ -18,7 +17,7 @@ use Rattle.pruning.specs.Facts.{HasBetter, IsSmaller, TurnsAreReplaced}
 use Rattle.pruning.specs.Laws.{CanonicalWalksSuffice, HasCanonicalWalk}
 use Rattle.pruning.proofs.Table.{by_test}
 use Rattle.pruning.proofs.Bridging.{Leads, leads_of, leads_can, leads_legal}
-use Rattle.pruning.proofs.Joining.{IsSmaller-joined, IsSmaller-cons}
+use Rattle.pruning.proofs.Joining.{last-joined, walks-joined, cost-joined, IsSmaller-joined, IsSmaller-cons}
 use Rattle.pruning.proofs.Smallest.{IsSmaller-induction}
 
 module _ (replaced : TurnsAreReplaced) (g : GridData) where
@@ -28,7 +27,7 @@ module _ (replaced : TurnsAreReplaced) (g : GridData) where
   put_in u v w cells h b = record {
     instead = b.instead ++ cells;
     walk = record {
-      legal = walk-joined g u b.instead cells b.walk.legal
+      legal = walks-joined g u b.instead cells b.walk.legal
           (subst (λ (c : Cell). is_walk g (c ∷ cells) ≡ true) (sym b.walk.ends) h);
       ends = last-joined u b.instead cells ∙ ap (λ (c : Cell). last_of c cells) b.walk.ends;
     };

@@ -8,9 +8,9 @@ use Rattle.grid_moves.specs.declared.Dir.{Dir}
 use Rattle.grid_moves.specs.Grid.{GridData, is_free}
 use Rattle.grid_moves.specs.Walk.{is_walk, cost_of, last_of}
 use Rattle.grid_moves.specs.Points.{steps_between, are_lined, segment, unfolded_from}
-use Rattle.grid_moves.proofs.Walks.{last-joined, walk-joined, cost-joined}
 use Rattle.pruning.specs.Chain.{State, start_state, run_cost, IsJump, IsChain, stays, jumps, last_state}
 use Rattle.pruning.specs.Laws.{ChainsAreWalks}
+use Rattle.pruning.proofs.Joining.{last-joined, walks-joined, cost-joined}
 use Rattle.pruning.proofs.Running.{IsRun, run_walked, steps_moved, lined_moved}
 
 -- a chain as a walk
@@ -34,7 +34,7 @@ jumped g goal s u states d k rest j r c = record {
   unfolds = unfolded_more s.cell u.cell (map (λ u. u.cell) states) c.cells k r.cells
       (lined_moved d k s.cell u.cell j.first.in_range r.moved) (steps_moved d k s.cell u.cell r.moved)
       r.filled c.unfolds;
-  walks = walk-joined g s.cell r.cells c.cells r.walks
+  walks = walks-joined g s.cell r.cells c.cells r.walks
       (subst (λ (v : Cell). is_walk g (v ∷ c.cells) ≡ true) (sym r.ends) c.walks);
   ends = last-joined s.cell r.cells c.cells ∙ ap (λ (v : Cell). last_of v c.cells) r.ends ∙ c.ends;
   priced = cost-joined s.cell r.cells c.cells

@@ -7,7 +7,6 @@ use Rattle.grid_moves.specs.declared.Dir.{Dir}
 use Rattle.grid_moves.specs.Grid.{GridData, IsGrid, is_inside}
 use Rattle.grid_moves.specs.Move.{ahead, legal_ahead}
 use Rattle.grid_moves.proofs.Legal.{legal_is, free_inside}
-use Rattle.grid_moves.proofs.Places.{inside_from}
 use Rattle.pruning.specs.declared.turns.Side.{Side}
 use Rattle.pruning.specs.Turns.{turn, is_diagonal}
 use Rattle.pruning.proofs.Bridging.{legal_leads, one_of}
@@ -21,7 +20,7 @@ use Rattle.table_repair.specs.Differ.{DifferAtMostAt, IsKept, is_near}
 use Rattle.table_repair.specs.Mending.{IsRight, AreRight, FollowBut, IsMended, MendsKind, is_straight, is_in}
 use Rattle.table_repair.specs.Mending.{is_in_reach, span_beside}
 use Rattle.table_repair.proofs.Alike.{changes_spread_back}
-use Rattle.table_repair.proofs.Lines.{after_moved}
+use Rattle.table_repair.proofs.Lines.{is_inside-from, after_moved}
 use Rattle.table_repair.proofs.Walking.{walk_short}
 use Rattle.table_repair.proofs.Rows.{not_true, true_false}
 use Rattle.table_repair.proofs.Reach.{near_beside, block_reached, line_reached, block_inside}
@@ -38,7 +37,7 @@ edge_entry k u d outside = entries_follow k u d ∙ by_legal (legal_ahead k u d)
         let l = legal_leads k u v d e in
         let free = (legal_is k u v l.legal).target in
         let p = free_inside k v free in
-        absurd (true_false (is_inside k v) (inside_from k v p.0 p.1) (outside v l.ahead_is))
+        absurd (true_false (is_inside k v) (is_inside-from k v p.0 p.1) (outside v l.ahead_is))
 
 module _ (c : Cell) (g h : GridData) (differ : DifferAtMostAt c g h) where
   pub same_inside : (v : Cell) → is_inside h v ≡ is_inside g v

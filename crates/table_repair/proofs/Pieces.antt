@@ -6,7 +6,6 @@ use Rattle.grid_moves.specs.declared.Cell.{Cell}
 use Rattle.grid_moves.specs.declared.Dir.{Dir}
 use Rattle.grid_moves.specs.Grid.{GridData, is_inside}
 use Rattle.grid_moves.proofs.Legal.{and_both}
-use Rattle.grid_moves.proofs.Places.{inside_from}
 use Rattle.pruning.specs.Turns.{is_diagonal}
 use Rattle.pruning.proofs.Running.{AreMoved}
 use Rattle.plus_tables.specs.Tables.{TablesData}
@@ -15,7 +14,7 @@ use Rattle.table_repair.specs.declared.walks.Walk.{Walk}
 use Rattle.table_repair.specs.Abreast.{is_at_one}
 use Rattle.table_repair.specs.Mending.{IsRight, Mends, CanSweep, Sweeps, either, is_among, is_in_row}
 use Rattle.table_repair.proofs.Abreast.{at_both}
-use Rattle.table_repair.proofs.Lines.{after_moved, right_ahead}
+use Rattle.table_repair.proofs.Lines.{after_moved, right_ahead, is_inside-from}
 use Rattle.table_repair.proofs.Mends.{mends_wider, follow_more}
 use Rattle.table_repair.proofs.Rows.{and_true, not_true}
 use Rattle.table_repair.proofs.Sweeping.{Swept, swept_more, swept_all, among_parts, among_from, number_same}
@@ -49,7 +48,7 @@ row_from y s w e l m = grind (arith, and_true, among_from)
 
 pub row_on_map : (h : GridData) (y : ℕ) (s : Span) (w : Cell) → y < h.height → s.end ≤ h.width
     → is_in_row y s w ≡ true → is_inside h w ≡ true
-row_on_map h y s w low narrow i = grind (arith, row_parts, inside_from)
+row_on_map h y s w low narrow i = grind (arith, row_parts, is_inside-from)
 
 -- an empty piece adds no walk
 pub none_there : (y n : ℕ) (before : List Walk) (w : Cell)

@@ -6,7 +6,6 @@ use Rattle.grid_moves.specs.declared.Dir.{Dir}
 use Rattle.grid_moves.specs.declared.Dir.TheVariants.{N, NE, E, SE, S, SW, W, NW}
 use Rattle.grid_moves.specs.Grid.{GridData, is_inside}
 use Rattle.grid_moves.proofs.Legal.{and_both}
-use Rattle.grid_moves.proofs.Places.{inside_is, inside_from}
 use Rattle.pruning.specs.declared.turns.Side.{Side}
 use Rattle.pruning.specs.declared.turns.Side.TheVariants.{Right, Left}
 use Rattle.pruning.specs.Turns.{turn, is_diagonal}
@@ -16,7 +15,7 @@ use Rattle.table_repair.specs.Differ.{is_near}
 use Rattle.table_repair.specs.Mending.{is_among, is_in, span_beside, widened, span_next, is_in_reach}
 use Rattle.table_repair.specs.Mending.{goes_right, goes_down, NoneAhead}
 use Rattle.table_repair.proofs.Moving.{is_near-parts}
-use Rattle.table_repair.proofs.Lines.{after_moved}
+use Rattle.table_repair.proofs.Lines.{inside_parts, is_inside-from, after_moved}
 use Rattle.table_repair.proofs.Sweeping.{among_parts, among_from}
 use Rattle.table_repair.proofs.Rows.{and_true, not_true}
 use Rattle.table_repair.proofs.Walking.{or_left, or_right}
@@ -57,7 +56,7 @@ module _ (h : GridData) (rows columns : Span) (by : ℕ) (d : Dir) (v : Cell) (i
 
   -- the block is in reach
   pub block_reached : is_in rows columns v ≡ true → is_in_reach h rows columns by d v ≡ true
-  block_reached j = grind (arith, and_both, in_row, wide_still, inside_is)
+  block_reached j = grind (arith, and_both, in_row, wide_still, inside_parts)
 
   in_column : is_among columns v.x ≡ true
       → (is_among rows v.y ≡ true) ⊎ (is_among (span_next (goes_down d) rows by h.height) v.y ≡ true)
@@ -82,10 +81,10 @@ line_reached h rows columns by d s diagonal v start k l m j i = by_dir d s diago
     same_column e = rw (← e) p.1
 
     x_inside : v.x < h.width
-    x_inside = (inside_is h v i).0
+    x_inside = (inside_parts h v i).0
 
     y_inside : v.y < h.height
-    y_inside = (inside_is h v i).1
+    y_inside = (inside_parts h v i).1
 
     by_dir : (d : Dir) (s : Side) → is_diagonal d ≡ true → AreMoved (turn s d) k v start
         → is_in_reach h rows columns by d v ≡ true
@@ -114,7 +113,7 @@ line_reached h rows columns by d s diagonal v start k l m j i = by_dir d s diago
 pub near_beside : (h : GridData) (c v : Cell) → is_inside h v ≡ true → is_near v c ≡ true
     → is_in (span_beside c.y h.height) (span_beside c.x h.width) v ≡ true
 near_beside h c v i n =
-    let p = inside_is h v i in
+    let p = inside_parts h v i in
     let q = is_near-parts v c n in
     and_true (is_among (span_beside c.y h.height) v.y) (is_among (span_beside c.x h.width) v.x)
     (among_from (span_beside c.y h.height) v.y (omega arith) (omega arith))
@@ -145,4 +144,4 @@ rear_behind d rows columns wide by side diagonal v w k here r =
 -- the block lies on the map
 pub block_inside : (h : GridData) (c : Cell) (rows columns : Span) → rows ≡ span_beside c.y h.height
     → columns ≡ span_beside c.x h.width → (v : Cell) → is_in rows columns v ≡ true → is_inside h v ≡ true
-block_inside h c rows columns r s v i = grind (arith, and_both, among_parts, inside_from)
+block_inside h c rows columns r s v i = grind (arith, and_both, among_parts, is_inside-from)

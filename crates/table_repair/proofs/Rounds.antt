@@ -9,7 +9,6 @@ use Rattle.grid_moves.specs.declared.Cell.{Cell}
 use Rattle.grid_moves.specs.declared.Dir.{Dir}
 use Rattle.grid_moves.specs.Grid.{GridData, IsGrid, is_inside}
 use Rattle.grid_moves.specs.Move.{ahead, is_same}
-use Rattle.grid_moves.proofs.Places.{inside_is}
 use Rattle.pruning.specs.Turns.{is_diagonal}
 use Rattle.plus_tables.specs.Tables.{TablesData}
 use Rattle.table_repair.specs.declared.walks.Walk.{Walk}
@@ -18,6 +17,7 @@ use Rattle.table_repair.specs.Abreast.{room_of}
 use Rattle.table_repair.specs.Mending.{IsRight, AreReady, Mends, FollowBut, either, goes_down}
 use Rattle.table_repair.proofs.Abreast.{abreast_none, abreast_next, abreast_then, at_both, at_first, at_next}
 use Rattle.table_repair.proofs.Abreast.{at_others, first_inside, first_right, or_either}
+use Rattle.table_repair.proofs.Lines.{inside_parts}
 use Rattle.table_repair.proofs.Moving.{ahead_moved}
 
 pub room_both : (h : GridData) (d : Dir) (xs ys : List Walk)
@@ -28,7 +28,7 @@ room_both h d (x ∷ xs) ys = let e = room_both h d xs ys in omega arith
 
 room_behind : (h : GridData) (d : Dir) (u v : Cell) → is_diagonal d ≡ true → is_inside h u ≡ true
     → ahead d u ≡ Some v → back_room h d v ≡ back_room h d u + 1
-room_behind h d u v k i e = grind (arith, inside_is, ahead_moved)
+room_behind h d u v k i e = grind (arith, inside_parts, ahead_moved)
 
 -- a walk that goes on or ends has less room behind it
 room_next : (h : GridData) (d : Dir) (v : Walk) (rest : List Walk) (t : TablesData) (on : Option Walk)
@@ -46,7 +46,7 @@ unfolding room_of
 room_few h d [] grid inside = omega arith
 room_few h d (v ∷ vs) grid inside =
     let more = room_few h d vs grid (λ w k. inside w (at_others v vs w k)) in
-    let p = inside_is h v.at (inside v.at (at_first v vs)) in
+    let p = inside_parts h v.at (inside v.at (at_first v vs)) in
     let low = grid.sides.low in
     let one = row_few (goes_down d) v.at p.1 low in
     omega arith

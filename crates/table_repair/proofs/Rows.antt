@@ -7,12 +7,11 @@ use Rattle.grid_moves.specs.declared.Dir.{Dir}
 use Rattle.grid_moves.specs.Grid.{GridData, is_inside}
 use Rattle.grid_moves.specs.Move.{is_same}
 use Rattle.grid_moves.proofs.Legal.{and_both, is_same-cell, is_same-itself, same_cell}
-use Rattle.grid_moves.proofs.Places.{inside_from}
 use Rattle.plus_tables.specs.Tables.{TablesData}
 use Rattle.table_repair.specs.declared.span.Span.{Span}
 use Rattle.table_repair.specs.Mending.{IsRight, FollowBut, Mends, CanSweep, Sweeps, either, is_among}
 use Rattle.table_repair.specs.Mending.{is_in_row, is_in, goes_right, goes_down}
-use Rattle.table_repair.proofs.Lines.{after_moved, right_ahead}
+use Rattle.table_repair.proofs.Lines.{after_moved, right_ahead, is_inside-from}
 use Rattle.table_repair.proofs.Walking.{or_false, false_or}
 use Rattle.table_repair.proofs.Sweeping.{IsTaken, Swept, swept_more, swept_all, row_ahead, rows_ahead}
 use Rattle.table_repair.proofs.Sweeping.{among_parts, same_number, number_same}
@@ -39,7 +38,7 @@ module _ {h : GridData} {d : Dir} (y : ℕ) (columns : Span) {left rest : Span} 
   v_there = and_true (nat_eq y y) (is_among columns x) (same_number y) (within x taken.member)
 
   pub row_inside : y < h.height → columns.end ≤ h.width → is_inside h v ≡ true
-  row_inside low narrow = grind (arith, among_parts, inside_from)
+  row_inside low narrow = grind (arith, among_parts, is_inside-from)
 
   pub row_right : y < h.height → columns.end ≤ h.width → CanSweep h old d (is_in_row y columns)
       → IsRight h now v d

@@ -11,7 +11,6 @@ use Rattle.grid_moves.proofs.Legal.{is_same-cell, is_same-itself}
 use Rattle.pruning.proofs.Bridging.{one_of, legal_leads}
 use Rattle.pruning.proofs.Running.{IsMoved, column_trend, row_trend}
 use Rattle.grid_moves.specs.declared.Dir.TheVariants.{N, NE, E, SE, S, SW, W, NW}
-use Rattle.grid_moves.proofs.Places.{inside_is}
 use Rattle.plus_tables.specs.Entry.{table_entry}
 use Rattle.plus_tables.specs.Tables.{TablesData, IsWhole, AreTablesOf, RestsRight, is_on, entry_at}
 use Rattle.plus_tables.specs.Tables.{tables_with}
@@ -19,7 +18,7 @@ use Rattle.table_repair.specs.Counted.{places_differing}
 use Rattle.table_repair.specs.Mending.{IsRight, AreBesideRight, AreReady, IsMended, Mends, FollowBut}
 use Rattle.table_repair.specs.Mending.{cell_after, behind_on}
 use Rattle.table_repair.proofs.Counting.{entry-with, entry-with_other, count-with, with_itself}
-use Rattle.table_repair.proofs.Lines.{behind_on-from, one_behind, after_before, after_moved}
+use Rattle.table_repair.proofs.Lines.{behind_on-from, one_behind, after_before, after_moved, inside_parts}
 use Rattle.table_repair.proofs.Mends.{mends_none, still_mended, on_inside, ready_stays}
 
 -- what waits for this cell, and for those that wait later
@@ -188,8 +187,8 @@ walk_ends {h = h} {d = d} {at_cell = at_cell} walked none later f = passed later
 pub walk_short : (h : GridData) (d : Dir) (v u : Cell) (n : ℕ) → IsGrid h → is_inside h v ≡ true
     → is_inside h u ≡ true → cell_after d n u ≡ Some v → n < 4096
 walk_short h d v u n grid i j r =
-    let p = inside_is h v i in
-    let q = inside_is h u j in
+    let p = inside_parts h v i in
+    let q = inside_parts h u j in
     let wide = grid.sides.narrow in
     let high = grid.sides.low in
     let m = after_moved d n u v r in
