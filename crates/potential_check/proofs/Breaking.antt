@@ -1,4 +1,6 @@
 -- A text is read as a fault exactly where a line breaks the grammar first so.
+use Rattle.std.proofs.lemmas.Grind.{common_steps}
+use Rattle.std.proofs.lemmas.Bool.Decides.{nat_tests}
 use Rattle.std.proofs.Common.{◌≡◌, ◌≢◌, ℕ, zero, suc, ◌+◌, ◌<◌, inl, inr, arith, refl, ap, sym, ◌∙◌, List, []}
 use Rattle.std.proofs.Common.{◌∷◌, take, Option, Some, None, Result, Ok, Err}
 use Rattle.std.specs.Option.{option_and_then}
@@ -8,7 +10,7 @@ use Rattle.text_line.specs.Reading.{fault_in}
 use Rattle.text_line.specs.Reading as reading
 use Rattle.potential_check.specs.declared.certificate.Certificate.{Certificate}
 use Rattle.potential_check.specs.declared.fault.CertFault.{CertFault}
-use Rattle.potential_check.specs.declared.fault.CertFault.TheVariants.{Line, Order, NoMemory}
+use Rattle.potential_check.specs.declared.fault.CertFault.TheVariants.{Line, NoMemory}
 use Rattle.potential_check.specs.Text.{BreaksFirst, Plain, State, Step, Tells, absent_fault, after_step}
 use Rattle.potential_check.specs.Text.{at_version, certificate_of, closed, fault_after, fault_at, goes}
 use Rattle.potential_check.specs.Text.{if_goes, misspelt, next, read_from, state_after, step_fault, unordered}
@@ -121,11 +123,7 @@ only (line ∷ lines) s n f (suc place) breaks before =
 
 -- of a text
 at_text : (lines : List (List ℕ)) (place : ℕ) → broken_at at_version 1 lines place ≡ fault_at lines place
-at_text lines place =
-    let number : 1 + place ≡ place + 1 = omega arith in
-    broken_is lines at_version 1 place
-    ∙ ap (λ (k : ℕ). option_and_then (λ state. fault_after state k (slice_get lines place))
-    (state_after at_version (take place lines))) number
+at_text lines place = grind (arith, nat_tests, broken_is)
 
 pub certificate_of_broken : (text : List ℕ) (f : CertFault) → BreaksFirst (lines_of text) f
     → certificate_of text ≡ Err f
@@ -149,7 +147,4 @@ certificate_of_err text f read =
 pub tells_broken : (text : List ℕ) (answer : Result Certificate CertFault)
     → Tells answer (certificate_of text)
     → IfErr answer (λ fault. fault ≢ NoMemory → BreaksFirst (lines_of text) fault)
-tells_broken text (Ok c) tells = tt
-tells_broken text (Err (Line line)) tells = λ other. certificate_of_err text (Line line) tells
-tells_broken text (Err (Order line)) tells = λ other. certificate_of_err text (Order line) tells
-tells_broken text (Err NoMemory) tells = λ other. absurd (other refl)
+tells_broken text answer h1 = grind (arith, common_steps, certificate_of_err)

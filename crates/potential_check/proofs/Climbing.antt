@@ -1,4 +1,5 @@
 -- The first steep move from a cell is the first one that climbs.
+use Rattle.std.proofs.lemmas.Bool.Decides.{nat_tests}
 use Rattle.std.proofs.Common.{◌≡◌, ℕ, zero, suc, ◌+◌, ◌-◌, ◌<◌, ◌≤◌, arith, refl, ap, ◌∙◌, Bool, true, false}
 use Rattle.std.proofs.Common.{List, [], ◌∷◌}
 use Rattle.std.specs.Prelude.{ℤ, Option, Some, None, option_map, if◌then◌else◌}
@@ -90,11 +91,7 @@ no_climb g fails u [] none = refl
 no_climb g fails u (d ∷ dirs) none = rw (none d) (no_climb g fails u dirs none)
 
 pub no_move : (g : GridData) (u : Cell) (d : Dir) → is_free g u ≡ false → legal_ahead g u d ≡ None
-no_move g u d blocked = by_cell (legal_ahead g u d) refl
-  where
-    by_cell : (o : Option Cell) → legal_ahead g u d ≡ o → o ≡ None
-    by_cell None e = refl
-    by_cell (Some v) e = absurd (let s = (legal_is g u v (legal_ahead-is g u v d e)).source in cc)
+no_move g u d h1 = grind (arith, nat_tests, legal_is, legal_ahead-is)
 
 -- the cells of a row one after the other
 pub row_step : (g : GridData) (fails : Cell → Cell → Bool) (y x width : ℕ) → x < width

@@ -1,7 +1,8 @@
 -- Entries of a list whose cells ascend, from a number on.
-use Rattle.std.proofs.Common.{◌≡◌, ℕ, ◌+◌, ◌<◌, ◌≤◌, inl, inr, arith, refl, ap, sym, ◌∙◌, true}
+use Rattle.std.proofs.lemmas.Bool.Decides.{nat_tests}
+use Rattle.std.proofs.Common.{◌≡◌, ℕ, ◌+◌, ◌<◌, inl, inr, arith, refl, ap, true}
 use Rattle.std.proofs.Common.{false, List, [], ◌∷◌}
-use Rattle.std.specs.Prelude.{ℤ, nat_lt}
+use Rattle.std.specs.Prelude.{ℤ}
 use Rattle.std.specs.List.{list_all}
 use Rattle.std.proofs.lemmas.Bool.{and_parts, cases_Bool, ltb-true, leb-true, le-leb}
 use Rattle.grid_moves.specs.declared.Cell.{Cell}
@@ -33,65 +34,25 @@ module _ (w : ℕ) (floor : Cell → ℤ) (c : Cell) where
   -- where entries ascend from the cell's number on, only the first may be the cell's
   pub first_is : (entries : List (Cell × ℤ)) → ascend_from w (cell_number w c) (cells_in entries) ≡ true
       → first_height floor entries c ≡ height_of floor entries c
-  first_is [] a = refl
-  first_is (e ∷ entries) a = elim (cases_Bool (is_same e.0 c)) [
-    | inl same ↦ rw same refl
-    | inr other ↦
-        (let parts = and_parts _ _ a in
-        let most = leb-true (cell_number w c) (cell_number w e.0) parts.0 in
-        rw other (sym (height_of-before (cell_number w e.0 + 1) entries (omega arith) parts.1)))
-  ]
+  first_is entries h1 = grind (arith, nat_tests, cases_Bool, and_parts, leb-true, height_of-before)
 
   -- and those after it ascend from the next number on
   pub rest_ascends : (h : ℕ) (entries : List (Cell × ℤ)) → c.x < w
       → list_all (lies_inside w h) (cells_in entries) ≡ true
       → ascend_from w (cell_number w c) (cells_in entries) ≡ true
       → ascend_from w (cell_number w c + 1) (cells_in (rest_after entries c)) ≡ true
-  rest_ascends h [] inside all a = refl
-  rest_ascends h (e ∷ entries) inside all a =
-      let parts = and_parts _ _ a in
-      let most = leb-true (cell_number w c) (cell_number w e.0) parts.0 in
-      elim (cases_Bool (is_same e.0 c)) [
-        | inl same ↦ rw same (ap (λ n. ascend_from w (n + 1) (cells_in entries))
-            (sym (same_number w e.0 c same))
-            ∙ parts.1)
-        | inr other ↦
-            (let within = and_parts _ _ all in
-            let column = and_parts (nat_lt e.0.x w) (nat_lt e.0.y h) within.0 in
-            let apart : cell_number w e.0 ≡ cell_number w c → ⊥ =
-            λ f. not_same e.0 (ltb-true e.0.x w column.0) other f in
-            rw (other, le-leb (cell_number w c + 1) (cell_number w e.0) (above _ _ most apart)) parts.1)
-      ]
-    where
-      not_same : (d : Cell) → d.x < w → is_same d c ≡ false → cell_number w d ≡ cell_number w c → ⊥
-      not_same d inside_too other f =
-          let one : d ≡ c = one_cell w d c inside_too inside f in
-          let t : is_same c c ≡ false = rw one at other in
-          cc (is_same-itself c)
-
-      above : (m n : ℕ) → m ≤ n → (n ≡ m → ⊥) → m + 1 ≤ n
-      above m n h apart = grind arith
+  rest_ascends h entries h1 h2 h3 =
+      grind (arith, nat_tests, and_parts, leb-true, cases_Bool, same_number, ltb-true, le-leb, one_cell, is_same-itself)
 
   -- they lie inside too
   pub rest_inside : (h : ℕ) (entries : List (Cell × ℤ)) → list_all (lies_inside w h) (cells_in entries) ≡ true
       → list_all (lies_inside w h) (cells_in (rest_after entries c)) ≡ true
-  rest_inside h [] all = refl
-  rest_inside h (e ∷ entries) all = elim (cases_Bool (is_same e.0 c)) [
-    | inl same ↦ rw same (and_parts _ _ all).1
-    | inr other ↦ rw other all
-  ]
+  rest_inside h entries h1 = grind (arith, nat_tests, cases_Bool, and_parts)
 
   -- and tell the heights of later cells
   pub rest_heights : (d : Cell) (entries : List (Cell × ℤ)) → cell_number w c < cell_number w d
       → height_of floor (rest_after entries c) d ≡ height_of floor entries d
-  rest_heights d [] later = refl
-  rest_heights d (e ∷ entries) later = elim (cases_Bool (is_same e.0 c)) [
-    | inl same ↦ elim (cases_Bool (is_same e.0 d)) [
-      | inl too ↦ absurd (let f = same_number w e.0 c same in let k = same_number w e.0 d too in omega arith)
-      | inr other ↦ rw (same, other) refl
-    ]
-    | inr other ↦ rw other refl
-  ]
+  rest_heights d entries h1 = grind (arith, nat_tests, cases_Bool, same_number)
 
   -- a cell outside is not listed
   pub height_of-outside : (h : ℕ) (entries : List (Cell × ℤ)) → lies_inside w h c ≡ false

@@ -1,7 +1,8 @@
 -- The first move with a property, or none; and what a potential or a set of cells tells of all walks.
-use Rattle.std.proofs.Common.{◌≡◌, ℕ, zero, suc, ◌+◌, ◌<◌, ◌≤◌, ◌⊎◌, inl, inr, arith, refl, ap, sym, ◌∙◌}
+use Rattle.std.proofs.lemmas.Bool.Decides.{nat_tests}
+use Rattle.std.proofs.Common.{◌≡◌, ℕ, zero, suc, ◌+◌, ◌<◌, ◌≤◌, ◌⊎◌, inl, inr, arith, refl, ap, ◌∙◌}
 use Rattle.std.proofs.Common.{subst, Bool, true, false, List, [], ◌∷◌}
-use Rattle.std.specs.Prelude.{Option, Some, None, ◌&&◌, not, if◌then◌else◌}
+use Rattle.std.specs.Prelude.{Option, Some, None, ◌&&◌, not}
 use Rattle.std.specs.List.{AllByRecursion}
 use Rattle.std.specs.Option.{option_or}
 use Rattle.std.proofs.lemmas.Bool.{and_parts}
@@ -55,12 +56,7 @@ module _ (g : GridData) (fails : Cell → Cell → Bool) where
 
   none_of : (u v : Cell) (d : Dir) → legal_ahead g u d ≡ Some v
       → failing_move fails u (legal_ahead g u d) ≡ None → fails u v ≡ false
-  none_of u v d e f = by_test (fails u v) (sym (ap (failing_move fails u) e) ∙ f)
-    where
-      by_test : (b : Bool) → (let found : Option (Cell × Cell) = if b then Some (u, v) else None in found)
-          ≡ None → b ≡ false
-      by_test true e = absurd (cc)
-      by_test false e = refl
+  none_of u v d h1 h2 = grind (arith, nat_tests)
 
   none_each : (u : Cell) (dirs : List Dir) → first_ahead g fails u dirs ≡ None
       → AllByRecursion (λ d. failing_move fails u (legal_ahead g u d) ≡ None) dirs

@@ -1,7 +1,8 @@
 -- Where no move would climb, were it legal, no legal move does.
+use Rattle.std.proofs.lemmas.Bool.Decides.{nat_tests}
 use Rattle.std.proofs.Common.{◌≡◌, ℕ, zero, suc, ◌⊎◌, inl, inr, Bool, true, false, ◌||◌, refl, sym, ap, ◌∙◌}
 use Rattle.std.proofs.Common.{w64, to_z, of_z, arith}
-use Rattle.std.specs.Prelude.{Option, Some, None, ℤ, FitsSigned, if◌then◌else◌}
+use Rattle.std.specs.Prelude.{Option, Some, None, ℤ, FitsSigned}
 use Rattle.std.proofs.lemmas.Int.{to_z-of_z}
 use Rattle.root2_cost.specs.Rank.{rank_of}
 use Rattle.grid_moves.specs.declared.Cell.{Cell}
@@ -9,7 +10,7 @@ use Rattle.grid_moves.specs.declared.Dir.{Dir}
 use Rattle.grid_moves.specs.declared.Dir.TheVariants.{N, NE, E, SE, S, SW, W, NW}
 use Rattle.grid_moves.specs.Around.{IsBefore}
 use Rattle.grid_moves.specs.Grid.{GridData}
-use Rattle.grid_moves.specs.Move.{all_dirs, before, column_ahead, is_legal, legal_ahead, move_cost, row_ahead}
+use Rattle.grid_moves.specs.Move.{all_dirs, before, column_ahead, legal_ahead, move_cost, row_ahead}
 use Rattle.potential_check.specs.Rising.{first_steep, is_steep, steep_move}
 
 -- an optional number is this one, if there is one
@@ -25,14 +26,7 @@ pub flat_ahead : (g : GridData) (u : Cell) (d : Dir) (x y : ℕ) (from to : ℤ)
     → IsAtMostOne (column_ahead d u.x) x → IsAtMostOne (row_ahead d u.y) y
     → is_steep from (rank_of (move_cost u (record { x = x; y = y }))) to ≡ false
     → steep_move u from to (legal_ahead g u d) ≡ None
-flat_ahead g u d x y from to (inr e) row flat = rw e refl
-flat_ahead g u d x y from to (inl e) (inr f) flat = rw (e, f) refl
-flat_ahead g u d x y from to (inl e) (inl f) flat =
-    rw (e, f) (by_test (is_legal g u (record { x = x; y = y })))
-  where
-    by_test : (b : Bool) → steep_move u from to (if b then Some (record { x = x; y = y }) else None) ≡ None
-    by_test true = rw flat refl
-    by_test false = refl
+flat_ahead g u d x y from to h1 h2 h3 = grind (arith, nat_tests)
 
 -- a test of heights that fit
 pub flat_passed : (cost : ℕ) (from to : ℤ) (result : Bool) → FitsSigned w64 from → FitsSigned w64 to

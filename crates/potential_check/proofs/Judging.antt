@@ -1,8 +1,8 @@
 -- The answers of a check, by the first clause that fails.
+use Rattle.std.proofs.lemmas.Grind.{common_steps}
 use Rattle.std.proofs.Common.{◌≡◌, ℕ, ◌<◌, ◌≤◌, arith, refl, ap, sym, ◌∙◌, subst, Bool, true, false, List}
-use Rattle.std.specs.Prelude.{Option, Some, None, Result, Ok, Err, ◌&&◌, IfOk, ◌^◌, length, nat_eq, nat_le}
-use Rattle.std.specs.Prelude.{nat_lt}
-use Rattle.std.proofs.lemmas.Bool.{and_parts, ltb-true}
+use Rattle.std.specs.Prelude.{Option, Some, None, Result, Ok, Err, IfOk, ◌^◌, length}
+use Rattle.std.proofs.lemmas.Bool.{and_parts, ltb-true, eqb-true}
 use Rattle.std.proofs.lemmas.Bool.Decides.{nat_tests}
 use Rattle.std.specs.List.{list_all}
 use Rattle.root2_cost.specs.declared.Cost.{Cost}
@@ -16,9 +16,9 @@ use Rattle.potential_check.specs.declared.certificate.Claim.TheVariants.{Least, 
 use Rattle.potential_check.specs.declared.verdict.Proof.{Proof}
 use Rattle.potential_check.specs.declared.verdict.Proof.TheVariants as proof
 use Rattle.potential_check.specs.declared.verdict.Reject.{Reject}
-use Rattle.potential_check.specs.declared.verdict.Reject.TheVariants.{Size, Ends, Walk, Start, Goal, Move}
+use Rattle.potential_check.specs.declared.verdict.Reject.TheVariants.{Walk, Start, Goal, Move}
 use Rattle.potential_check.specs.declared.verdict.Reject.TheVariants.{Open}
-use Rattle.potential_check.specs.Certificate.{are_listed, are_points, are_sides, cells_of, is_claim, is_short}
+use Rattle.potential_check.specs.Certificate.{are_listed, cells_of, is_claim, is_short}
 use Rattle.potential_check.specs.Certificate.{is_small}
 use Rattle.potential_check.specs.Potential.{is_listed, potential_of, rises}
 use Rattle.potential_check.specs.Moves.{first_failing}
@@ -37,22 +37,10 @@ module _ (g : GridData) (s t : Cell) (claim : Claim) (told : Result Proof Reject
     (only : (reject : Reject) → RefusesClaim g s t claim reject → told ≡ Err reject)
     (accepted : AcceptsClaim g s t claim → told ≡ Ok (claimed claim)) where
   refused : (reject : Reject) → RefusesClaim g s t claim reject → JudgesClaim g s t claim (Err reject)
-  refused reject r = record {
-    ok = tt;
-    proof = tt;
-    accepts = λ a. sym (only reject r) ∙ accepted a;
-    err = r;
-    refuses = λ other q. sym (only reject r) ∙ only other q;
-  }
+  refused reject h1 = grind (arith, common_steps)
 
   allowed : AcceptsClaim g s t claim → JudgesClaim g s t claim (Ok (claimed claim))
-  allowed a = record {
-    ok = a;
-    proof = refl;
-    accepts = λ b. refl;
-    err = tt;
-    refuses = λ other q. sym (accepted a) ∙ only other q;
-  }
+  allowed h1 = grind (arith, common_steps)
 
 -- the answer for a claim of least cost, by the walk, the values of start and goal, and the first move that
 -- fails
@@ -76,13 +64,7 @@ module _ (g : GridData) (s t : Cell) (cost : Cost) (points : List Cell) (values 
         (first_failing g fails)
 
     only : (reject : Reject) → RefusesLeast g s t cost points values reject → told ≡ Err reject
-    only (Walk j) r = rw (walk.some j r) refl
-    only Start r = rw (walk.none r.0, r.1) refl
-    only Goal r = rw (walk.none r.0, r.1, r.2) refl
-    only (Move u v) r = rw (walk.none r.0, r.1, r.2, r.3) refl
-    only Size r = absurd r
-    only Ends r = absurd r
-    only (Open u v) r = absurd r
+    only reject h1 = grind (arith, nat_tests)
 
     accepted : AcceptsLeast g s t cost points values → told ≡ Ok (proof.Least cost)
     accepted a = rw (walk.none a.walk, a.start, a.goal, none_fails g fails a.moves) refl
@@ -110,13 +92,7 @@ module _ (g : GridData) (s t : Cell) (cost : Cost) (points : List Cell) (values 
         judged_move u v found = refused_so (Move u v) (walk.right, start, goal, found)
 
         pub judged_least : first_failing g fails ≡ None → JudgesClaim g s t least (Ok (proof.Least cost))
-        judged_least none = allowed g s t least (told None walk) (only None walk)
-            (accepted None walk) (record {
-              walk = walk.right;
-              start = start;
-              goal = goal;
-              moves = none_found g fails none;
-            })
+        judged_least h1 = grind (arith, common_steps, allowed, only, accepted, none_found)
 
 -- the answer for a claim that no walk exists, by start and goal, and the first move that fails
 abbrev none_answer : Bool → Bool → Option (Cell × Cell) → Result Proof Reject
@@ -130,13 +106,7 @@ module _ (g : GridData) (s t : Cell) (cells : List Cell) where
   none_told = none_answer (is_listed cells s) (is_listed cells t) (first_failing g (leaves cells))
 
   only_none : (reject : Reject) → RefusesNone g s t cells reject → none_told ≡ Err reject
-  only_none Start r = rw r refl
-  only_none Goal r = rw (r.0, r.1) refl
-  only_none (Open u v) r = rw (r.0, r.1, r.2) refl
-  only_none Size r = absurd r
-  only_none Ends r = absurd r
-  only_none (Walk i) r = absurd r
-  only_none (Move u v) r = absurd r
+  only_none reject h1 = grind (arith, nat_tests)
 
   accepted_none : AcceptsNone g s t cells → none_told ≡ Ok proof.NoWalk
   accepted_none a = rw (a.start, a.goal, none_fails g (leaves cells) a.moves) refl
@@ -211,10 +181,6 @@ way_out_is g given cells same =
     ∙ first_failing-same g (climbs (height_of out_of_reach (members cells))) (leaves cells)
     (λ u v legal. climbs-leaves cells u v)
 
--- both tests hold
-pub both : (a b : Bool) → a ≡ true → b ≡ true → (a && b) ≡ true
-both a b e f = rw (e, f) refl
-
 -- what a claim of least cost holds
 pub record LeastParts (width height : ℕ) (cost : Cost) (points : List Cell) (values : List (Cell × Cost)) :
     Type 0 where
@@ -225,30 +191,12 @@ pub record LeastParts (width height : ℕ) (cost : Cost) (points : List Cell) (v
 
 pub least_parts : (width height : ℕ) (cost : Cost) (points : List Cell) (values : List (Cell × Cost))
     → is_claim width height (Least cost points values) ≡ true → LeastParts width height cost points values
-least_parts width height cost points values h =
-    let all = and_parts (is_small cost && are_points points && list_all (λ entry. is_small entry.1) values)
-    (are_listed width height (cells_of values)) h in
-    let three = and_parts (is_small cost && are_points points) (list_all (λ entry. is_small entry.1) values)
-    all.0 in
-    let two = and_parts (is_small cost) (are_points points) three.0 in
-    let counted = and_parts (nat_le 1 (length points) && nat_lt (length points) (2 ^ 30))
-    (list_all is_short points) two.1 in
-    let few = and_parts (nat_le 1 (length points)) (nat_lt (length points) (2 ^ 30)) counted.0 in
-    record { small = two.0; few = ltb-true _ _ few.1; low = three.1; listed = all.1 }
+least_parts width height cost points values h1 = grind (arith, common_steps, and_parts, ltb-true)
 
 -- the claim of a certificate of the grid's size
 pub claim_fits : (g : GridData) (c : Certificate) → has_size g c ≡ true
     → is_claim g.width g.height c.claim ≡ true
-claim_fits g c size =
-    let sides = and_parts (nat_eq g.width c.width) (nat_eq g.height c.height) size in
-    let wide : g.width ≡ c.width = same _ _ sides.0 in
-    let high : g.height ≡ c.height = same _ _ sides.1 in
-    let parts = and_parts (are_sides c.width c.height && is_short c.start && is_short c.goal)
-    (is_claim c.width c.height c.claim) c.whole in
-    rw (wide, high) parts.1
-  where
-    same : (m n : ℕ) → nat_eq m n ≡ true → m ≡ n
-    same m n h = grind (arith, nat_tests)
+claim_fits g c h1 = grind (arith, nat_tests, and_parts, eqb-true)
 
 -- an answer that names no point
 pub right_walk : (g : GridData) (s t : Cell) (cost : Cost) (points : List Cell) (bad : Option ℕ) → bad ≡ None

@@ -1,7 +1,8 @@
 -- The digits that a line begins with.
+use Rattle.std.proofs.lemmas.Grind.{common_steps}
 use Rattle.std.proofs.Common.{◌≡◌, ℕ, ◌+◌, ◌*◌, ◌-◌, ◌^◌, ◌<◌, ◌≤◌, inl, inr, Bool, true, false, not, List}
-use Rattle.std.proofs.Common.{[], ◌∷◌, length, take, drop, get_or, refl, ap, sym, ◌∙◌, arith}
-use Rattle.std.specs.Prelude.{Some, None, nat_le, nat_lt}
+use Rattle.std.proofs.Common.{length, take, drop, get_or, ap, ◌∙◌, arith}
+use Rattle.std.specs.Prelude.{Some, None, nat_lt}
 use Rattle.std.specs.Char.{is_ascii_digit}
 use Rattle.std.specs.List.{list_all, position_or_len}
 use Rattle.std.proofs.lemmas.Bool.Decides.{nat_tests}
@@ -31,10 +32,7 @@ digits_more count line inside digits digit =
 pub value_more : (count : ℕ) (line : List ℕ) → count < length line
     → is_ascii_digit (get_or line count 0) ≡ true
     → value_of (take (count + 1) line) ≡ value_of (take count line) * 10 + (get_or line count 0 - 48)
-value_more count line inside digit =
-    ap value_of (take_more line count 0 inside)
-    ∙ after_append 0 (take count line) (get_or line count 0 ∷ [])
-    ∙ ap (λ (d : ℕ). value_of (take count line) * 10 + d) (digit_value_is (get_or line count 0) digit)
+value_more count line h1 h2 = grind (arith, common_steps, take_more, after_append, digit_value_is)
 
 -- the value of so many digits
 pub value_low : (most count : ℕ) (line : List ℕ) → count ≤ most → AreDigits count line
@@ -44,22 +42,13 @@ value_low most count line few digits =
 
 each_digit : (count : ℕ) (line : List ℕ) → count ≤ length line → AreDigits count line → (k : ℕ) → k < count
     → other (get_or line k 0) ≡ false
-each_digit count line inside digits k less =
-    let passes = AllPass-from_list_all is_ascii_digit (take count line) digits k 0
-    (omega (arith, length-take-le count line)) in
-    ap not (ap is_ascii_digit (sym (get_or-take count line k 0 less)) ∙ passes)
+each_digit count line h1 h2 k h3 =
+    grind (arith, nat_tests, AllPass-from_list_all, length-take-le, get_or-take)
 
 -- digits that end at another byte, or with the line
 ahead_is : (count : ℕ) (line : List ℕ) → count ≤ length line → AreDigits count line
     → (count < length line → is_ascii_digit (get_or line count 0) ≡ false) → digits_ahead line ≡ count
-ahead_is count line inside digits stops =
-    let at : position_or_len other line ≡ count =
-    position_or_len_is other line count 0 inside (each_digit count line inside digits)
-    (λ less. ap not (stops less)) in
-    elim (cases_Bool (nat_lt (position_or_len other line) (length line))) [
-      | inl less ↦ rw less at
-      | inr end ↦ rw end (omega (arith, at, inside, ltb-false (position_or_len other line) (length line) end))
-    ]
+ahead_is count line h1 h2 h3 = grind (arith, nat_tests, position_or_len_is, each_digit, cases_Bool, ltb-false)
 
 -- more digits than these
 ahead_many : (count : ℕ) (line : List ℕ) → count < length line → AreDigits (count + 1) line
@@ -85,32 +74,16 @@ pub number_read : (most count : ℕ) (line : List ℕ) → 0 < count → count �
     → (count < length line → is_ascii_digit (get_or line count 0) ≡ false)
     → number_ahead most line ≡ Some (value_of (take count line), drop count line)
 unfolding number_of
-number_read most count line some few low inside digits stops =
-    rw (
-      ahead_is count line inside digits stops,
-      le-leb count most few,
-      length-take-le count line inside,
-      le-leb 1 count (omega arith),
-      le-leb count 9 (omega arith),
-      digits,
-    ) refl
+number_read most count line h1 h2 h3 h4 h5 h6 = grind (arith, common_steps, ahead_is, le-leb, length-take-le)
 
 pub no_digit : (most : ℕ) (line : List ℕ) → (0 < length line → is_ascii_digit (get_or line 0 0) ≡ false)
     → number_ahead most line ≡ None
 unfolding number_of
-no_digit most line stops =
-    rw (
-      ahead_is 0 line (omega arith) refl stops,
-      le-leb 0 most (omega arith),
-    ) refl
+no_digit most line h1 = grind (arith, nat_tests, ahead_is, le-leb)
 
 pub too_many : (most : ℕ) (line : List ℕ) → most < length line → AreDigits (most + 1) line
     → number_ahead most line ≡ None
-too_many most line inside digits =
-    rw (le_false (digits_ahead line) most (ahead_many most line inside digits)) refl
-  where
-    le_false : (m n : ℕ) → n < m → nat_le m n ≡ false
-    le_false m n h = grind (arith, nat_tests)
+too_many most line h1 h2 = grind (arith, nat_tests, ahead_many)
 
 -- there is room for one more digit
 pub value_fits : (most count : ℕ) (line : List ℕ) → count < most → most ≤ 9 → AreDigits count line

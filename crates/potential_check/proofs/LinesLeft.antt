@@ -1,6 +1,8 @@
 -- What is left to read, before a line and after it.
-use Rattle.std.proofs.Common.{◌≡◌, ℕ, suc, ◌+◌, ◌^◌, ◌≤◌, ◌⊎◌, inl, inr, arith, refl, ap, sym, ◌∙◌, subst}
-use Rattle.std.proofs.Common.{Bool, true, false, List, [], ◌∷◌, ◌++◌, length, Some, None, Result, Err}
+use Rattle.std.proofs.lemmas.Grind.{common_steps}
+use Rattle.std.proofs.lemmas.Bool.Decides.{nat_tests}
+use Rattle.std.proofs.Common.{◌≡◌, ℕ, suc, ◌+◌, ◌^◌, ◌≤◌, ◌⊎◌, inl, inr, arith, refl, ap, sym, subst}
+use Rattle.std.proofs.Common.{Bool, true, List, [], ◌∷◌, ◌++◌, length, Some, None, Result, Err}
 use Rattle.std.specs.Prelude.{nat_le, ◌&&◌, if◌then◌else◌, map}
 use Rattle.std.specs.List.{list_all, onto_first}
 use Rattle.std.proofs.lemmas.Bool.{and_parts, leb-true, le-leb}
@@ -15,33 +17,21 @@ use Rattle.potential_check.specs.declared.certificate.Certificate.{Certificate}
 use Rattle.potential_check.specs.declared.fault.CertFault.{CertFault}
 use Rattle.potential_check.specs.declared.fault.CertFault.TheVariants as fault
 use Rattle.potential_check.specs.Certificate.{ascend_from}
-use Rattle.potential_check.specs.Text.{AreShort, Plain, State, Step, Tells, absent_fault, after_step}
+use Rattle.potential_check.specs.Text.{AreShort, Plain, State, Tells, absent_fault}
 use Rattle.potential_check.specs.Text.{at_claim, at_ends, at_points, at_size, at_version, certificate_of}
-use Rattle.potential_check.specs.Text.{closed, ended, goes, in_cells, in_values, misspelt, next, read_from}
-use Rattle.potential_check.specs.Text.{read_left, step_fault, unordered}
+use Rattle.potential_check.specs.Text.{closed, ended, goes, in_cells, in_values, next}
+use Rattle.potential_check.specs.Text.{read_left, step_fault}
 
 -- a line that may follow
 pub reads_on : (state after : State) (old new : Left) (line : Line) → GivesNext old (Some line) new
     → next state line.bytes.now ≡ goes after → read_left state old ≡ read_left after new
-reads_on state after old new line gives e =
-    ap (λ (ls : List (List ℕ)). read_from state old.number ls) gives.0
-    ∙ ap (λ (s : Step). after_step s old.number (λ following. read_from following (old.number + 1)
-    new.lines)) e
-    ∙ ap (λ (n : ℕ). read_from after n new.lines) (sym gives.2)
+reads_on state after old new line h1 h2 = grind (arith, nat_tests)
 
 -- one that may not
 pub reads_fault : (state : State) (old new : Left) (line : Line) (fault : CertFault)
     → GivesNext old (Some line) new → step_fault (next state line.bytes.now) old.number ≡ Some fault
     → read_left state old ≡ Err fault
-reads_fault state old new line fault gives e =
-    ap (λ (ls : List (List ℕ)). read_from state old.number ls) gives.0
-    ∙ by_step (next state line.bytes.now) e
-  where
-    by_step : (s : Step) → step_fault s old.number ≡ Some fault
-        → after_step s old.number (λ following. read_from following (old.number + 1) new.lines) ≡ Err fault
-    by_step (goes after) f = absurd (cc)
-    by_step misspelt f = cc
-    by_step unordered f = cc
+reads_fault state old new line fault h1 h2 = grind (arith, nat_tests)
 
 -- a state needs a further line, or the certificate has ended
 pub needs : (s : State) → ((p : Plain) × (s ≡ ended p))
@@ -58,12 +48,7 @@ needs (ended p) = inl (p, refl)
 -- no line, where one is needed
 pub reads_absent : (state : State) (old new : Left) (fault : CertFault) → GivesNext old None new
     → absent_fault state old.number ≡ Some fault → read_left state old ≡ Err fault
-reads_absent state old new fault gives e =
-    ap (λ (ls : List (List ℕ)). read_from state old.number ls) gives.0
-    ∙ elim (needs state) [
-      | inl over ↦ absurd (let none = rw over.1 at e in cc)
-      | inr lacks ↦ let parts = lacks old.number in cc
-    ]
+reads_absent state old new fault h1 h2 = grind (arith, nat_tests, needs)
 
 -- an answer tells what is read, told what is left to read
 pub tells_on : (answer : Result Certificate CertFault) (read more : Result Plain CertFault) → read ≡ more
@@ -73,16 +58,7 @@ tells_on answer read more e t = subst (λ (r : Result Plain CertFault). Tells an
 -- lines stay short
 pub short_next : (old new : Left) (line : Line) → GivesNext old (Some line) new → AreShort old
     → AreShort new × (length line.bytes.now ≤ 2 ^ 30) × (old.number + 1 ≤ 2 ^ 31)
-short_next old new line gives short =
-    let all : list_all (λ l. nat_le (length l) (2 ^ 30)) (line.bytes.now ∷ new.lines) ≡ true =
-    ap (λ (ls : List (List ℕ)). list_all (λ l. nat_le (length l) (2 ^ 30)) ls) (sym gives.0) ∙ short.short in
-    let parts = and_parts (nat_le (length line.bytes.now) (2 ^ 30)) (list_all (λ l. nat_le (length l) (2 ^
-    30)) new.lines) all in
-    let count : length old.lines ≡ suc (length new.lines) = ap length gives.0 in (
-      record { few = omega (arith, short.few, gives.2); short = parts.1 },
-      leb-true (length line.bytes.now) (2 ^ 30) parts.0,
-      omega (arith, short.few),
-    )
+short_next old new line h1 h2 = grind (arith, nat_tests, and_parts, leb-true)
 
 -- the lines of a text are no longer than it, and no more
 pub record Within (n : ℕ) (lines : List (List ℕ)) : Type 0 where
@@ -99,26 +75,11 @@ weaker m n (l ∷ lines) h all =
 
 longer_first : (byte n : ℕ) (pieces : List (List ℕ)) → Within n pieces
     → Within (suc n) (onto_first byte pieces)
-longer_first byte n [] w = record { few = omega arith; short = rw (le-leb 1 (suc n) (omega arith)) refl }
-longer_first byte n (p ∷ pieces) w =
-    let parts = and_parts (nat_le (length p) n) (list_all (λ l. nat_le (length l) n) pieces) w.short in
-    let most = leb-true (length p) n parts.0 in
-    record {
-      few = omega (arith, w.few);
-      short = rw (
-        le-leb (suc (length p)) (suc n) (omega arith),
-        weaker n (suc n) pieces (omega arith)
-            parts.1,
-      ) refl;
-    }
+longer_first byte n pieces h1 = grind (arith, common_steps, le-leb, and_parts, leb-true, weaker)
 
 one_more : (b n : ℕ) (pieces : List (List ℕ)) (feed : Bool) → Within n pieces
     → Within (suc n) (if feed then [] ∷ pieces else onto_first b pieces)
-one_more b n pieces true later = record {
-  few = omega (arith, later.few);
-  short = rw (le-leb 0 (suc n) (omega arith), weaker n (suc n) pieces (omega arith) later.short) refl;
-}
-one_more b n pieces false later = longer_first b n pieces later
+one_more b n pieces feed h1 = grind (arith, common_steps, le-leb, weaker, longer_first)
 
 pieces_within : (text : List ℕ) → Within (length text) (pieces_of text)
 pieces_within [] = record { few = omega arith; short = refl }

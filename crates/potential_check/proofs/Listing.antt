@@ -1,4 +1,5 @@
 -- What a line of a list comes to.
+use Rattle.std.proofs.lemmas.Bool.Decides.{nat_tests}
 use Rattle.std.proofs.Common.{◌≡◌, ℕ, ◌+◌, ◌≤◌, arith, refl, ap, sym, ◌∙◌, Bool, true, false, List, [], ◌∷◌}
 use Rattle.std.proofs.Common.{◌++◌, Option, Some, None, Result, Ok, Err}
 use Rattle.std.specs.Prelude.{◌&&◌, not, codes}
@@ -12,9 +13,8 @@ use Rattle.potential_check.specs.declared.fault.CertFault.{CertFault}
 use Rattle.potential_check.specs.declared.fault.CertFault.TheVariants.{Line, Order, NoMemory}
 use Rattle.potential_check.specs.declared.reading.Head.{Head}
 use Rattle.potential_check.specs.Certificate.{are_listed, are_points, cells_of, is_small, lies_inside}
-use Rattle.potential_check.specs.Forms.{member_on, value_on}
 use Rattle.potential_check.specs.Text.{Places, Plain, State, Step, Tells, at_size, at_version, ended, goes}
-use Rattle.potential_check.specs.Text.{in_cells, in_values, is_end, listed, next, spelled, step_fault}
+use Rattle.potential_check.specs.Text.{in_values, is_end, listed, next, spelled, step_fault}
 use Rattle.std.proofs.lemmas.List.{map-append}
 use Rattle.std.proofs.lemmas.Bool.{le-leb}
 use Rattle.potential_check.proofs.LinesLeft.{ascend_to, ascend_to-ascend}
@@ -31,70 +31,36 @@ listed_goes head least number at c state places =
     let most : least ≤ cell_number head.width c = omega (arith, places.1, places.2) in
     rw (places.0, le-leb least (cell_number head.width c) most) refl
 
-module _ (head : Head) (cost : Cost) (points : List Cell) (least : ℕ) (values : List (Cell × Cost))
-    (line : List ℕ) where
-  abbrev here : State
-  here = in_values head cost points least values
+pub values_end : (head : Head) (cost : Cost) (points : List Cell) (least : ℕ) (values : List (Cell × Cost))
+    (line : List ℕ) → is_end line ≡ true → next (in_values head cost points least values) line
+    ≡ goes (ended (record { head = head; claim = Least cost points values }))
+values_end head cost points least values line e = rw e refl
 
-  pub values_end : is_end line ≡ true
-      → next here line ≡ goes (ended (record { head = head; claim = Least cost points values }))
-  values_end e = rw e refl
+-- what stands on a line that is not the last one is listed
+module _ {E : Type 0} (form : List ℕ → Option E) (cell : E → Cell) (head : Head) (make : ℕ → List E → State)
+    (least : ℕ) (items : List E) (line : List ℕ) where
+  abbrev then_listed : E → Step
+  then_listed e = listed head least (cell e) (make (cell_number head.width (cell e) + 1) (items ++ e ∷ []))
 
-  module _ (other : is_end line ≡ false) where
-    pub values_none : (number : ℕ) → value_on line ≡ None → step_fault (next here line) number
-        ≡ Some (Line number)
-    values_none number e = rw (other, e) refl
+  module _ (on : next (make least items) line ≡ spelled (form line) then_listed) where
+    read_as : (o : Option E) → form line ≡ o → next (make least items) line ≡ spelled o then_listed
+    read_as o is = on ∙ ap (λ (o : Option E). spelled o then_listed) is
 
-    abbrev then_listed : Cell × Cost → Step
-    then_listed entry = listed head least entry.0
-        (in_values head cost points (cell_number head.width entry.0 + 1) (values ++ entry ∷ []))
+    pub list_none : (number : ℕ) → form line ≡ None
+        → step_fault (next (make least items) line) number ≡ Some (Line number)
+    list_none number is = ap (λ (s : Step). step_fault s number) (read_as None is)
 
-    values_some : (entry : Cell × Cost) → value_on line ≡ Some entry → next here line ≡ then_listed entry
-    values_some entry e = rw other (ap (λ (o : Option (Cell × Cost)). spelled o then_listed) e)
+    pub list_goes : (e : E) (number at : ℕ) (more : List E) → form line ≡ Some e
+        → Places head least number (cell e) (Ok at) → more ≡ items ++ e ∷ []
+        → next (make least items) line ≡ goes (make (at + 1) more)
+    list_goes e number at more h1 h2 h3 = grind (arith, nat_tests, read_as, listed_goes)
 
-    pub values_goes : (entry : Cell × Cost) (number at : ℕ) (more : List (Cell × Cost)) → value_on line
-        ≡ Some entry
-        → Places head least number entry.0 (Ok at) → more ≡ values ++ entry ∷ []
-        → next here line ≡ goes (in_values head cost points (at + 1) more)
-    values_goes entry number at more e places grown =
-        values_some entry e
-        ∙ listed_goes head least number at entry.0
-        (in_values head cost points (cell_number head.width entry.0 + 1) (values ++ entry ∷ [])) places
-        ∙ ap (λ (n : ℕ). goes (in_values head cost points (n + 1) (values ++ entry ∷ []))) (sym places.2)
-        ∙ ap (λ (l : List (Cell × Cost)). goes (in_values head cost points (at + 1) l)) (sym grown)
-
-    pub values_fault : (entry : Cell × Cost) (number : ℕ) (fault : CertFault) → value_on line ≡ Some entry
-        → Places head least number entry.0 (Err fault) → step_fault (next here line) number ≡ Some fault
-    values_fault entry number fault e places =
-        ap (λ (s : Step). step_fault s number) (values_some entry e)
-        ∙ places (in_values head cost points (cell_number head.width entry.0 + 1) (values ++ entry ∷ []))
-
-module _ (head : Head) (least : ℕ) (cells : List Cell) (line : List ℕ) where
-  abbrev there : State
-  there = in_cells head least cells
-
-  module _ (other : is_end line ≡ false) where
-    abbrev then_in : Cell → Step
-    then_in c = listed head least c (in_cells head (cell_number head.width c + 1) (cells ++ c ∷ []))
-
-    cells_some : (c : Cell) → member_on line ≡ Some c → next there line ≡ then_in c
-    cells_some c e = rw other (ap (λ (o : Option Cell). spelled o then_in) e)
-
-    pub cells_goes : (c : Cell) (number at : ℕ) (more : List Cell) → member_on line ≡ Some c
-        → Places head least number c (Ok at) → more ≡ cells ++ c ∷ []
-        → next there line ≡ goes (in_cells head (at + 1) more)
-    cells_goes c number at more e places grown =
-        cells_some c e
-        ∙ listed_goes head least number at c (in_cells head (cell_number head.width c + 1) (cells ++ c ∷
-        [])) places
-        ∙ ap (λ (n : ℕ). goes (in_cells head (n + 1) (cells ++ c ∷ []))) (sym places.2)
-        ∙ ap (λ (l : List Cell). goes (in_cells head (at + 1) l)) (sym grown)
-
-    pub cells_fault : (c : Cell) (number : ℕ) (fault : CertFault) → member_on line ≡ Some c
-        → Places head least number c (Err fault) → step_fault (next there line) number ≡ Some fault
-    cells_fault c number fault e places =
-        ap (λ (s : Step). step_fault s number) (cells_some c e)
-        ∙ places (in_cells head (cell_number head.width c + 1) (cells ++ c ∷ []))
+    pub list_fault : (e : E) (number : ℕ) (fault : CertFault) → form line ≡ Some e
+        → Places head least number (cell e) (Err fault)
+        → step_fault (next (make least items) line) number ≡ Some fault
+    list_fault e number fault is places =
+        ap (λ (s : Step). step_fault s number) (read_as (Some e) is)
+        ∙ places (make (cell_number head.width (cell e) + 1) (items ++ e ∷ []))
 
 -- a fault that is read is told
 pub err_tells : (fault : CertFault) (read : Result Plain CertFault) → read ≡ Err fault
@@ -130,11 +96,7 @@ line_number m n e = ap (λ (k : ℕ). let o : Option CertFault = Some (Line k) i
 pub version_test : (line word : List ℕ) (test : Bool) → word ≡ codes "jps-cert 1" → (b : Bool)
     → test ≡ not (bytes_eq line word) → test ≡ b → bytes_eq line (codes "jps-cert 1") ≡ not b
 version_test line word test w b e f =
-    ap (λ (l : List ℕ). bytes_eq line l) (sym w) ∙ twice (bytes_eq line word) ∙ ap not (sym e ∙ f)
-  where
-    twice : (a : Bool) → a ≡ not (not a)
-    twice true = refl
-    twice false = refl
+    ap (λ (l : List ℕ). bytes_eq line l) (sym w) ∙ grind arith
 
 pub version_goes : (line : List ℕ) → bytes_eq line (codes "jps-cert 1") ≡ true → next at_version line
     ≡ goes at_size

@@ -1,14 +1,15 @@
 -- Heights are ranks of potentials: a move climbs where it raises the potential by more than its cost.
-use Rattle.std.proofs.Common.{◌≡◌, ℕ, ◌-◌, ◌^◌, ◌<◌, ◌≤◌, inl, inr, arith, refl, ap, sym, ◌∙◌, subst, Bool}
-use Rattle.std.proofs.Common.{true, false, List, [], ◌∷◌}
-use Rattle.std.specs.Prelude.{ℤ, pos, negsuc, ◌+ℤ◌, ◌-ℤ◌, ◌<ℤ◌, ◌&&◌, ◌||◌, not, if◌then◌else◌, nat_lt}
-use Rattle.std.specs.Prelude.{nat_eq, map, max, min}
+use Rattle.std.proofs.lemmas.Grind.{common_steps}
+use Rattle.std.proofs.Common.{◌≡◌, ℕ, ◌^◌, ◌<◌, ◌≤◌, inl, inr, arith, refl, ap, sym, ◌∙◌}
+use Rattle.std.proofs.Common.{true, List, [], ◌∷◌}
+use Rattle.std.specs.Prelude.{ℤ, pos, ◌-ℤ◌, if◌then◌else◌}
+use Rattle.std.specs.Prelude.{map}
 use Rattle.std.specs.List.{list_all}
 use Rattle.std.specs.Int.Signed.{lt_z}
 use Rattle.std.specs.Int.RustNames.{unsigned_abs}
 use Rattle.std.proofs.lemmas.Int.{ints}
 use Rattle.std.proofs.lemmas.Bool.{and_parts, cases_Bool, ltb-true}
-use Rattle.std.proofs.lemmas.Bool.Decides.{nat_tests}
+use Rattle.std.proofs.lemmas.Bool.Decides.{nat_tests, same_from_decides}
 use Rattle.root2_cost.specs.declared.Cost.{Cost}
 use Rattle.root2_cost.specs.declared.Signed.{Signed}
 use Rattle.root2_cost.specs.Laws.{HasShortSides}
@@ -18,6 +19,7 @@ use Rattle.root2_cost.proofs.Differences.{signed_rank-more, signed_ranks, signed
 use Rattle.grid_moves.specs.declared.Cell.{Cell}
 use Rattle.grid_moves.specs.Move.{is_same, move_cost}
 use Rattle.grid_moves.specs.Points.{apart, estimate}
+use Rattle.grid_moves.proofs.Walks.{move_counts}
 use Rattle.potential_check.specs.Certificate.{cells_of, is_small, is_short}
 use Rattle.potential_check.specs.Potential.{is_listed, potential_of, rises}
 use Rattle.potential_check.specs.Accepted.{leaves}
@@ -45,11 +47,7 @@ cells-ranked (e ∷ values) = ap (λ cells. e.0 ∷ cells) (cells-ranked values)
 
 -- the parts of a difference are no longer than those of the costs
 short_difference : (m n k : ℕ) → m < k → n < k → unsigned_abs (pos m -ℤ pos n) < k
-short_difference m n k g h = by_sign (pos m -ℤ pos n) refl
-  where
-    by_sign : (z : ℤ) → pos m -ℤ pos n ≡ z → unsigned_abs z < k
-    by_sign (pos i) e = omega (arith, ints)
-    by_sign (negsuc i) e = omega (arith, ints)
+short_difference m n k h1 h2 = grind (arith, nat_tests, ints)
 
 -- a potential's parts are below 10^9 in amount, and so are those with a move's cost more
 record HasLowParts (s : Signed) : Type 0 where
@@ -58,17 +56,10 @@ record HasLowParts (s : Signed) : Type 0 where
 
 low_difference : (p q : Cost) → is_small p ≡ true → q.a < 10 ^ 9 → q.b < 10 ^ 9
     → HasLowParts (cost_difference p q)
-low_difference p q small a b =
-    let parts = and_parts (nat_lt p.a (10 ^ 9)) (nat_lt p.b (10 ^ 9)) small in
-    record {
-      a = short_difference p.a q.a (10 ^ 9) (ltb-true p.a (10 ^ 9) parts.0) a;
-      b = short_difference p.b q.b (10 ^ 9) (ltb-true p.b (10 ^ 9) parts.1) b;
-    }
+low_difference p q h1 h2 h3 = grind (arith, common_steps, short_difference)
 
 low_cost : (p : Cost) → is_small p ≡ true → HasLowParts (signed_of p)
-low_cost p small =
-    let parts = and_parts (nat_lt p.a (10 ^ 9)) (nat_lt p.b (10 ^ 9)) small in
-    record { a = ltb-true p.a (10 ^ 9) parts.0; b = ltb-true p.b (10 ^ 9) parts.1 }
+low_cost p small = record { a = grind (arith, nat_tests); b = grind (arith, nat_tests) }
 
 -- the estimate between cells of a map and a goal of at most four digits
 near : (m n : ℕ) → m < 4096 → n < 10000 → apart m n < 10000
@@ -76,14 +67,7 @@ near m n g h = omega arith
 
 short_estimate : (c goal : Cell) → c.x < 4096 → c.y < 4096 → is_short goal ≡ true
     → ((estimate c goal).a < 10 ^ 9) × ((estimate c goal).b < 10 ^ 9)
-short_estimate c goal x y short =
-    let parts = and_parts (nat_lt goal.x 10000) (nat_lt goal.y 10000) short in
-    let columns = near c.x goal.x x (ltb-true goal.x 10000 parts.0) in
-    let rows = near c.y goal.y y (ltb-true goal.y 10000 parts.1) in
-    bounded (apart c.x goal.x) (apart c.y goal.y) columns rows
-  where
-    bounded : (m n : ℕ) → m < 10000 → n < 10000 → (max m n - min m n < 10 ^ 9) × (min m n < 10 ^ 9)
-    bounded m n g h = (omega arith, omega arith)
+short_estimate c goal h1 h2 h3 = grind (arith, nat_tests, and_parts, near, ltb-true)
 
 low_potential : (cost : Cost) (goal c : Cell) (values : List (Cell × Cost)) → is_small cost ≡ true
     → is_short goal ≡ true → list_all (λ entry. is_small entry.1) values ≡ true → c.x < 4096 → c.y < 4096
@@ -93,65 +77,25 @@ low_potential cost goal c [] small short all x y =
 low_potential cost goal c (e ∷ values) small short all x y =
     let parts = and_parts (is_small e.1) (list_all (λ entry. is_small entry.1) values) all in
     elim (cases_Bool (is_same e.0 c)) [
-      | inl same ↦ subst (λ (b : Bool). HasLowParts (if b then signed_of e.1 else potential_of cost goal
-          values c))
-          (sym same) (low_cost e.1 parts.0)
-      | inr other ↦ subst (λ (b : Bool). HasLowParts (if b then signed_of e.1 else potential_of cost goal
-          values c))
-          (sym other) (low_potential cost goal c values small short parts.1 x y)
+      | inl same ↦ rw same (low_cost e.1 parts.0)
+      | inr other ↦ rw other (low_potential cost goal c values small short parts.1 x y)
     ]
 
 -- the cost of a move is a move
 one_move : (u v : Cell) → ((move_cost u v).a ≤ 1) × ((move_cost u v).b ≤ 1)
-one_move u v = by_test (nat_eq u.x v.x || nat_eq u.y v.y)
-  where
-    by_test : (b : Bool)
-        → (let c : Cost = if b then record { a = 1; b = 0 } else record { a = 0; b = 1 } in c.a ≤ 1)
-        × (let c : Cost = if b then record { a = 1; b = 0 } else record { a = 0; b = 1 } in c.b ≤ 1)
-    by_test true = (omega arith, omega arith)
-    by_test false = (omega arith, omega arith)
+one_move u v = let one = move_counts u v in (omega arith, omega arith)
 
 low_short : (s : Signed) → HasLowParts s → HasShortSides s
-low_short s low = record { straight = below low.a; diagonal = below low.b }
-  where
-    below : {n : ℕ} → n < 10 ^ 9 → n < 2 ^ 30
-    below {n} h = omega arith
+low_short s h1 = grind (arith, common_steps)
 
 low_more : (s : Signed) (c : Cost) → HasLowParts s → (c.a ≤ 1) × (c.b ≤ 1)
     → HasShortSides (add_signed s (signed_of c))
-low_more s c low few = record {
-  straight = longer s.a c.a low.a few.0;
-  diagonal = longer s.b c.b low.b few.1;
-}
-  where
-    longer : (z : ℤ) (n : ℕ) → unsigned_abs z < 10 ^ 9 → n ≤ 1 → unsigned_abs (z +ℤ pos n) < 2 ^ 30
-    longer z n g h = by_signs z (z +ℤ pos n) refl g
-      where
-        by_signs : (z t : ℤ) → z +ℤ pos n ≡ t → unsigned_abs z < 10 ^ 9 → unsigned_abs t < 2 ^ 30
-        by_signs (pos i) (pos j) e l = omega (arith, ints)
-        by_signs (pos i) (negsuc j) e l = omega (arith, ints)
-        by_signs (negsuc i) (pos j) e l = omega (arith, ints)
-        by_signs (negsuc i) (negsuc j) e l = omega (arith, ints)
-
--- two tests of which each says the other are one
-same_tests : (a b : Bool) → (a ≡ true → b ≡ true) → (b ≡ true → a ≡ true) → a ≡ b
-same_tests true true g h = refl
-same_tests false false g h = refl
-same_tests true false g h = absurd (let e = g refl in cc)
-same_tests false true g h = absurd (let e = h refl in cc)
+low_more s c h1 h2 = grind (arith, common_steps, ints)
 
 -- the order of differences is that of the ranks
 less_ranked : (p q : Signed) → HasShortSides p → HasShortSides q
     → lt_z (signed_rank p) (signed_rank q) ≡ is_signed_less p q
-less_ranked p q s t = same_tests (lt_z (signed_rank p) (signed_rank q)) (is_signed_less p q)
-    (λ h. signed_ranks_less p q s t (lt_z-is (signed_rank p) (signed_rank q) h))
-    (λ h. lt_z-true (signed_rank p) (signed_rank q) (signed_ranks p q s t h))
-  where
-    lt_z-is : (m n : ℤ) → lt_z m n ≡ true → m <ℤ n
-    lt_z-is m n h = grind (arith, ints)
-
-    lt_z-true : (m n : ℤ) → m <ℤ n → lt_z m n ≡ true
-    lt_z-true m n h = grind (arith, ints)
+less_ranked p q h1 h2 = grind (arith, nat_tests, same_from_decides, signed_ranks, signed_ranks_less, ints)
 
 -- so a move between cells of a map climbs exactly where it raises the potential by more than its cost
 pub climbs-rises : (cost : Cost) (goal : Cell) (values : List (Cell × Cost)) (u v : Cell) → is_small cost
@@ -195,16 +139,4 @@ height-members (d ∷ cells) c = elim (cases_Bool (is_same d c)) [
 -- so a move climbs exactly where it leaves the listed cells
 pub climbs-leaves : (cells : List Cell) (u v : Cell)
     → climbs (height_of out_of_reach (members cells)) u v ≡ leaves cells u v
-climbs-leaves cells u v =
-    rw (height-members cells u, height-members cells v)
-    (by_tests (is_listed cells u) (is_listed cells v) (rank_of (move_cost u v)) few)
-  where
-    few : rank_of (move_cost u v) < 2 ^ 40
-    few = let m = one_move u v in omega (arith, m.0, m.1)
-
-    by_tests : (a b : Bool) (n : ℕ) → n < 2 ^ 40
-        → is_steep (if a then pos 0 else pos (2 ^ 62)) n (if b then pos 0 else pos (2 ^ 62)) ≡ (a && not b)
-    by_tests true true n h = grind (arith, nat_tests)
-    by_tests true false n h = grind (arith, nat_tests)
-    by_tests false true n h = grind (arith, nat_tests)
-    by_tests false false n h = grind (arith, nat_tests)
+climbs-leaves cells u v = grind (arith, nat_tests, height-members, one_move)

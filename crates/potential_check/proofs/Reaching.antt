@@ -1,4 +1,6 @@
 -- Hands that read a list row by row.
+use Rattle.std.proofs.lemmas.Bool.Decides.{nat_tests}
+use Rattle.std.proofs.lemmas.Grind.{common_steps}
 use Rattle.std.proofs.Common.{◌≡◌, ℕ, zero, suc, ◌+◌, ◌*◌, ◌<◌, ◌≤◌, inl, inr, arith, refl, ap, sym, ◌∙◌}
 use Rattle.std.proofs.Common.{subst, true, false, List, [], IsTrue}
 use Rattle.std.specs.Prelude.{ℤ, min, nat_lt}
@@ -128,23 +130,11 @@ module _ (hills : Hills) (are : AreHills hills) where
   -- behind the last column begins the next row
   pub reach_row : (row column : ℕ) (heights : Heights) → w ≤ column → Reach hills row column heights
       → Reach hills (row + 1) 0 heights
-  reach_row row column heights off stands = stand_same _ _ heights (behind row column w off) stands
-    where
-      behind : (r m n : ℕ) → n ≤ m → r * n + min m n ≡ (r + 1) * n + min 0 n
-      behind r m n k = let e : min m n ≡ n = omega arith in rw e (omega arith)
+  reach_row row column heights h1 h2 = grind (arith, common_steps, stand_same)
 
   -- at the beginning
   pub reach_begin : Reach hills 0 0 hills.heights
-  reach_begin = stand_same 0 _ hills.heights (nothing w) (record {
-    inside = parts.0;
-    ascend = parts.1;
-    same = λ c later. refl;
-    floor_is = refl;
-    low = are.low;
-  })
-    where
-      nothing : (n : ℕ) → 0 ≡ 0 * n + min 0 n
-      nothing n = omega arith
+  reach_begin = grind (arith, common_steps, stand_same, parts)
 
   -- in a row below the map nothing is left
   pub reach_past : (row : ℕ) (heights : Heights) → 4096 ≤ row → entries heights ≡ []
@@ -160,12 +150,7 @@ module _ (hills : Hills) (are : AreHills hills) where
     where
       off : (c : Cell) → h * w ≤ row * w + min 0 w → row * w + min 0 w ≤ cell_number w c
           → lies_inside w h c ≡ false
-      off c more later = elim (cases_Bool (lies_inside w h c)) [
-        | inl inside ↦
-            (let column = and_parts (nat_lt c.x w) (nat_lt c.y h) inside in
-            absurd (omega (arith, number_below w h c (ltb-true c.x w column.0) (ltb-true c.y h column.1))))
-        | inr not ↦ not
-      ]
+      off c h1 h2 = grind (arith, nat_tests, cases_Bool, and_parts, number_below, ltb-true)
 
   -- a column of three rows is taken
   pub rows_taken : (y column : ℕ) (old new : Rows) (heights : Column)
@@ -202,13 +187,7 @@ module _ (hills : Hills) (are : AreHills hills) where
   pub rows_next : (y column : ℕ) (old new next : Rows) → w ≤ column → RowsReach hills y 0 old
       → RowsReach hills y column new → next.above ≡ old.here → next.here ≡ old.below → next.below ≡ new.below
       → RowsReach hills (y + 1) 0 next
-  rows_next y column old new next off first last a b c = record {
-    above = λ up is. subst (λ (n : ℕ). Reach hills n 0 next.above) (sym (before_one y up is))
-        (subst (λ (k : Heights). Reach hills y 0 k) (sym a) first.here);
-    here = subst (λ (k : Heights). Reach hills (y + 1) 0 k) (sym b) first.below;
-    below = subst (λ (k : Heights). Reach hills (y + 1 + 1) 0 k) (sym c)
-        (reach_row (y + 1) column new.below off last.below);
-  }
+  rows_next y column old new next h1 h2 h3 h4 h5 h6 = grind (arith, common_steps, before_one, reach_row)
 
   -- the heights above are low, as there is a number before
   pub above_low : (y column : ℕ) (rows : Rows) → RowsReach hills y column rows → are_low rows.above ≡ true

@@ -1,5 +1,7 @@
 -- A text is read as a certificate exactly where it spells it.
-use Rattle.std.proofs.Common.{◌≡◌, ℕ, ◌+◌, refl, ap, sym, ◌∙◌, subst, inl, inr, Bool, true, false, List, []}
+use Rattle.std.proofs.Common.{arith}
+use Rattle.std.proofs.lemmas.Bool.Decides.{nat_tests}
+use Rattle.std.proofs.Common.{◌≡◌, ℕ, ◌+◌, refl, ap, sym, ◌∙◌, subst, Bool, true, false, List, []}
 use Rattle.std.proofs.Common.{◌∷◌, ◌++◌, append_assoc, Option, Some, None, Result, Ok, Err}
 use Rattle.std.specs.Prelude.{IfOk, codes, nat_le, if◌then◌else◌, map}
 use Rattle.std.specs.List.{AllByRecursion, list_all}
@@ -93,10 +95,7 @@ record ListSpelled {E : Type 0} (form : List ℕ → Option E) (cell : E → Cel
 -- a line of a form that a word has not is another one
 differs : {E : Type 0} (form : List ℕ → Option E) (word : List ℕ) → form word ≡ None → (line : List ℕ) (e : E)
     → form line ≡ Some e → bytes_eq line word ≡ false
-differs form word none line e h = elim (cases_Bool (bytes_eq line word)) [
-  | inl same ↦ absurd (let k = ap form (sym ((bytes_eq-Decides line word).0 same)) ∙ h in cc)
-  | inr other ↦ other
-]
+differs form word h1 line e h2 = grind (arith, nat_tests, cases_Bool, bytes_eq-Decides)
 
 module _ {E : Type 0} (form : List ℕ → Option E) (cell : E → Cell) (head : Head) (make : ℕ → List E → State)
     (done : List E → Plain)
@@ -307,23 +306,8 @@ only_claim : (head : Head) (claim : Claim) (first : List ℕ) (body others : Lis
     → SpellsClaim head claim first body → AllByRecursion (λ line. line ≡ []) others
     → read_from (at_claim head) n (first ∷ (body ++ end_word ∷ others))
     ≡ Ok (record { head = head; claim = claim })
-only_claim head (Least cost points values) first body others n s nothing =
-    let step : next (at_claim head) first ≡ goes (at_points head cost) =
-    rw (differs least_on (codes "none") refl first cost s.cost_is, s.cost_is) refl in
-    let second : next (at_points head cost) s.second ≡ goes (in_values head cost points 0 []) =
-    rw s.points_is refl in
-    ap (λ (t : Step). after_step t n (λ after. read_from after (n + 1) (body ++ end_word ∷ others))) step
-    ∙ ap (λ (b : List (List ℕ)). read_from (at_points head cost) (n + 1) (b ++ end_word ∷ others)) s.body_is
-    ∙ ap (λ (t : Step). after_step t (n + 1) (λ after. read_from after (n + 1 + 1) (s.list ++ end_word ∷
-    others))) second
-    ∙ only_values head cost points s.list others (n + 1 + 1) values s.values_are s.listed nothing
-only_claim head (NoWalk cells) first body others n s nothing =
-    let same : bytes_eq first (codes "none") ≡ true =
-    ap (λ (l : List ℕ). bytes_eq l (codes "none")) s.none_is
-    ∙ (bytes_eq-Decides (codes "none") (codes "none")).1 refl in
-    let step : next (at_claim head) first ≡ goes (in_cells head 0 []) = rw same refl in
-    ap (λ (t : Step). after_step t n (λ after. read_from after (n + 1) (body ++ end_word ∷ others))) step
-    ∙ only_cells head body others (n + 1) cells s.cells_are s.listed nothing
+only_claim head claim first body others n h1 h2 =
+    grind (arith, nat_tests, differs, only_values, bytes_eq-Decides, only_cells)
 
 -- the lines of a text
 found_lines : (text : List ℕ) (lines : List (List ℕ)) (p : Plain) → lines_of text ≡ lines

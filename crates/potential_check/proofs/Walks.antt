@@ -1,8 +1,8 @@
 -- Points that stand for a walk between two cells.
+use Rattle.std.proofs.lemmas.Grind.{common_steps}
 use Rattle.std.proofs.Common.{◌≡◌, ℕ, suc, ◌-◌, arith, refl, ap, sym, ◌∙◌, Bool, true, false, List, [], ◌∷◌}
 use Rattle.std.proofs.Common.{◌++◌, length}
 use Rattle.std.specs.Prelude.{Option, Some, None, Result, Ok, Err, option_map, slice_get, ◌&&◌, if◌then◌else◌}
-use Rattle.std.specs.Prelude.{IfOk, IfErr}
 use Rattle.std.proofs.lemmas.Bool.Decides.{nat_tests}
 use Rattle.root2_cost.specs.declared.Cost.{Cost}
 use Rattle.root2_cost.proofs.Less.{same_cost}
@@ -14,8 +14,9 @@ use Rattle.grid_moves.specs.Walk.{is_walk, cost_of, last_of}
 use Rattle.grid_moves.proofs.Legal.{is_same-cell, is_same-itself}
 use Rattle.grid_moves.proofs.Walks.{last-joined}
 use Rattle.path_points.specs.declared.checking.BadAt.{BadAt}
-use Rattle.path_points.specs.Checked.{IsFirstBad, IsShortWalk, run}
+use Rattle.path_points.specs.Checked.{IsShortWalk, run}
 use Rattle.path_points.proofs.Joined.{run_ends}
+use Rattle.path_points.proofs.Checks.{IsVerdict}
 use Rattle.potential_check.specs.Accepted.{IsBadWalk, IsRightWalk, begins_at, ends_at, is_at, is_cost}
 use Rattle.potential_check.specs.Accepted.{elsewhere, broken, other}
 use Rattle.potential_check.specs.Judged.{JudgesWalk}
@@ -53,22 +54,12 @@ pub record Unfolds (points : List Cell) (s : Cell) (cells : List Cell) : Type 0 
 
 unfolding_some : (p : Cell) (o : Option (List Cell)) (s : Cell) (cells : List Cell)
     → option_map (λ more. p ∷ more) o ≡ Some (s ∷ cells) → (p ≡ s) × (o ≡ Some cells)
-unfolding_some p None s cells h = absurd (cc)
-unfolding_some p (Some more) s cells h =
-    let e : p ∷ more ≡ s ∷ cells = cc in
-    let f : more ≡ cells = cc in
-    (cc, ap (λ (l : List Cell). let o : Option (List Cell) = Some l in o) f)
+unfolding_some p o s cells h1 = grind (arith, nat_tests)
 
 pub unfolds_is : (points : List Cell) (s : Cell) (cells : List Cell) → unfolding_of points ≡ Some (s ∷ cells)
     → Unfolds points s cells
-unfolds_is [] s cells h = absurd (cc)
-unfolds_is (p ∷ points) s cells h =
-    let parts = unfolding_some p (unfolded_from p points) s cells h in
-    record {
-      begins = ap (λ (c : Cell). is_same c s) parts.0 ∙ is_same-itself s;
-      ends = last_point p points ∙ ap (λ (c : Cell). let o : Option Cell = Some c in o)
-          (sym (unfolded_ends p points cells parts.1) ∙ ap (λ (c : Cell). last_of c cells) parts.0);
-    }
+unfolds_is points s cells h1 =
+    grind (arith, common_steps, unfolding_some, is_same-itself, last_point, unfolded_ends)
 
 -- the cells of an unfolding that begins at s
 pub begun : (points cells : List Cell) (s : Cell) → unfolding_of points ≡ Some cells → begins_at s points
@@ -82,11 +73,7 @@ begun (p ∷ points) cells s h b = by_option (unfolded_from p points) h
 
     by_option : (o : Option (List Cell)) → option_map (λ more. p ∷ more) o ≡ Some cells
         → (more : List Cell) × (option_map (λ more. p ∷ more) o ≡ Some (s ∷ more)) × (cells ≡ s ∷ more)
-    by_option None e = absurd (cc)
-    by_option (Some more) e =
-        let f : p ∷ more ≡ cells = cc in
-        let same : p ∷ more ≡ s ∷ more = ap (λ (c : Cell). c ∷ more) first in
-        (more, ap (λ (l : List Cell). let o : Option (List Cell) = Some l in o) same, sym f ∙ same)
+    by_option o h1 = grind (arith, nat_tests, first)
 
 pub is_cost-same : (p q : Cost) → is_cost p q ≡ true → p ≡ q
 is_cost-same p q h = same_cost p q (grind (arith, nat_tests)) (grind (arith, nat_tests))
@@ -97,13 +84,7 @@ is_cost-itself p = grind (arith, nat_tests)
 module _ (g : GridData) (s t : Cell) (cost : Cost) (points : List Cell) where
   -- a right walk is a short one of the cost
   pub right_short : IsRightWalk g s t cost points → IsShortWalk g points cost
-  right_short r = record {
-    cells = s ∷ r.cells;
-    unfolds = r.unfolds;
-    walk = r.walk.legal;
-    short = omega (arith, r.short);
-    priced = r.priced;
-  }
+  right_short h1 = grind (arith, common_steps)
 
   pub right_begins : IsRightWalk g s t cost points → begins_at s points ≡ true
   right_begins r = (unfolds_is points s r.cells r.unfolds).begins
@@ -129,13 +110,6 @@ module _ (g : GridData) (s t : Cell) (cost : Cost) (points : List Cell) where
         priced = ap cost_of (sym cells.2) ∙ w.priced ∙ is_cost-same paid cost priced;
       }
 
-  -- the answers of a check of the points, and what they tell
-  pub record Tells (answer : Result Cost BadAt) : Type 0 where
-    pub walk : IfOk answer (λ paid. IsShortWalk g points paid)
-    pub ok : (paid : Cost) → IsShortWalk g points paid → answer ≡ Ok paid
-    pub bad : IfErr answer (λ bad. IsFirstBad g points bad.0)
-    pub err : (i : ℕ) → IsFirstBad g points i → answer ≡ Err (record { 0 = i })
-
   -- the number that is told, by the first point and the answer
   abbrev number : Bool → Result Cost BadAt → Option ℕ
   number false answer = Some 0
@@ -156,7 +130,7 @@ module _ (g : GridData) (s t : Cell) (cost : Cost) (points : List Cell) where
       only i (broken e first) = absurd (cc)
       only i (other paid e w o) = absurd (cc)
 
-  module _ (answer : Result Cost BadAt) (tells : Tells answer) where
+  module _ (answer : Result Cost BadAt) (tells : IsVerdict g points answer) where
     abbrev told : Option ℕ
     told = number (begins_at s points) answer
 
@@ -169,26 +143,21 @@ module _ (g : GridData) (s t : Cell) (cost : Cost) (points : List Cell) where
     rightly r = rw (right_begins r, tells.ok cost (right_short r), right_ends r, is_cost-itself cost) refl
 
     judged_bad : (i : ℕ) → IsBadWalk g s t cost points i → JudgesWalk g s t cost points (Some i)
-    judged_bad i bad = record {
-      right = tt;
-      none = λ r. sym (only i bad) ∙ rightly r;
-      wrong = bad;
-      some = λ j also. sym (only i bad) ∙ only j also;
-    }
+    judged_bad i h1 = grind (arith, common_steps, only, rightly)
 
   -- a point is bad
-  pub judged_broken : (bad : BadAt) → begins_at s points ≡ true → Tells (Err bad)
+  pub judged_broken : (bad : BadAt) → begins_at s points ≡ true → IsVerdict g points (Err bad)
       → JudgesWalk g s t cost points (Some bad.0)
   judged_broken bad begins tells = judged_bad (Err bad) tells bad.0 (broken begins tells.bad)
 
   -- the walk ends elsewhere, or costs something else
-  pub judged_other : (paid : Cost) → begins_at s points ≡ true → Tells (Ok paid)
+  pub judged_other : (paid : Cost) → begins_at s points ≡ true → IsVerdict g points (Ok paid)
       → (ends_at t points && is_cost paid cost) ≡ false → JudgesWalk g s t cost points (Some (length points))
   judged_other paid begins tells off =
       judged_bad (Ok paid) tells (length points) (other paid begins tells.walk off)
 
   -- it is right
-  pub judged_right : (paid : Cost) → begins_at s points ≡ true → Tells (Ok paid) → ends_at t points ≡ true
+  pub judged_right : (paid : Cost) → begins_at s points ≡ true → IsVerdict g points (Ok paid) → ends_at t points ≡ true
       → is_cost paid cost ≡ true → JudgesWalk g s t cost points None
   judged_right paid begins tells ends priced =
       let right = short_right paid tells.walk begins ends priced in
@@ -198,11 +167,3 @@ module _ (g : GridData) (s t : Cell) (cost : Cost) (points : List Cell) where
         wrong = tt;
         some = λ i bad. sym (rightly (Ok paid) tells right) ∙ only (Ok paid) tells i bad;
       }
-
--- of two tests that do not both hold
-pub and_false_left : (a b : Bool) → a ≡ false → (a && b) ≡ false
-and_false_left a b h = rw h refl
-
-pub and_false_right : (a b : Bool) → b ≡ false → (a && b) ≡ false
-and_false_right true b h = h
-and_false_right false b h = refl

@@ -1,8 +1,9 @@
 use Rattle.std.proofs.Common.{◌≡◌, ◌∙◌, sym, false, Some, length, ◌&&◌, List, subst}
+use Rattle.std.proofs.lemmas.Bool.{and_left, and_right}
 use Rattle.grid_moves.specs.declared.Cell.{Cell}
 use Rattle.potential_check.specs.Accepted.{ends_at, is_cost}
 use Rattle.potential_check.specs.Judged.{JudgesWalk}
-use Rattle.potential_check.proofs.Walks.{and_false_left, and_false_right, judged_broken, judged_elsewhere}
+use Rattle.potential_check.proofs.Walks.{judged_broken, judged_elsewhere}
 use Rattle.potential_check.proofs.Walks.{judged_other, judged_right}
 use Rattle.potential_check.proofs.checking.bad_point.Goals as goal
 use Rattle.potential_check.proofs.checking.bad_point.Goals.{else-ends_at-via-then-ends_at+else-eq}
@@ -38,8 +39,8 @@ returns-else-ends_at c =
     let points = c.args.points.now in
     let off : (ends_at c.args.t points && is_cost c.in-Ok.paid c.args.cost) ≡ false =
     elim c.else-ends_at.branch [
-      | else-ends_at-via-then-ends_at+else-eq w ↦ and_false_right _ _ (sym w.eq.ensures ∙ w.if-eq.false)
-      | else-ends_at-via-else-ends_at w ↦ and_false_left _ _ (sym c.ends_at.ensures ∙ w.if-ends_at.false)
+      | else-ends_at-via-then-ends_at+else-eq w ↦ and_right _ _ (sym w.eq.ensures ∙ w.if-eq.false)
+      | else-ends_at-via-else-ends_at w ↦ and_left _ _ (sym c.ends_at.ensures ∙ w.if-ends_at.false)
     ] in
     let judged = judged_other c.args.g.now c.args.s c.args.t c.args.cost points c.in-Ok.paid
     (sym c.begins_at.ensures ∙ c.if-not-begins_at.false) (record {

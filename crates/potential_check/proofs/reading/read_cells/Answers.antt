@@ -1,12 +1,13 @@
-use Rattle.std.proofs.Common.{◌+◌, ◌∙◌, ap, sym, arith, false, List, ◌++◌, ◌∷◌, [], ℕ}
+use Rattle.std.proofs.Common.{◌+◌, ◌∙◌, ap, sym, arith, false, List, ◌++◌, ◌∷◌, [], ℕ, refl}
 use Rattle.std.proofs.lemmas.Result.{err_from_is_err_and}
 use Rattle.std.specs.List.{list_all}
 use Rattle.grid_moves.specs.declared.Cell.{Cell}
 use Rattle.potential_check.specs.declared.fault.CertFault.{CertFault}
 use Rattle.potential_check.specs.Certificate.{lies_inside}
+use Rattle.potential_check.specs.Forms.{member_on}
 use Rattle.potential_check.specs.Text.{State, in_cells, next, read_left, step_fault}
 use Rattle.potential_check.proofs.LinesLeft.{ascend_to, ascend_to-pushed, reads_fault, reads_on, short_next}
-use Rattle.potential_check.proofs.Listing.{cells_fault, cells_goes, end_is, err_tells, listed_is}
+use Rattle.potential_check.proofs.Listing.{end_is, err_tells, list_fault, list_goes, listed_is}
 use Rattle.potential_check.proofs.Words.{all_pushed}
 use Rattle.potential_check.proofs.reading.read_cells.Goals as goal
 
@@ -22,8 +23,8 @@ returns-in_err-at c =
     c.if-eq.false in
     let here : State = in_cells c.args.head c.loop-line.least c.loop-line.cells in
     let fault : CertFault = c.in_err-at.field-0.0 in
-    let broken = cells_fault c.args.head c.loop-line.least c.loop-line.cells line.bytes.now other
-    c.in-Some-member_on.cell c.loop-line.number fault (sym c.member_on.ensures ∙ c.in-Some-member_on.is)
+    let broken = list_fault member_on (λ cell. cell) c.args.head (in_cells c.args.head) c.loop-line.least
+    c.loop-line.cells line.bytes.now (rw other refl) c.in-Some-member_on.cell c.loop-line.number fault (sym c.member_on.ensures ∙ c.in-Some-member_on.is)
     c.in_err-at.ensures in
     let begun = ap (λ (cells : List Cell). read_left (in_cells c.args.head 0 cells) c.args.lines)
     (sym c.new-cells.ensures) in
@@ -44,7 +45,8 @@ loop-line-preserved c =
     let here : State = in_cells head c.loop-line.least cells in
     let grown = c.in_ok-push.ensures.pushed in
     let places = c.in_ok-at.ensures in
-    let goes_on = cells_goes head c.loop-line.least cells line.bytes.now other cell c.loop-line.number
+    let goes_on = list_goes member_on (λ cell. cell) head (in_cells head) c.loop-line.least cells
+    line.bytes.now (rw other refl) cell c.loop-line.number
     c.in_ok-at.at c.push.new.self (sym c.member_on.ensures ∙ c.in-Some-member_on.is) places grown in
     let more = short_next c.loop-line.lines c.next.new.self line c.in-Some.ensures.steps
     c.loop-line.invariant.short in

@@ -1,4 +1,4 @@
-use Rattle.std.proofs.Common.{◌+◌, ◌∙◌, ap, sym, arith, true, false, List, ◌++◌, ◌∷◌, [], ℕ}
+use Rattle.std.proofs.Common.{◌+◌, ◌∙◌, ap, sym, arith, true, false, List, ◌++◌, ◌∷◌, [], ℕ, refl}
 use Rattle.std.proofs.lemmas.Result.{err_from_is_err_and}
 use Rattle.std.specs.List.{list_all}
 use Rattle.root2_cost.specs.declared.Cost.{Cost}
@@ -6,12 +6,13 @@ use Rattle.grid_moves.specs.declared.Cell.{Cell}
 use Rattle.potential_check.specs.declared.certificate.Claim.TheVariants.{Least}
 use Rattle.potential_check.specs.declared.fault.CertFault.{CertFault}
 use Rattle.potential_check.specs.declared.fault.CertFault.TheVariants.{Line}
+use Rattle.potential_check.specs.Forms.{value_on}
 use Rattle.potential_check.specs.Certificate.{cells_of, is_small, lies_inside}
 use Rattle.potential_check.specs.Text.{Plain, State, ended, in_values, next, read_left, step_fault}
 use Rattle.potential_check.proofs.LinesLeft.{ascend_to, ascend_to-pushed, reads_absent, reads_fault, reads_on}
 use Rattle.potential_check.proofs.LinesLeft.{short_next, tells_on}
 use Rattle.potential_check.proofs.Listing.{cells_of-pushed, claim_is, end_is, err_tells, line_number}
-use Rattle.potential_check.proofs.Listing.{values_end, values_fault, values_goes, values_none}
+use Rattle.potential_check.proofs.Listing.{list_fault, list_goes, list_none, values_end}
 use Rattle.potential_check.proofs.Words.{all_pushed}
 use Rattle.potential_check.proofs.reading.read_values.Goals as goal
 
@@ -53,9 +54,9 @@ returns-in_default-value_on c =
     ∙ c.loop-line.invariant.read
     ∙ reads_fault here c.loop-line.lines c.next.new.self line (Line c.loop-line.number)
     c.in-Some.ensures.steps
-    (values_none c.args.head c.args.cost c.loop-line.points c.loop-line.least c.loop-line.values
-    line.bytes.now
-    other c.loop-line.lines.number (sym c.value_on.ensures.value ∙ c.in_default-value_on.is)
+    (list_none value_on (λ entry. entry.0) c.args.head
+    (in_values c.args.head c.args.cost c.loop-line.points) c.loop-line.least c.loop-line.values
+    line.bytes.now (rw other refl) c.loop-line.lines.number (sym c.value_on.ensures.value ∙ c.in_default-value_on.is)
     ∙ line_number _ _ (sym c.loop-line.invariant.number))
 
 pub returns-in_err-at : goal.returns-in_err-at
@@ -66,8 +67,9 @@ returns-in_err-at c =
     let here : State =
     in_values c.args.head c.args.cost c.loop-line.points c.loop-line.least c.loop-line.values in
     let fault : CertFault = c.in_err-at.field-0.0 in
-    let broken = values_fault c.args.head c.args.cost c.loop-line.points c.loop-line.least c.loop-line.values
-    line.bytes.now other c.in-Some-value_on.entry c.loop-line.number fault
+    let broken = list_fault value_on (λ entry. entry.0) c.args.head
+    (in_values c.args.head c.args.cost c.loop-line.points) c.loop-line.least c.loop-line.values
+    line.bytes.now (rw other refl) c.in-Some-value_on.entry c.loop-line.number fault
     (sym c.value_on.ensures.value ∙ c.in-Some-value_on.is) c.in_err-at.ensures in
     let read = ap (λ (values : List (Cell × Cost)). read_left (in_values c.args.head c.args.cost
     c.args.points 0 values)
@@ -89,9 +91,8 @@ loop-line-preserved c =
     let here : State = in_values head c.args.cost c.loop-line.points c.loop-line.least values in
     let grown = c.in_ok-push.ensures.pushed in
     let places = c.in_ok-at.ensures in
-    let goes_on = values_goes head c.args.cost c.loop-line.points c.loop-line.least values line.bytes.now
-    other
-    entry c.loop-line.number c.in_ok-at.at c.push.new.self
+    let goes_on = list_goes value_on (λ entry. entry.0) head (in_values head c.args.cost c.loop-line.points)
+    c.loop-line.least values line.bytes.now (rw other refl) entry c.loop-line.number c.in_ok-at.at c.push.new.self
     (sym c.value_on.ensures.value ∙ c.in-Some-value_on.is) places grown in
     let more = short_next c.loop-line.lines c.next.new.self line c.in-Some.ensures.steps
     c.loop-line.invariant.short in
