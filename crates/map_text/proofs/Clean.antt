@@ -1,7 +1,7 @@
 -- Lines that break nothing spell a map.
 use Rattle.std.proofs.lemmas.Bool.Decides.{nat_tests}
-use Rattle.std.proofs.Common.{◌≡◌, ℕ, suc, ◌+◌, ◌*◌, ◌<◌, ◌≤◌, List, [], ◌∷◌, length, take, drop, Some, None}
-use Rattle.std.proofs.Common.{refl, sym, ap, subst, ◌∙◌, inl, arith}
+use Rattle.std.proofs.Common.{◌≡◌, ℕ, suc, ◌+◌, ◌<◌, ◌≤◌, List, [], ◌∷◌, length, take, drop, Some, None}
+use Rattle.std.proofs.Common.{refl, sym, ap, subst, ◌∙◌, arith}
 use Rattle.std.specs.Prelude.{slice_get, codes}
 use Rattle.std.specs.List.{AllByRecursion, concat}
 use Rattle.std.proofs.lemmas.Bool.{cases_lt, lt-ltb, le-ltb}
@@ -69,7 +69,17 @@ module _ (a b c d : List ℕ) (tail : List (List ℕ)) where
     count_of_rows = length-take-le (height_of all_lines) tail tall
 
     right_map : IsMap (width_of all_lines) (height_of all_lines) (concat (take (height_of all_lines) tail))
-    right_map = grind (arith, nat_tests, named_width, named_height, length_of_rows, rows_right, count_of_rows, terrain_of_rows)
+    right_map =
+        grind (
+          arith,
+          nat_tests,
+          named_width,
+          named_height,
+          length_of_rows,
+          rows_right,
+          count_of_rows,
+          terrain_of_rows,
+        )
 
     spelled : (text : List ℕ) → lines_of text ≡ all_lines → Spells text (map_on all_lines)
     spelled text are = record {

@@ -1,7 +1,7 @@
 -- The lines of a text that spells a map break nothing.
 use Rattle.std.proofs.lemmas.Bool.Decides.{nat_tests}
 use Rattle.std.proofs.Common.{◌≡◌, ℕ, zero, suc, ◌+◌, ◌-◌, ◌<◌, ◌≤◌, true, List, [], ◌∷◌, ◌++◌, length}
-use Rattle.std.proofs.Common.{get_or, Option, Some, None, refl, sym, ap, ◌∙◌, inl, arith}
+use Rattle.std.proofs.Common.{get_or, Option, Some, None, refl, sym, ap, ◌∙◌, arith}
 use Rattle.std.specs.Prelude.{slice_get, codes, unwrap_or}
 use Rattle.std.specs.List.{list_all, AllByRecursion, concat}
 use Rattle.std.proofs.lemmas.Bool.{cases_lt, lt-ltb, le-ltb, and_parts}
@@ -84,7 +84,19 @@ module _ (text : List ℕ) (map : Map) (s : Spells text map) where
       (after_fine (row + 5) (row - length s.rows) s.others s.nothing)
 
   pub spelled_clean : (k : ℕ) → fault_at spelled_lines k ≡ None
-  spelled_clean k = grind (arith, nat_tests, height_named, side_fault_none, width_named, cases_lt, lt-ltb, row_clean, le-ltb, after_clean)
+  spelled_clean k =
+      grind (
+        arith,
+        nat_tests,
+        height_named,
+        side_fault_none,
+        width_named,
+        cases_lt,
+        lt-ltb,
+        row_clean,
+        le-ltb,
+        after_clean,
+      )
 
   pub spelled_map : map_on spelled_lines ≡ map
   spelled_map = grind (arith, take_at, height_is, same_map, width_is)
