@@ -69,7 +69,15 @@ module _ (a b c d : List ℕ) (tail : List (List ℕ)) where
     count_of_rows = length-take-le (height_of all_lines) tail tall
 
     right_map : IsMap (width_of all_lines) (height_of all_lines) (concat (take (height_of all_lines) tail))
-    right_map = grind (arith, nat_tests, named_width, named_height, length_of_rows, rows_right, count_of_rows, terrain_of_rows)
+    right_map = record {
+      wide = named_width.least;
+      narrow = named_width.most;
+      high = named_height.least;
+      low = named_height.most;
+      whole = length_of_rows (width_of all_lines) (take (height_of all_lines) tail) rows_right
+          ∙ ap (λ (n : ℕ). n * width_of all_lines) count_of_rows;
+      terrain = terrain_of_rows (width_of all_lines) (take (height_of all_lines) tail) rows_right;
+    }
 
     spelled : (text : List ℕ) → lines_of text ≡ all_lines → Spells text (map_on all_lines)
     spelled text are = record {

@@ -1,5 +1,4 @@
 -- The lines of a text that spells a map break nothing.
-use Rattle.std.proofs.lemmas.Bool.Decides.{nat_tests}
 use Rattle.std.proofs.Common.{◌≡◌, ℕ, zero, suc, ◌+◌, ◌-◌, ◌<◌, ◌≤◌, true, List, [], ◌∷◌, ◌++◌, length}
 use Rattle.std.proofs.Common.{get_or, Option, Some, None, refl, sym, ap, ◌∙◌, arith}
 use Rattle.std.specs.Prelude.{slice_get, codes, unwrap_or}
@@ -84,7 +83,11 @@ module _ (text : List ℕ) (map : Map) (s : Spells text map) where
       (after_fine (row + 5) (row - length s.rows) s.others s.nothing)
 
   pub spelled_clean : (k : ℕ) → fault_at spelled_lines k ≡ None
-  spelled_clean k = grind (arith, nat_tests, height_named, side_fault_none, width_named, cases_lt, lt-ltb, row_clean, le-ltb, after_clean)
+  spelled_clean zero = rw s.kind refl
+  spelled_clean (suc zero) = rw height_named (side_fault_none 2 map.height s.is_map.high s.is_map.low)
+  spelled_clean (suc (suc zero)) = rw width_named (side_fault_none 3 map.width s.is_map.wide s.is_map.narrow)
+  spelled_clean (suc (suc (suc zero))) = rw s.begins refl
+  spelled_clean (suc (suc (suc (suc row)))) = grind (arith, cases_lt, lt-ltb, row_clean, le-ltb, after_clean)
 
   pub spelled_map : map_on spelled_lines ≡ map
   spelled_map = grind (arith, take_at, height_is, same_map, width_is)

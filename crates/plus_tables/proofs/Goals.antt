@@ -4,7 +4,6 @@ use Rattle.std.specs.Prelude.{ℤ, Some, nat_lt, nat_eq, min, if◌then◌else�
 use Rattle.std.proofs.lemmas.Bool.Decides.{nat_tests}
 use Rattle.grid_moves.specs.declared.Cell.{Cell}
 use Rattle.grid_moves.specs.declared.Dir.{Dir}
-use Rattle.grid_moves.specs.declared.Dir.TheVariants.{N, NE, E, SE, S, SW, W, NW}
 use Rattle.grid_moves.specs.Grid.{GridData, is_free}
 use Rattle.grid_moves.proofs.Legal.{same_cell}
 use Rattle.pruning.specs.declared.turns.Side.{Side}

@@ -1,6 +1,6 @@
 -- What numbers and lengths that were written are read as.
-use Rattle.std.proofs.Common.{◌≡◌, ℕ, suc, ◌+◌, ◌-◌, ◌*◌, ◌/◌, ◌^◌, ◌<◌, true, false, List, []}
-use Rattle.std.proofs.Common.{◌∷◌, ◌++◌, length, drop, map, refl, ap, ◌∙◌, append_assoc, arith}
+use Rattle.std.proofs.Common.{◌≡◌, ℕ, suc, ◌+◌, ◌-◌, ◌*◌, ◌/◌, ◌^◌, ◌<◌, true, false, List, [], ◌∷◌, ◌++◌}
+use Rattle.std.proofs.Common.{length, drop, map, refl, ap, ◌∙◌, append_assoc, arith, ◌≤◌}
 use Rattle.std.specs.Prelude.{codes, decimal, Some, position}
 use Rattle.std.specs.Char.{is_ascii_digit, digit_value}
 use Rattle.std.specs.List.{list_all, position_or_len}
@@ -14,7 +14,7 @@ use Rattle.text_line.proofs.Digits.{after_append, digit_value_is}
 use Rattle.text_line.proofs.Written.{AreDigits, nine_digits, are_digits}
 use Rattle.scen_text.specs.Lengths.{length_of, is_point}
 use Rattle.root2_cost.specs.Length.{eight_places}
-use Rattle.scen_lines.specs.Line.{last_digit, last_eight, length_text}
+use Rattle.scen_lines.specs.Line.{last_eight, length_text}
 
 number_digits : (most n : ℕ) (digits : List ℕ) → AreDigits most n digits → is_number most digits ≡ true
 number_digits most n digits are = grind (arith, le-leb)
@@ -34,61 +34,12 @@ last_of : ℕ → List ℕ → ℕ
 last_of v [] = v
 last_of v (m ∷ ms) = last_of m ms
 
-digit_of : (m : ℕ) → is_ascii_digit (last_digit m) ≡ true
-digit_of m = grind (arith, nat_tests)
-
-one_digit : (v m : ℕ) → v ≡ m / 10 → v * 10 + digit_value (last_digit m) ≡ m
-one_digit v m e =
-    let is : digit_value (last_digit m) ≡ last_digit m - 48 = digit_value_is (last_digit m) (digit_of m) in
-    omega arith
-
-follow_value : (v : ℕ) (ms : List ℕ) → Follow v ms
-    → digits_value_after 10 v (map last_digit ms) ≡ last_of v ms
-unfolding Follow last_of
-follow_value v [] follow = refl
-follow_value v (m ∷ ms) follow =
-    ap (λ n. digits_value_after 10 n (map last_digit ms)) (one_digit v m follow.0)
-    ∙ follow_value m ms follow.1
-
 eight_value : (n : ℕ) → digits_value_after 10 (n / 100000000) (last_eight n) ≡ n
 unfolding Follow last_of
-eight_value n =
-    follow_value (n / 100000000) (n / 10000000 ∷ n / 1000000 ∷ n / 100000 ∷ n / 10000 ∷ n / 1000 ∷ n / 100 ∷
-    n / 10 ∷ n ∷ []) (
-      omega arith,
-      (
-        omega arith,
-        (
-          omega arith,
-          (
-            omega arith,
-            (
-              omega arith,
-              (
-                omega arith,
-                (
-                  omega arith,
-                  (omega arith, tt),
-                ),
-              ),
-            ),
-          ),
-        ),
-      ),
-    )
+eight_value n = grind (arith, nat_tests)
 
 pub eight_digits : (n : ℕ) → list_all is_ascii_digit (last_eight n) ≡ true
-eight_digits n =
-    rw (
-      digit_of (n / 10000000),
-      digit_of (n / 1000000),
-      digit_of (n / 100000),
-      digit_of (n / 10000),
-      digit_of (n / 1000),
-      digit_of (n / 100),
-      digit_of (n / 10),
-      digit_of n,
-    ) refl
+eight_digits n = grind (arith, nat_tests)
 
 eight_number : (n : ℕ) → is_number 20 (last_eight n) ≡ true
 eight_number n = eight_digits n
@@ -107,10 +58,7 @@ point_behind (d ∷ digits) rest all =
 
 point_at : (digits rest : List ℕ) → list_all is_ascii_digit digits ≡ true
     → position is_point (digits ++ 46 ∷ rest) ≡ Some (length digits)
-point_at digits rest all =
-    let long : length digits < length (digits ++ 46 ∷ rest) =
-    omega (arith, length-append digits (46 ∷ rest)) in
-    rw (point_behind digits rest all, lt-ltb (length digits) (length (digits ++ 46 ∷ rest)) long) refl
+point_at digits rest all = grind (arith, nat_tests, length-append, point_behind, lt-ltb)
 
 behind_point : (digits rest : List ℕ) → drop (length digits + 1) (digits ++ 46 ∷ rest) ≡ rest
 behind_point digits rest =
@@ -125,17 +73,17 @@ parted_read : (units : ℕ) (whole : List ℕ) → AreDigits 8 (units / 10000000
     → length_of (whole ++ 46 ∷ last_eight units) ≡ Some (eight_places units)
 unfolding length_of
 parted_read units whole are =
-    let value : value_of (whole ++ last_eight units) ≡ units =
-    after_append 0 whole (last_eight units)
-    ∙ ap (λ n. digits_value_after 10 n (last_eight units)) are.value ∙ eight_value units in
-    rw (
-      point_at whole (last_eight units) are.all,
-      take-append_seam whole (46 ∷ last_eight units),
-      behind_point whole (last_eight units),
-      number_digits 8 (units / 100000000) whole are,
-      eight_number units,
-      value,
-    ) refl
+    grind (
+      arith,
+      nat_tests,
+      after_append,
+      eight_value,
+      point_at,
+      take-append_seam,
+      behind_point,
+      number_digits,
+      eight_number,
+    )
 
 pub length_read : (units : ℕ) → units < 10 ^ 16 → length_of (length_text units) ≡ Some (eight_places units)
 length_read units small =

@@ -1,4 +1,5 @@
 -- The fields of words that stand behind each other, parted by tabs.
+use Rattle.std.proofs.lemmas.Bool.Decides.{nat_tests}
 use Rattle.std.proofs.Common.{◌≡◌, ℕ, suc, ◌+◌, ◌-◌, ◌≤◌, Bool, cond, false, List, [], ◌∷◌, ◌++◌, length}
 use Rattle.std.proofs.Common.{get_or, take, inl, inr, refl, ap, sym, ◌∙◌, arith}
 use Rattle.std.specs.Prelude.{filter}
@@ -72,14 +73,7 @@ is_field field = is_something field.bytes
 -- the fields of two texts around a tab
 pub fields_joined : (place : ℕ) (xs ys : List ℕ)
     → fields_from place (xs ++ 9 ∷ ys) ≡ fields_from place xs ++ fields_from (place + length xs + 1) ys
-fields_joined place xs ys =
-    let parts = slice_split is_blank_byte xs in
-    let after = slice_split is_blank_byte ys in
-    let next : place + room_of parts ≡ place + length xs + 1 = omega (arith, room_parts xs) in
-    ap (λ (all : List (List ℕ)). filter is_field (placed_from place all)) (parts_joined xs ys)
-    ∙ ap (filter is_field) (placed_joined place parts after)
-    ∙ filter-append is_field (placed_from place parts) (placed_from (place + room_of parts) after)
-    ∙ ap (λ n. fields_from place xs ++ filter is_field (placed_from n after)) next
+fields_joined place xs ys = grind (arith, nat_tests, room_parts, parts_joined, placed_joined, filter-append)
 
 -- a word at a place
 abbrev pub word_at : ℕ → List ℕ → Placed
@@ -90,17 +84,11 @@ pub record IsWord (word : List ℕ) : Type 0 where
   pub filled : All (λ byte. is_blank_byte byte ≡ false) word
 
 pub field_alone : (place : ℕ) (word : List ℕ) → IsWord word → fields_from place word ≡ word_at place word ∷ []
-field_alone place [] is = absurd (let some = is.some in omega arith)
-field_alone place (b ∷ word) is =
-    ap (λ (all : List (List ℕ)). filter is_field (placed_from place all))
-    (slice_split_none is_blank_byte (b ∷ word) is.filled)
+field_alone place word h = grind (arith, nat_tests, slice_split_none)
 
 pub field_then : (place : ℕ) (word rest : List ℕ) → IsWord word
     → fields_from place (word ++ 9 ∷ rest) ≡ word_at place word ∷ fields_from (place + length word + 1) rest
-field_then place word rest is =
-    fields_joined place word rest
-    ∙ ap (λ (fields : List Placed). fields ++ fields_from (place + length word + 1) rest)
-    (field_alone place word is)
+field_then place word rest is = grind (arith, nat_tests, fields_joined, field_alone)
 
 -- the fields of a name begin with its first byte
 name_begins : (place b : ℕ) (bytes : List ℕ) → is_blank_byte b ≡ false
@@ -213,9 +201,4 @@ pub entry_fields : (place : ℕ) (bucket name word : List ℕ) (words : List (Li
     ≡ word_at place bucket ∷ (fields_from (place + length bucket + 1) name
     ++ words_at (place + length bucket + 1 + length name + 1) word words)
 entry_fields place bucket name word words group is are =
-    let at = place + length bucket + 1 in
-    field_then place bucket (name ++ 9 ∷ words_text word words) group
-    ∙ ap (λ (fields : List Placed). word_at place bucket ∷ fields)
-    (fields_joined at name (words_text word words)
-    ∙ ap (λ (fields : List Placed). fields_from at name ++ fields)
-    (words_fields (at + length name + 1) word words is are))
+    grind (arith, nat_tests, field_then, fields_joined, words_fields)

@@ -1,8 +1,8 @@
 -- The name of a map by its word.
-use Rattle.std.proofs.Common.{◌≡◌, ◌≢◌, ℕ, ◌+◌, ◌-◌, ◌<◌, ◌≤◌, true, false, not, List, [], ◌∷◌, length}
-use Rattle.std.proofs.Common.{get_or, take, drop, map, ap, sym, ◌∙◌, arith}
+use Rattle.std.proofs.Common.{◌≡◌, ◌≢◌, ℕ, ◌+◌, ◌-◌, ◌<◌, ◌≤◌, true, false, List, [], ◌∷◌, length}
+use Rattle.std.proofs.Common.{get_or, take, drop, map, sym, arith}
 use Rattle.std.specs.Prelude.{codes}
-use Rattle.std.specs.List.{after_last, suffix_len}
+use Rattle.std.specs.List.{after_last}
 use Rattle.std.proofs.lemmas.Bool.{false_from_ne_true}
 use Rattle.std.proofs.lemmas.Bool.Decides.{nat_tests}
 use Rattle.std.proofs.lemmas.List.{get_or-map, length-drop, length-map, take_all}
@@ -23,12 +23,7 @@ no_feed byte is = grind (arith, nat_tests)
 behind_from : (word : List ℕ) (n : ℕ) → n ≤ length word
     → Nowhere (Passes (is_byte 47) word) n (length word)
     → (0 < n → is_slash (get_or word (n - 1) 0) ≡ true) → after_last is_slash word ≡ drop n word
-behind_from word n inside none slash =
-    let long : suffix_len (λ byte. not (is_slash byte)) word ≡ length word - n =
-    suffix_len_is (λ byte. not (is_slash byte)) word n 0 inside
-    (λ k from below. ap not (false_from_ne_true (is_slash (get_or word k 0)) (none k from below)))
-    (λ some. ap not (slash some)) in
-    ap (λ k. drop (length word - k) word) long ∙ ap (λ k. drop k word) (omega arith)
+behind_from word n inside none slash = grind (arith, nat_tests, suffix_len_is, false_from_ne_true, get_or)
 
 pub behind_none : (word : List ℕ) → Nowhere (Passes (is_byte 47) word) 0 (length word)
     → word ≡ after_last is_slash word
@@ -37,31 +32,15 @@ behind_none word none = sym (behind_from word 0 (omega arith) none (λ some. abs
 pub behind_place : (word : List ℕ) (place : ℕ)
     → NoneAfter (Passes (is_byte 47) word) 0 (length word) place × Passes (is_byte 47) word place
     → take (length word - (place + 1)) (drop (place + 1) word) ≡ after_last is_slash word
-behind_place word place is =
-    let e : place + 1 - 1 ≡ place = omega arith in
-    let inside : place < length word = is.0.high in
-    let at : is_slash (get_or word (place + 1 - 1) 0) ≡ true =
-    ap (λ k. is_slash (get_or word k 0)) e ∙ is.1 in
-    take_all (length word - (place + 1)) (drop (place + 1) word)
-    (omega (arith, length-drop (place + 1) word))
-    ∙ sym (behind_from word (place + 1) (omega arith) is.0.after (λ some. at))
+behind_place word place is = grind (arith, nat_tests, get_or, take_all, length-drop, behind_from)
 
 -- such a name can stand in an entry
 byte_at : (bytes : List ℕ) (k : ℕ) → k < length (map name_byte bytes)
     → get_or (map name_byte bytes) k 0 ≡ name_byte (get_or bytes k 0)
-byte_at bytes k below =
-    let e : length (map name_byte bytes) ≡ length bytes = length-map bytes name_byte in
-    get_or-map name_byte bytes k 0 0 (omega arith)
+byte_at bytes k below = grind (arith, nat_tests, length-map, get_or-map)
 
 bytes_name : (bytes : List ℕ) → 0 < length (map name_byte bytes) → IsName (map name_byte bytes)
-bytes_name bytes some =
-    let last = length (map name_byte bytes) - 1 in
-    record {
-      some = some;
-      first = ap is_blank_byte (byte_at bytes 0 some) ∙ filled_byte (get_or bytes 0 0);
-      last = ap is_blank_byte (byte_at bytes last (omega arith)) ∙ filled_byte (get_or bytes last 0);
-      one_line = λ k below is. no_feed (get_or bytes k 0) (sym (byte_at bytes k below) ∙ is);
-    }
+bytes_name bytes some = grind (arith, nat_tests, byte_at, filled_byte, get_or, no_feed)
 
 or_map_name : (part : List ℕ) → IsName (or_map (map name_byte part))
 or_map_name [] = bytes_name (codes "map") (omega arith)

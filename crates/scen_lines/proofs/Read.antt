@@ -1,6 +1,6 @@
 -- The lines that were written are read as the entries.
 use Rattle.std.proofs.Common.{◌≡◌, ◌≢◌, ℕ, suc, ◌+◌, ◌/◌, ◌^◌, ◌<◌, ◌≤◌, Bool, true, false, not, eqb}
-use Rattle.std.proofs.Common.{List, [], ◌∷◌, ◌++◌, length, get_or, inl, inr, refl, ap, sym}
+use Rattle.std.proofs.Common.{List, [], ◌∷◌, ◌++◌, length, get_or, inr, refl, ap, sym}
 use Rattle.std.proofs.Common.{◌∙◌, append_assoc, arith, subst}
 use Rattle.std.specs.Prelude.{codes, decimal}
 use Rattle.std.specs.Char.{is_ascii_digit}
@@ -61,8 +61,7 @@ number_plain n low =
 
 plain_joined : (xs ys : List ℕ) → list_all ends_none xs ≡ true → list_all ends_none ys ≡ true
     → list_all ends_none (xs ++ ys) ≡ true
-plain_joined xs ys p q = list_all-append ends_none xs ys
-    ∙ and_from (list_all ends_none xs) (list_all ends_none ys) p q
+plain_joined xs ys p q = grind (arith, nat_tests, list_all-append, and_from)
 
 parted_plain : (whole kept : List ℕ) → 1 ≤ length whole → list_all is_ascii_digit whole ≡ true
     → list_all is_ascii_digit kept ≡ true → IsPlain (whole ++ 46 ∷ kept)
@@ -152,8 +151,7 @@ eight_ends n = (
 )
 
 length_ends : (units : ℕ) → EndsWith (last_digit units) (length_text units)
-length_ends units = subst (EndsWith (last_digit units)) (length_is units)
-    (ends_behind (last_digit units) (decimal (units / 100000000)) 46 (last_eight units) (eight_ends units))
+length_ends units = grind (arith, nat_tests, EndsWith, length_is, ends_behind, eight_ends)
 
 words_end : (c : ℕ) (word : List ℕ) (words : List (List ℕ)) (last : List ℕ) → EndsWith c last
     → EndsWith c (words_text word (words ++ last ∷ []))
@@ -162,15 +160,7 @@ words_end c word (next ∷ words) last ends =
     ends_behind c word 9 (words_text next (words ++ last ∷ [])) (words_end c next words last ends)
 
 body_ends : (entry : Named) → EndsWith (last_digit entry.listed.units) (body_of entry)
-body_ends entry =
-    let c = last_digit entry.listed.units in
-    let p = entry.listed.problem in
-    let words : List (List ℕ) =
-    decimal p.h ∷ decimal p.sx ∷ decimal p.sy ∷ decimal p.gx ∷ decimal p.gy ∷ [] in
-    let tail = words_text (decimal p.w) (later_words entry.listed) in
-    ends_behind c (decimal entry.listed.bucket) 9 (entry.name ++ 9 ∷ tail)
-    (ends_behind c entry.name 9 tail
-    (words_end c (decimal p.w) words (length_text entry.listed.units) (length_ends entry.listed.units)))
+body_ends entry = grind (arith, nat_tests, words_text, ends_behind, words_end, length_ends)
 
 kept_body : (entry : Named) → without_cr (body_of entry) ≡ body_of entry
 kept_body entry = ends_kept (last_digit entry.listed.units) (body_of entry) (body_ends entry)
@@ -286,19 +276,7 @@ lines_first : (number place : ℕ) (entry : Named) (rest : List ℕ) → IsReada
     ≡ record { number = number; place = place; bytes = body_of entry }
     ∷ lines_from (number + 1) (place + length (line_of entry)) (pieces_of rest)
 lines_first number place entry rest is =
-    let body = body_of entry in
-    let here : LineAt = record { number = number; place = place; bytes = body } in
-    let text : line_of entry ++ rest ≡ body ++ 10 ∷ rest =
-    ap (λ (t : List ℕ). t ++ rest) (line_is entry) ∙ append_assoc body (10 ∷ []) rest in
-    let long : length (line_of entry) ≡ length body + 1 =
-    ap length (line_is entry) ∙ length-append body (10 ∷ []) in
-    let next : place + length body + 1 ≡ place + length (line_of entry) = omega arith in
-    ap (λ (t : List ℕ). lines_from number place (pieces_of t)) text
-    ∙ ap (λ (pieces : List (List ℕ)). lines_from number place pieces)
-    (pieces_then ends_none no_feed body rest (body_plain entry is))
-    ∙ ap (λ (bytes : List ℕ). let line : LineAt = record { number = number; place = place; bytes = bytes } in
-    line ∷ lines_from (number + 1) (place + length body + 1) (pieces_of rest)) (kept_body entry)
-    ∙ ap (λ n. here ∷ lines_from (number + 1) n (pieces_of rest)) next
+    grind (arith, nat_tests, line_is, append_assoc, length-append, pieces_then, body_plain, kept_body)
 
 lines_spell : (number place : ℕ) (entries : List Named) → AreReadable entries
     → SpellInOrder IsBlank IsEntry (lines_from number place (pieces_of (lines_of entries)))
@@ -319,10 +297,4 @@ lines_spell number place (entry ∷ entries) are =
 
 pub scenario_spells : (entries : List Named) → AreReadable entries
     → Spells (scenario_of entries) (entries_of entries)
-scenario_spells entries are = record {
-  first = record { number = 1; place = 0; bytes = codes "version 1" };
-  others = lines_from 2 10 (pieces_of (lines_of entries));
-  are = refl;
-  version = inl refl;
-  spelled = lines_spell 2 10 entries are;
-}
+scenario_spells entries h = grind (arith, nat_tests, lines_spell)

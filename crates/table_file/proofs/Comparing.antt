@@ -1,7 +1,8 @@
 -- The tables of a map's grids compared with a text.
-use Rattle.std.proofs.Common.{◌≡◌, ℕ, suc, ◌+◌, ◌*◌, ◌<◌, Bool, true, false, List, [], ◌∷◌, length, take}
+use Rattle.std.proofs.lemmas.Bool.Decides.{nat_tests}
+use Rattle.std.proofs.Common.{◌≡◌, ℕ, suc, ◌+◌, ◌*◌, ◌<◌, Bool, List, [], ◌∷◌, length, take}
 use Rattle.std.proofs.Common.{drop, refl, ap, sym, ◌∙◌, arith}
-use Rattle.std.specs.Prelude.{ℤ, Option, Some, None, Result, Ok, Err, OnOk, IfErr, option_map, if◌then◌else◌}
+use Rattle.std.specs.Prelude.{ℤ, Option, Some, None, Result, OnOk, IfErr, option_map, if◌then◌else◌}
 use Rattle.std.specs.Option.{option_or}
 use Rattle.std.specs.Str.{bytes_eq}
 use Rattle.grid_moves.specs.declared.Ground.{Ground}
@@ -9,7 +10,7 @@ use Rattle.grid_moves.specs.declared.Ground.TheVariants.{Land, Water}
 use Rattle.grid_moves.specs.Grid.{GridData, is_ground}
 use Rattle.plus_tables.specs.Tables.{TablesData, AreTablesOf, IsWhole}
 use Rattle.table_file.specs.declared.fault.TableFault.{TableFault}
-use Rattle.table_file.specs.declared.fault.TableFault.TheVariants.{Head, Length, Entry, NoMemory}
+use Rattle.table_file.specs.declared.fault.TableFault.TheVariants.{NoMemory}
 use Rattle.table_file.specs.Encoding.{AreOfOneMap, encoding, entry_bytes, entry_for}
 use Rattle.table_file.specs.Faults.{Tells, entry_fault, first_wrong, frame_fault, table_fault_of}
 use Rattle.table_file.specs.Order.{cells_from, spots_on}
@@ -20,8 +21,7 @@ use Rattle.table_file.proofs.Numbering.{entries_listed, length-spots, spots-numb
 
 below_test : (b : Bool) (place m : ℕ) (rest : Option ℕ) (found : ℕ)
     → (rest ≡ Some found → found < m) → place < m → (if b then rest else Some place) ≡ Some found → found < m
-below_test true place m rest found below inside is = below is
-below_test false place m rest found below inside is = let same : place ≡ found = cc in omega arith
+below_test b place m rest found h i j = grind (arith, nat_tests)
 
 -- what is found is a place of an entry
 pub first_other-below : (place : ℕ) (entries : List ℤ) (bytes : List ℕ) (found : ℕ)
@@ -49,8 +49,7 @@ compared_by land water g t layer bytes is are whole entries same found told =
 
 map-or : {A B : Type 0} (f : A → B) (x y : Option A)
     → option_map f (option_or x y) ≡ option_or (option_map f x) (option_map f y)
-map-or f None y = refl
-map-or f (Some a) y = refl
+map-or f x y = grind (arith, nat_tests)
 
 module _ (land water : GridData) (text : List ℕ) where
   -- the fault of the land grid's entries, and of the water grid's behind them
@@ -67,72 +66,33 @@ module _ (land water : GridData) (text : List ℕ) where
       (drop (2 * length (spots_on Land (cells_from land.width 0 (land.height * land.width)))) (drop 13
       text))))
   unfolding table_fault_of
-  in_parts =
-      ap (λ (o : Option TableFault). option_or (frame_fault land text) o)
-      (ap (option_map entry_fault) (wrong-append (entry_for land water)
-      (spots_on Land (cells_from land.width 0 (land.height * land.width)))
-      (spots_on Water (cells_from land.width 0 (land.height * land.width))) (drop 13 text))
-      ∙ map-or entry_fault _ _)
+  in_parts = grind (arith, nat_tests, wrong-append, map-or)
 
   pub frame_decides : (fault : TableFault) → frame_fault land text ≡ Some fault
       → table_fault_of land water text ≡ Some fault
-  frame_decides fault is = in_parts ∙ ap (λ (o : Option TableFault). option_or o (option_or
-      (land_fault (drop 13 text)) (water_fault land.width land.height
-      (drop (2 * length (spots_on Land (cells_from land.width 0 (land.height * land.width)))) (drop 13
-      text))))) is
+  frame_decides fault is = grind (arith, nat_tests, in_parts)
 
   module _ (fine : frame_fault land text ≡ None) (body : List ℕ) (is : body ≡ drop 13 text) where
     behind_frame : table_fault_of land water text ≡ option_or (land_fault body) (water_fault land.width
         land.height
         (drop (2 * length (spots_on Land (cells_from land.width 0 (land.height * land.width)))) body))
-    behind_frame = in_parts ∙ ap (λ (o : Option TableFault). option_or o (option_or
-        (land_fault (drop 13 text)) (water_fault land.width land.height (drop (2 * length
-        (spots_on Land (cells_from land.width 0 (land.height * land.width)))) (drop 13 text))))) fine
-        ∙ ap (λ (l : List ℕ). option_or (land_fault l) (water_fault land.width land.height
-        (drop (2 * length (spots_on Land (cells_from land.width 0 (land.height * land.width)))) l))) (sym is)
+    behind_frame = grind (arith, nat_tests, in_parts)
 
     pub land_decides : (fault : TableFault) → land_fault body ≡ Some fault
         → table_fault_of land water text ≡ Some fault
-    land_decides fault told = behind_frame ∙ ap (λ (o : Option TableFault). option_or o (water_fault
-        land.width
-        land.height (drop (2 * length (spots_on Land (cells_from land.width 0 (land.height * land.width))))
-        body)))
-        told
+    land_decides fault told = grind (arith, nat_tests, behind_frame)
 
     pub water_decides : land_fault body ≡ None → AreOfOneMap land water → (k : ℕ)
         → k ≡ 16 * (land.height * land.width) → (behind : List ℕ) → behind ≡ drop k body
         → table_fault_of land water text ≡ water_fault water.width water.height behind
-    water_decides right one k half behind rest =
-        let spots = spots_on Land (cells_from land.width 0 (land.height * land.width)) in
-        behind_frame
-        ∙ ap (λ (o : Option TableFault). option_or o (water_fault land.width land.height
-        (drop (2 * length spots) body))) right
-        ∙ ap (λ (n : ℕ). water_fault land.width land.height (drop n body))
-        (ap (λ (n : ℕ). 2 * n) (length-spots Land land.width 0 (land.height * land.width))
-        ∙ twice (land.height * land.width) ∙ sym half)
-        ∙ ap (water_fault land.width land.height) (sym rest)
-        ∙ ap (λ (w : ℕ). water_fault w land.height behind) (sym one.width)
-        ∙ ap (λ (h : ℕ). water_fault water.width h behind) (sym one.height)
-      where
-        twice : (n : ℕ) → 2 * (n * 8) ≡ 16 * n
-        twice n = omega arith
+    water_decides right one k half behind rest = grind (arith, nat_tests, behind_frame, length-spots)
 
   -- an accepted text is the encoding
   pub found_by : {A : Type 0} (answer : Result A TableFault) → Tells answer (table_fault_of land water text)
       → OnOk answer (text ≡ encoding land.corner land water)
-  found_by (Ok a) told = only_encoding land water text told
-  found_by (Err fault) told = tt
+  found_by answer h = grind (arith, nat_tests, only_encoding)
 
   -- and the encoding is refused for want of memory alone
   pub refused_by : {A : Type 0} (answer : Result A TableFault) → Tells answer (table_fault_of land water text)
       → text ≡ encoding land.corner land water → IfErr answer (λ fault. fault ≡ NoMemory)
-  refused_by answer told is =
-      by_case answer (ap (table_fault_of land water) is ∙ encoding_right land water) told
-    where
-      by_case : {A : Type 0} (answer : Result A TableFault) → table_fault_of land water text ≡ None
-          → Tells answer (table_fault_of land water text) → IfErr answer (λ fault. fault ≡ NoMemory)
-      by_case (Ok a) none told = tt
-      by_case (Err NoMemory) none told = refl
-      by_case (Err Head) none told = let other = told (λ e. absurd (cc)) in absurd (cc)
-      by_case (Err Length) none told = let other = told (λ e. absurd (cc)) in absurd (cc)
-      by_case (Err (Entry g c d)) none told = let other = told (λ e. absurd (cc)) in absurd (cc)
+  refused_by answer told is = grind (arith, nat_tests, encoding_right)

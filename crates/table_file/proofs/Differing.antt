@@ -1,7 +1,7 @@
 -- The fault of a text is the first way in which it differs from the encoding.
 use Rattle.std.proofs.Common.{◌≡◌, ◌≢◌, ℕ, zero, suc, ◌+◌, ◌*◌, ◌<◌, ◌⊎◌, inl, inr, Bool, true, false, List}
-use Rattle.std.proofs.Common.{[], ◌∷◌, length, take, drop, refl, ap, sym, ◌∙◌, subst, arith}
-use Rattle.std.specs.Prelude.{ℤ, Option, Some, None, Result, Ok, Err, IfErr, not, nat_eq, option_map}
+use Rattle.std.proofs.Common.{[], ◌∷◌, length, take, drop, refl, ap, sym, ◌∙◌, arith}
+use Rattle.std.specs.Prelude.{ℤ, Option, Some, None, Result, IfErr, not, nat_eq, option_map}
 use Rattle.std.specs.Prelude.{slice_get, if◌then◌else◌}
 use Rattle.std.specs.Option.{option_or}
 use Rattle.std.specs.Str.{bytes_eq}
@@ -23,8 +23,7 @@ same_some a b same = cc
 
 if_some : (b : Bool) (head s : Spot) (rest : Option Spot) → (if b then rest else Some head) ≡ Some s
     → ((b ≡ true) × (rest ≡ Some s)) ⊎ ((b ≡ false) × (head ≡ s))
-if_some true head s rest is = inl (refl, is)
-if_some false head s rest is = inr (refl, same_some head s is)
+if_some b head s rest h = grind (arith, nat_tests)
 
 module _ (entry : Spot → ℤ) where
   two_on : (bytes : List ℕ) (k : ℕ) → drop (2 * k) (drop 2 bytes) ≡ drop (2 * suc k) bytes
@@ -52,16 +51,7 @@ module _ (entry : Spot → ℤ) where
   at_head : (spots : List Spot) (bytes : List ℕ) (head s : Spot)
       → bytes_eq (take 2 bytes) (entry_bytes (entry head)) ≡ false → head ≡ s
       → IsFirstWrong entry (head ∷ spots) bytes s
-  at_head spots bytes head s other is = record {
-    place = 0;
-    there = ap (λ (u : Spot). Some u) is;
-    wrong = λ fine. wrong (fine ∙ ap (λ (u : Spot). entry_bytes (entry u)) (sym is));
-    before = λ k t below there. absurd (omega arith);
-  }
-    where
-      wrong : take 2 bytes ≢ entry_bytes (entry head)
-      wrong fine = let right = (bytes_eq-Decides (take 2 bytes) (entry_bytes (entry head))).1 fine in
-          absurd (cc)
+  at_head spots bytes head s h i = grind (arith, nat_tests)
 
   first_is : (spots : List Spot) (bytes : List ℕ) (s : Spot) → first_wrong entry spots bytes ≡ Some s
       → IsFirstWrong entry spots bytes s
@@ -75,13 +65,11 @@ module _ (entry : Spot → ℤ) where
 
   if_right : (b : Bool) (head s : Spot) (rest : Option Spot) → b ≡ true → rest ≡ Some s
       → (if b then rest else Some head) ≡ Some s
-  if_right true head s rest is told = told
-  if_right false head s rest is told = absurd (cc)
+  if_right b head s rest h i = grind (arith, nat_tests)
 
   if_wrong : (b : Bool) (head s : Spot) (rest : Option Spot) → ¬ (b ≡ true) → head ≡ s
       → (if b then rest else Some head) ≡ Some s
-  if_wrong true head s rest other is = absurd (other refl)
-  if_wrong false head s rest other is = ap (λ (u : Spot). Some u) is
+  if_wrong b head s rest h i = grind (arith, nat_tests)
 
   found : (spots : List Spot) (bytes : List ℕ) (s : Spot) (place : ℕ) → slice_get spots place ≡ Some s
       → ¬ IsRightAt entry bytes place s
@@ -106,11 +94,7 @@ decided : (right whole : Bool) (wrong : Option Spot) (fault : TableFault) (P : T
     → ((s : Spot) → right ≡ true → whole ≡ true → wrong ≡ Some s → P (entry_fault s))
     → option_or (if not right then Some Head else if not whole then Some Length else None)
     (option_map entry_fault wrong) ≡ Some fault → P fault
-decided false whole wrong fault P head long first is = subst P (same_some Head fault is) (head refl)
-decided true false wrong fault P head long first is = subst P (same_some Length fault is) (long refl refl)
-decided true true None fault P head long first is = absurd (cc)
-decided true true (Some s) fault P head long first is =
-    subst P (same_some (entry_fault s) fault is) (first s refl refl refl)
+decided right whole wrong fault P h i j k = grind (arith, nat_tests)
 
 module _ (land water : GridData) (text : List ℕ) where
   pub fault_differs : (fault : TableFault) → table_fault_of land water text ≡ Some fault
@@ -138,12 +122,10 @@ module _ (land water : GridData) (text : List ℕ) where
 
   head_test : take 13 text ≡ head_bytes land.corner land.width land.height
       → bytes_eq (head_bytes land.corner land.width land.height) (take 13 text) ≡ true
-  head_test same = (bytes_eq-Decides (head_bytes land.corner land.width land.height) (take 13 text)).1 (sym
-      same)
+  head_test same = grind (arith, nat_tests)
 
   other_test : (b : Bool) → ¬ (b ≡ true) → b ≡ false
-  other_test true other = absurd (other refl)
-  other_test false other = refl
+  other_test b h = grind (arith, nat_tests)
 
   pub differs_fault : (fault : TableFault) → Differs land water text fault
       → table_fault_of land water text ≡ Some fault
@@ -166,10 +148,8 @@ module _ (land water : GridData) (text : List ℕ) where
   -- the same of an answer that tells the fault
   pub differs_by : {A : Type 0} (answer : Result A TableFault) → Tells answer (table_fault_of land water text)
       → IfErr answer (λ fault. fault ≢ NoMemory → Differs land water text fault)
-  differs_by (Ok a) told = tt
-  differs_by (Err fault) told = λ other. fault_differs fault (told other)
+  differs_by answer h = grind (arith, nat_tests, fault_differs)
 
   pub told_by : {A : Type 0} (answer : Result A TableFault) → Tells answer (table_fault_of land water text)
       → (fault : TableFault) → Differs land water text fault → Tells answer (Some fault)
-  told_by answer told fault differs =
-      subst (λ (o : Option TableFault). Tells answer o) (differs_fault fault differs) told
+  told_by answer told fault differs = grind (arith, nat_tests, differs_fault)

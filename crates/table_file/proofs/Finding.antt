@@ -1,5 +1,6 @@
 -- The first entry that differs.
-use Rattle.std.proofs.Common.{◌≡◌, ℕ, suc, ◌+◌, ◌*◌, Bool, true, false, List, [], ◌∷◌, ◌++◌, length, take}
+use Rattle.std.proofs.lemmas.Bool.Decides.{nat_tests}
+use Rattle.std.proofs.Common.{◌≡◌, ℕ, suc, ◌+◌, ◌*◌, Bool, true, List, [], ◌∷◌, ◌++◌, length, take}
 use Rattle.std.proofs.Common.{drop, refl, ap, sym, ◌∙◌, arith}
 use Rattle.std.specs.Prelude.{ℤ, Option, Some, None, option_map, map, flat_map, if◌then◌else◌}
 use Rattle.std.specs.Option.{option_or}
@@ -15,8 +16,7 @@ use Rattle.table_file.proofs.Numbering.{AreNumbered}
 by_test : (b : Bool) (tell : ℕ → Spot) (s : Spot) (place : ℕ) (x : Option Spot) (y : Option ℕ) → s
     ≡ tell place
     → x ≡ option_map tell y → (if b then x else Some s) ≡ option_map tell (if b then y else Some place)
-by_test true tell s place x y is same = same
-by_test false tell s place x y is same = ap (λ (t : Spot). Some t) is
+by_test b tell s place x y h i = grind (arith, nat_tests)
 
 -- what the first entry that differs is for is told by its place
 pub wrong_named : (tell : ℕ → Spot) (entry : Spot → ℤ) (place : ℕ) (spots : List Spot) (bytes : List ℕ)
@@ -31,8 +31,7 @@ wrong_named tell entry place (s ∷ spots) bytes numbered =
 
 or_test : (b : Bool) (s : Spot) (x y z : Option Spot) → x ≡ option_or y z
     → (if b then x else Some s) ≡ option_or (if b then y else Some s) z
-or_test true s x y z same = same
-or_test false s x y z same = refl
+or_test b s x y z h = grind (arith, nat_tests)
 
 -- among two lists it is that of the first one, if there is one
 pub wrong-append : (entry : Spot → ℤ) (xs ys : List Spot) (bytes : List ℕ)
@@ -50,8 +49,7 @@ wrong-append entry (x ∷ xs) ys bytes =
     twice n = omega arith
 
 if_none : (b : Bool) (s : Spot) (x : Option Spot) → (if b then x else Some s) ≡ None → (b ≡ true) × (x ≡ None)
-if_none true s x none = (refl, none)
-if_none false s x none = absurd (cc)
+if_none b s x h = grind (arith, nat_tests)
 
 -- where none differs, the bytes are those of the entries
 pub all_right : (entry : Spot → ℤ) (spots : List Spot) (bytes : List ℕ) → first_wrong entry spots bytes ≡ None
@@ -67,8 +65,7 @@ all_right entry (s ∷ spots) bytes none long =
     (all_right entry spots (drop 2 bytes) both.1 (length-drop 2 bytes ∙ omega arith))
 
 if_right : (b : Bool) (s : Spot) (x : Option Spot) → b ≡ true → x ≡ None → (if b then x else Some s) ≡ None
-if_right true s x is none = none
-if_right false s x is none = absurd (cc)
+if_right b s x h i = grind (arith, nat_tests)
 
 -- and the other way round
 pub none_wrong : (entry : Spot → ℤ) (spots : List Spot)

@@ -1,6 +1,6 @@
 -- What stands before the entries.
-use Rattle.std.proofs.Common.{◌≡◌, ◌≢◌, ℕ, Bool, true, false, List, length, take, refl}
-use Rattle.std.specs.Prelude.{Some, None, not, nat_eq, if◌then◌else◌}
+use Rattle.std.proofs.Common.{◌≡◌, ◌≢◌, ℕ, Bool, true, false, List, length, take}
+use Rattle.std.specs.Prelude.{Some, None, not, if◌then◌else◌}
 use Rattle.std.specs.Str.{bytes_eq}
 use Rattle.std.proofs.Common.{arith}
 use Rattle.std.proofs.lemmas.Bool.Decides.{nat_tests}
@@ -11,20 +11,7 @@ use Rattle.table_file.specs.Faults.{frame_fault}
 
 wrong : (right whole : Bool) → right ≡ false
     → (if not right then Some Head else if not whole then Some Length else None) ≡ Some Head
-wrong false whole is = refl
-wrong true whole is = absurd (cc)
-
-longer : (right whole : Bool) → right ≡ true → whole ≡ false
-    → (if not right then Some Head else if not whole then Some Length else None) ≡ Some Length
-longer true false is other = refl
-longer true true is other = absurd (cc)
-longer false whole is other = absurd (cc)
-
-fine : (right whole : Bool) → right ≡ true → whole ≡ true
-    → (if not right then Some Head else if not whole then Some Length else None) ≡ None
-fine true true is all = refl
-fine true false is all = absurd (cc)
-fine false whole is all = absurd (cc)
+wrong right whole h = grind (arith, nat_tests)
 
 module _ (land : GridData) (text : List ℕ) where
   pub frame_head : bytes_eq (head_bytes land.corner land.width land.height) (take 13 text) ≡ false
@@ -33,11 +20,8 @@ module _ (land : GridData) (text : List ℕ) where
 
   pub frame_length : bytes_eq (head_bytes land.corner land.width land.height) (take 13 text) ≡ true
       → length text ≢ size_of land → frame_fault land text ≡ Some Length
-  frame_length right other =
-      let test : nat_eq (length text) (size_of land) ≡ false = grind (arith, nat_tests) in longer _ _ right
-      test
+  frame_length right other = grind (arith, nat_tests)
 
   pub frame_fine : bytes_eq (head_bytes land.corner land.width land.height) (take 13 text) ≡ true
       → length text ≡ size_of land → frame_fault land text ≡ None
-  frame_fine right all =
-      let test : nat_eq (length text) (size_of land) ≡ true = grind (arith, nat_tests) in fine _ _ right test
+  frame_fine right all = grind (arith, nat_tests)

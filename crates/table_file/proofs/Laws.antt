@@ -1,5 +1,5 @@
 -- A text has no fault exactly where it is the encoding.
-use Rattle.std.proofs.Common.{◌≡◌, ℕ, ◌+◌, ◌-◌, ◌*◌, Bool, true, false, List, [], ◌∷◌, ◌++◌, length, take}
+use Rattle.std.proofs.Common.{◌≡◌, ℕ, ◌+◌, ◌-◌, ◌*◌, Bool, true, List, [], ◌∷◌, ◌++◌, length, take}
 use Rattle.std.proofs.Common.{drop, refl, ap, sym, ◌∙◌, arith}
 use Rattle.std.specs.Prelude.{ℤ, Option, Some, None, option_map, map, flat_map, not, nat_eq, if◌then◌else◌}
 use Rattle.std.specs.Option.{option_or}
@@ -23,16 +23,7 @@ use Rattle.std.proofs.lemmas.Grind.{flat_map-append}
 use Rattle.std.proofs.lemmas.List.Folds.{flat_map-map}
 
 length-spots_of : (width height : ℕ) → 2 * length (spots_of width height) ≡ 32 * (height * width)
-length-spots_of width height =
-    let land = length-spots Land width 0 (height * width) in
-    let water = length-spots Water width 0 (height * width) in
-    ap (λ (n : ℕ). 2 * n) (length-append (spots_on Land (cells_from width 0 (height * width)))
-    (spots_on Water (cells_from width 0 (height * width))))
-    ∙ ap (λ (n : ℕ). 2 * (n + length (spots_on Water (cells_from width 0 (height * width))))) land
-    ∙ ap (λ (n : ℕ). 2 * (height * width * 8 + n)) water ∙ sixteen (height * width)
-  where
-    sixteen : (n : ℕ) → 2 * (n * 8 + n * 8) ≡ 32 * n
-    sixteen n = omega arith
+length-spots_of width height = grind (arith, nat_tests, length-spots, length-append)
 
 pub length-flat : (entry : Spot → ℤ) (spots : List Spot)
     → length (flat_map (λ s. entry_bytes (entry s)) spots) ≡ 2 * length spots
@@ -40,36 +31,19 @@ length-flat entry [] = refl
 length-flat entry (s ∷ spots) = let others = length-flat entry spots in omega arith
 
 neither : {A : Type 0} (x y : Option A) → option_or x y ≡ None → (x ≡ None) × (y ≡ None)
-neither None y none = (refl, none)
-neither (Some a) y none = absurd (cc)
+neither x y h = grind (arith, nat_tests)
 
 no_image : {A B : Type 0} (f : A → B) (x : Option A) → option_map f x ≡ None → x ≡ None
-no_image f None none = refl
-no_image f (Some a) none = absurd (cc)
-
-no_frame : (right whole : Bool) → (if not right then Some Head else if not whole then Some Length else
-    None) ≡ None
-    → (right ≡ true) × (whole ≡ true)
-no_frame true true none = (refl, refl)
-no_frame true false none = absurd (cc)
-no_frame false whole none = absurd (cc)
+no_image f x h = grind (arith, nat_tests)
 
 frame_none : (right whole : Bool) → right ≡ true → whole ≡ true
     → (if not right then Some Head else if not whole then Some Length else None) ≡ None
-frame_none true true is all = refl
-frame_none true false is all = absurd (cc)
-frame_none false whole is all = absurd (cc)
+frame_none right whole h i = grind (arith, nat_tests)
 
 module _ (land water : GridData) where
   frame_right : (text : List ℕ) → frame_fault land text ≡ None
       → (take 13 text ≡ head_bytes land.corner land.width land.height) × (length text ≡ size_of land)
-  frame_right text none =
-      let both = no_frame (bytes_eq (head_bytes land.corner land.width land.height) (take 13 text))
-      (nat_eq (length text) (size_of land)) none in
-      let whole = both.1 in (
-        sym ((bytes_eq-Decides (head_bytes land.corner land.width land.height) (take 13 text)).0 both.0),
-        grind (arith, nat_tests),
-      )
+  frame_right text none = grind (arith, nat_tests)
 
   -- a text without a fault is the encoding
   pub only_encoding : (text : List ℕ) → table_fault_of land water text ≡ None

@@ -1,4 +1,5 @@
 -- A file that is written, cell by cell.
+use Rattle.std.proofs.lemmas.Bool.Decides.{nat_tests}
 use Rattle.std.proofs.Common.{◌≡◌, ℕ, ◌+◌, ◌-◌, ◌*◌, ◌<◌, ◌≤◌, List, [], ◌∷◌, ◌++◌, length, take, ap, sym}
 use Rattle.std.proofs.Common.{◌∙◌, arith}
 use Rattle.std.specs.Prelude.{ℤ, pos, flat_map, slice_index_or, slice_set}
@@ -38,12 +39,9 @@ entry_put cell bytes at low high inside long is behind =
 -- a head and two parts, put one after another
 pub file_put : (old head first second one two three : List ℕ) → one ≡ old ++ head → two ≡ one ++ first
     → three ≡ two ++ second → three ≡ old ++ (head ++ (first ++ second))
-file_put old head first second one two three e f g =
-    g ∙ ap (λ (l : List ℕ). l ++ second) f ∙ append_assoc one first second
-    ∙ ap (λ (l : List ℕ). l ++ (first ++ second)) e ∙ append_assoc old head (first ++ second)
+file_put old head first second one two three e f g = grind (arith, nat_tests, append_assoc)
 
 -- the bytes of all entries
 pub all_bytes : (cell : List ℤ) (bytes : List ℕ) (at : ℕ) → length cell ≤ at → length bytes ≤ 2 * length cell
     → take (2 * at) bytes ≡ flat_map entry_bytes (take at cell) → bytes ≡ flat_map entry_bytes cell
-all_bytes cell bytes at end short put =
-    sym (take_all (2 * at) bytes (omega arith)) ∙ put ∙ ap (flat_map entry_bytes) (take_all at cell end)
+all_bytes cell bytes at end short put = grind (arith, nat_tests, take_all)

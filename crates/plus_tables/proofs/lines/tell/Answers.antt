@@ -7,15 +7,6 @@ use Rattle.plus_tables.specs.Rows.{seen}
 use Rattle.plus_tables.proofs.Lining.{along_seen, entries_as, leads_ahead, seen_as}
 use Rattle.plus_tables.proofs.lines.tell.Goals as goal
 
-pub tell_ahead-requires : goal.tell_ahead-requires
-tell_ahead-requires g c = grind (arith, nat_tests)
-
-pub tell_ahead-requires-2 : goal.tell_ahead-requires-2
-tell_ahead-requires-2 g c = grind (arith, nat_tests)
-
-pub tell_ahead-requires-3 : goal.tell_ahead-requires-3
-tell_ahead-requires-3 g c = grind (arith, nat_tests)
-
 pub returns-clause-told : goal.returns-clause-told
 returns-clause-told g c = λ h y ready around.
     let grid : GridData = g.T.Terrain.grid c.args.t.now in

@@ -2,8 +2,5 @@ use Rattle.std.proofs.Common.{arith}
 use Rattle.std.proofs.lemmas.Bool.Decides.{nat_tests}
 use Rattle.plus_tables.proofs.onward.next_aslant.Goals as goal
 
-pub returns-in-Some : goal.returns-in-Some
-returns-in-Some g c = grind (arith, nat_tests)
-
 pub returns-in-None : goal.returns-in-None
 returns-in-None g c = grind (arith, nat_tests)

@@ -1,4 +1,5 @@
-use Rattle.std.proofs.Common.{◌≡◌, ◌*◌, ℕ, length, arith, ap, sym, ◌∙◌}
+use Rattle.std.proofs.lemmas.Bool.Decides.{nat_tests}
+use Rattle.std.proofs.Common.{ℕ, arith, ap, sym, ◌∙◌}
 use Rattle.std.specs.Prelude.{Some, None, option_map}
 use Rattle.table_file.specs.declared.fault.TableFault.{TableFault}
 use Rattle.table_file.specs.Faults.{entry_fault}
@@ -7,12 +8,7 @@ use Rattle.table_file.proofs.Comparing.{compared_by, first_other-below}
 use Rattle.table_file.proofs.loading.compared.Goals as goal
 
 pub fault_at-requires-clause-inside : goal.fault_at-requires-clause-inside
-fault_at-requires-clause-inside c =
-    let found = first_other-below 0 c.entries.result.now c.args.bytes.now c.in-Some.place
-    (sym c.in-Some.ensures) in
-    let long : length c.entries.result.now ≡ c.height.result * c.width.result * 8 =
-    rw (c.entries.ensures.entries, c.height.ensures, c.width.ensures.is) c.entries.ensures.whole.whole in
-    omega arith
+fault_at-requires-clause-inside c = grind (arith, nat_tests, first_other-below)
 
 pub returns-in-None-clause-exact : goal.returns-in-None-clause-exact
 returns-in-None-clause-exact c land water is =

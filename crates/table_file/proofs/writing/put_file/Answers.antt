@@ -1,12 +1,13 @@
-use Rattle.std.proofs.Common.{◌≡◌, ◌++◌, Result, Ok, Err, refl, flat_map}
+use Rattle.std.proofs.Common.{arith}
+use Rattle.std.proofs.lemmas.Bool.Decides.{nat_tests}
+use Rattle.std.proofs.Common.{◌≡◌, ◌++◌, Result, refl, flat_map}
 use Rattle.std.specs.Prelude.{OnOk}
 use Rattle.table_file.specs.Encoding.{entry_bytes, head_bytes}
 use Rattle.table_file.proofs.Putting.{file_put}
 use Rattle.table_file.proofs.writing.put_file.Goals as goal
 
 on_ok : {T E P Q : Type 0} (answer : Result T E) → (P → Q) → OnOk answer P → OnOk answer Q
-on_ok (Ok x) f p = f p
-on_ok (Err e) f p = p
+on_ok answer h i = grind (arith, nat_tests)
 
 pub returns-clause-ok : goal.returns-clause-ok
 returns-clause-ok c =

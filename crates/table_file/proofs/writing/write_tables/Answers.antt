@@ -1,4 +1,6 @@
-use Rattle.std.proofs.Common.{◌≡◌, ◌++◌, List, ℕ, Result, Ok, Err, ap, sym, ◌∙◌}
+use Rattle.std.proofs.Common.{arith}
+use Rattle.std.proofs.lemmas.Bool.Decides.{nat_tests}
+use Rattle.std.proofs.Common.{◌≡◌, ◌++◌, List, ℕ, Result, ap, ◌∙◌}
 use Rattle.std.specs.Prelude.{OnOk}
 use Rattle.std.specs.Prelude.{None}
 use Rattle.grid_moves.specs.declared.Corner.{Corner}
@@ -9,14 +11,11 @@ use Rattle.table_file.proofs.Laws.{encoding_right, file_is, length-encoding}
 use Rattle.table_file.proofs.writing.write_tables.Goals as goal
 
 on_ok : {T E P Q : Type 0} (answer : Result T E) → (P → Q) → OnOk answer P → OnOk answer Q
-on_ok (Ok x) f p = f p
-on_ok (Err e) f p = p
+on_ok answer h i = grind (arith, nat_tests)
 
 loaded_back : (land water : GridData) (corner : Corner) → land.corner ≡ corner
     → table_fault_of land water (encoding corner land water) ≡ None
-loaded_back land water corner is =
-    ap (λ (rule : Corner). table_fault_of land water (encoding rule land water)) (sym is)
-    ∙ encoding_right land water
+loaded_back land water corner is = grind (arith, nat_tests, encoding_right)
 
 pub returns-else-is_err-clause-text : goal.returns-else-is_err-clause-text
 returns-else-is_err-clause-text c land water are are_too one corner =
