@@ -21,4 +21,3 @@ pub mod Performing
 pub mod Opening
 pub mod Ended
 pub mod Serving
-pub mod Counts

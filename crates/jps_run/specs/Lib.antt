@@ -22,6 +22,7 @@ pub mod Cases
 pub mod Works
 pub mod Querying
 pub mod Texts
+pub mod Parts
 pub mod Live
 pub mod Counting
 pub mod Outcome
