@@ -150,7 +150,7 @@ last_swap : {K L : Map → List ℕ → Type 0} (holds : List ℕ → Held) (ear
 last_swap holds earlier file text before also [] p f h = absurd p
 last_swap holds earlier file text before also (second ∷ x ∷ more) p f h = absurd (p.1)
 last_swap holds earlier file text before also (second ∷ []) p f h =
-    on_map text (λ m k. on_last before also second (f m) k) h
+    on_map text (λ m k. on_last before also second (f m second) k) h
 
 -- what the first call comes to the second comes to
 record Leads (holds : List ℕ → Held) (call like : Call) : Type 0 where
