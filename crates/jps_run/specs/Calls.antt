@@ -25,12 +25,10 @@ use Rattle.grid_answers.specs.RunLines.{IsRunText}
 use Rattle.scen_maker.specs.Lengths.{AreLengths}
 use Rattle.scen_maker.specs.Problems.{AreProblems}
 use Rattle.jps_run.specs.Answers.{AreAnswers, IsReplyLine}
-use Rattle.jps_run.specs.Counts.{RoseForCommands}
+use Rattle.jps_run.specs.Rising.{RoseForCommands, RoseForEntries, RoseForQuery}
 use Rattle.jps_run.specs.Drill.{AreDrilled, drill_line}
-use Rattle.jps_run.specs.Entries.{RoseForEntries}
 use Rattle.jps_run.specs.Parts.{MadeOf, OnLast, OnMap, One, Prints, Reads, Says}
 use Rattle.jps_run.specs.Pictures.{IsDrawing}
-use Rattle.jps_run.specs.Rising.{RoseForQuery}
 use Rattle.jps_run.specs.Rows.{AreRows, scen_lines, scen_status}
 use Rattle.jps_run.specs.Rulings.{AreRulings, judge_lines, judge_status}
 use Rattle.jps_run.specs.Session.{OnSession, who_on}

@@ -1,6 +1,5 @@
 pub mod Who
 pub mod Session
-pub mod Rising
 pub mod Answerers
 pub mod Lines
 pub mod Answers
@@ -8,16 +7,15 @@ pub mod Answering
 pub mod Drill
 pub mod Drilling
 pub mod Pictures
-pub mod Counts
 pub mod Hearing
 pub mod HeardCounts
 pub mod Heard
 pub mod Rows
+pub mod Rising
 pub mod Tally
 pub mod Judging
 pub mod Rulings
 pub mod Refereeing
-pub mod Entries
 pub mod Cases
 pub mod Works
 pub mod Querying

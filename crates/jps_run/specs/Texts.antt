@@ -1,5 +1,5 @@
 -- The texts that are printed whole.
-use Rattle.std.specs.Prelude.{ℕ, List, [], ◌∷◌, codes, map, ◌++◌}
+use Rattle.std.specs.Prelude.{ℕ, List, [], codes, map, ◌++◌}
 use Rattle.std.specs.List.{concat}
 use Rattle.word_list.specs.Request.{Named, rows}
 use Rattle.word_list.specs.declared.settings.Family.{Family}

@@ -29,5 +29,5 @@ pub(crate) fn costs<F: Files>(
 {
     let layers: Layers = open_one(alloc, files, map, settings)?;
     let lines = costs_at(alloc, &layers, x, y)?;
-    Ok(Work::Tell(lines))
+    Ok(Work::Costs(lines))
 }

@@ -5,7 +5,7 @@ ghost use Rattle.word_list.specs.Request as asked;
 ghost use Rattle.jps_run.specs.Calls.{call_with};
 ghost use Rattle.jps_run.specs.Opened.{OpensWork};
 
-use crate::replies::{Case, Counts, Referee, read_case};
+use crate::replies::{Case, Counts, Judge, read_case};
 use crate::work::Work;
 use io_edge::Files;
 use line_work::Stop;
@@ -30,10 +30,10 @@ pub(crate) fn judge<F: Files>(
         entries,
         walks,
     } = read_case(alloc, files, map, scen, walks, settings)?;
-    let job = Referee {
+    let job = Judge {
         costs,
         walks,
         counts: Counts::new(),
     };
-    Ok(Work::Referee { job, entries })
+    Ok(Work::Judge { job, entries })
 }

@@ -32,5 +32,5 @@ pub(crate) fn lengths<F: Files>(
         text,
         all: true,
     };
-    Ok(Work::List { job, entries })
+    Ok(Work::Lengths { job, entries })
 }

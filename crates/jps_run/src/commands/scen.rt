@@ -7,7 +7,7 @@ ghost use Rattle.word_list.specs.Settings as words;
 ghost use Rattle.jps_run.specs.Opened.{OpensWork};
 ghost use Rattle.jps_run.specs.Calls.{call_with};
 
-use crate::replies::{Answerer, Basis, Judge, Tally, open_basis_and};
+use crate::replies::{Answerer, Basis, Scen, Tally, open_basis_and};
 use crate::work::Work;
 use io_edge::Files;
 use line_work::Stop;
@@ -32,10 +32,10 @@ pub(crate) fn scen<F: Files>(
     let both: (Basis, Vec<Entry>) = open_basis_and(alloc, files, map, tables, settings, name, &())?;
     let (basis, entries) = both;
     let answerer = Answerer::new(alloc, basis)?;
-    let job = Judge {
+    let job = Scen {
         answerer,
         show: settings.show,
         tally: Tally::new(),
     };
-    Ok(Work::Judge { job, entries })
+    Ok(Work::Scen { job, entries })
 }

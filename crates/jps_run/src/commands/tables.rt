@@ -27,5 +27,5 @@ pub(crate) fn tables<F: Files>(
 {
     let layers: Layers = open_one(alloc, files, map, settings)?;
     let file = file_of(alloc, &layers)?;
-    Ok(Work::Encode(file))
+    Ok(Work::Tables(file))
 }

@@ -1,4 +1,4 @@
-use Rattle.std.proofs.Common.{refl, sym, subst, [], ◌∷◌}
+use Rattle.std.proofs.Common.{refl, sym, subst, []}
 use Rattle.word_list.specs.Request.{Help, Version, called}
 use Rattle.word_list.specs.declared.rows.Request.{Request}
 use Rattle.jps_run.specs.Opened.{IsWorkOn}

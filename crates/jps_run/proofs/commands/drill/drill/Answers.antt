@@ -3,7 +3,7 @@ use Rattle.map_text.specs.Map.{Map}
 use Rattle.map_maker.specs.Making.{made_map}
 use Rattle.script_text.specs.declared.command.Command.{Command}
 use Rattle.jps_run.specs.Calls.{HasSearched, IsAnswer}
-use Rattle.jps_run.specs.Counts.{RoseForCommands}
+use Rattle.jps_run.specs.Rising.{RoseForCommands}
 use Rattle.jps_run.specs.Drill.{AreFindings}
 use Rattle.jps_run.specs.Session.{IsSessionOn}
 use Rattle.jps_run.proofs.Drilling.{few-commands}

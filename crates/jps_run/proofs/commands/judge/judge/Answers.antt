@@ -1,4 +1,4 @@
-use Rattle.std.proofs.Common.{◌≤◌, refl, sym, subst, inl, [], ◌∷◌, ℕ, arith}
+use Rattle.std.proofs.Common.{◌≤◌, refl, sym, subst, inl, [], ◌∷◌, arith}
 use Rattle.grid_moves.specs.Layers.{Layers}
 use Rattle.jps_run.specs.Calls.{IsAnswer}
 use Rattle.jps_run.specs.Rulings.{AreRulings}

@@ -1,7 +1,7 @@
 use Rattle.std.proofs.Common.{refl, ap, ◌∙◌}
 use Rattle.grid_moves.specs.Grid.{GridData}
 use Rattle.jps_run.specs.Who.{by_boxes}
-use Rattle.jps_run.proofs.Querying.{told-line, told-rose}
+use Rattle.jps_run.proofs.Querying.{told-work}
 use Rattle.jps_run.proofs.Unfolding.{replied_unfolds}
 use Rattle.jps_run.proofs.commands.query_work.by_boxes.Goals as goal
 
@@ -11,21 +11,7 @@ line_of-requires-clause-unfolds c =
     c.in_ok-reply.ensures
 
 pub returns : goal.returns
-returns c = record {
-  can = tt;
-  right = λ lines status w. (
-    w.1,
-    record {
-      line = c.in_ok-text.text.items;
-      is = told-line (record { layers = c.args.layers.now; by = by_boxes }) c.args.show _ _
-          c.in_ok-reply.reply
-          c.width.result c.in_ok-text.text.items c.in_ok-reply.ensures
-          (c.width.ensures.is ∙ ap (λ (g : GridData). g.width) c.land.ensures) c.in_ok-text.ensures;
-      all = w.0;
-    },
-  );
-  counted = λ old new rose.
-      told-rose (record { layers = c.args.layers.now; by = by_boxes }) _ _ c.in_ok-reply.reply old new
-      c.in_ok-reply.ensures
-      refl refl rose;
-}
+returns c =
+    told-work (record { layers = c.args.layers.now; by = by_boxes }) c.args.show _ _ c.in_ok-reply.reply
+    c.width.result c.in_ok-text.text c.in_ok-reply.ensures refl refl
+    (c.width.ensures.is ∙ ap (λ (g : GridData). g.width) c.land.ensures) c.in_ok-text.ensures

@@ -1,7 +1,7 @@
 use Rattle.std.proofs.Common.{subst, List}
 use Rattle.script_text.specs.declared.command.Command.{Command}
 use Rattle.jps_run.specs.Answers.{AreAnswers}
-use Rattle.jps_run.specs.Counts.{RoseForCommands}
+use Rattle.jps_run.specs.Rising.{RoseForCommands}
 use Rattle.jps_run.proofs.Querying.{one-line, one-rose}
 use Rattle.jps_run.proofs.commands.query_work.by_session.Goals as goal
 

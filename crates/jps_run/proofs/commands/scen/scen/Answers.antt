@@ -1,7 +1,7 @@
-use Rattle.std.proofs.Common.{◌≡◌, ◌∙◌, ◌≤◌, refl, sym, subst, inr, [], ◌∷◌, ◌++◌}
+use Rattle.std.proofs.Common.{◌≡◌, ◌∙◌, ◌≤◌, sym, subst, inr, [], ◌∷◌, ◌++◌}
 use Rattle.jps_run.specs.Calls.{HasSearched, IsAnswer}
 use Rattle.jps_run.specs.Answerers.{who_of}
-use Rattle.jps_run.specs.Entries.{RoseForEntries}
+use Rattle.jps_run.specs.Rising.{RoseForEntries}
 use Rattle.jps_run.specs.Rows.{AreRows}
 use Rattle.jps_run.specs.Session.{who_on}
 use Rattle.jps_run.specs.Who.{Who}
