@@ -20,13 +20,13 @@ use Rattle.jps_run.specs.Drill.{IsShortFinding, is_walk, is_none, is_blocked, is
 use Rattle.jps_run.specs.Drill.{diagonal_in}
 use Rattle.jps_run.specs.Drilling.{HasDrilled, HasRoom, HaveCounted, IsDrilled, LeavesRoom, sums_of}
 use Rattle.jps_run.specs.Drilling.{sums_text}
-use Rattle.jps_run.specs.Counts.{RoseForCommand}
+use Rattle.jps_run.specs.Rising.{RoseForCommand}
 use Rattle.jps_run.specs.Session.{reply_to_edit, session_after}
 use Rattle.line_work.specs.Working.{Adds, CanComplete, HasRoomForOne}
-use Rattle.jps_run.specs.declared.replies.drill.Finding.{Finding}
-use Rattle.jps_run.specs.declared.replies.drill.Finding.TheVariants as finding
-use Rattle.jps_run.specs.declared.replies.drill.Summary.{Summary}
-use Rattle.jps_run.proofs.Counting.{rose-more}
+use Rattle.jps_run.specs.declared.replies.findings.Finding.{Finding}
+use Rattle.jps_run.specs.declared.replies.findings.Finding.TheVariants as finding
+use Rattle.jps_run.specs.declared.replies.findings.Summary.{Summary}
+use Rattle.jps_run.proofs.Rising.{rose-more}
 use Rattle.jps_run.proofs.SessionReply.{reply_exists}
 use Rattle.jps_run.proofs.Solving.{nothing_edited, session-more}
 use Rattle.line_work.proofs.Turns.{turns-more, turns-all}

@@ -1,30 +1,24 @@
 -- For every query there is a right reply, by whoever answers.
-use Rattle.std.proofs.Common.{◌≡◌, ℕ, Bool, true, false, inl, inr, refl, ◌&&◌, List, []}
-use Rattle.std.specs.Prelude.{Option, MatchOption, if◌then◌else◌}
+use Rattle.std.proofs.Common.{◌≡◌, Bool, true, false, inl, refl, ◌&&◌, []}
+use Rattle.std.specs.Prelude.{if◌then◌else◌}
 use Rattle.std.proofs.lemmas.Bool.{and_parts}
-use Rattle.std.specs.Prelude as option
 use Rattle.grid_moves.specs.declared.Cell.{Cell}
 use Rattle.grid_moves.specs.Grid.{GridData, is_free}
 use Rattle.grid_moves.specs.Layers.{Layers, in_one_layer, is_on_map, query_grid}
 use Rattle.grid_moves.specs.Reply.{are_free_ends}
-use Rattle.grid_moves.specs.Walk.{NoWalk}
-use Rattle.path_points.specs.declared.points.Walk as points
-use Rattle.path_points.specs.Least.{IsLeastOrNone}
 use Rattle.edit_replay.specs.Replies.{IsRightOn}
 use Rattle.edit_replay.specs.declared.reply.Reply.{Reply}
-use Rattle.edit_replay.specs.declared.reply.Reply.TheVariants.{Walk, None, Outside, Blocked}
+use Rattle.edit_replay.specs.declared.reply.Reply.TheVariants.{None, Outside, Blocked}
 use Rattle.jps_run.proofs.SessionReply.{reply_exists}
-use Rattle.goal_boxes.specs.Answer.{IsBoxedRunOn}
 use Rattle.goal_boxes.proofs.Answering as boxed
-use Rattle.first_moves.specs.Follow.{IsFollowed}
 use Rattle.first_moves.specs.Row.{AreMoves, MovesData}
-use Rattle.first_moves.proofs.Following.{stands}
 use Rattle.first_moves.proofs.Leading.{has_followed}
-use Rattle.jps_run.specs.Answerers.{CanAnswer, IsUnsearched, who_of}
+use Rattle.jps_run.specs.Answerers.{CanAnswer, IsUnsearched, reply_with, who_of}
 use Rattle.jps_run.specs.Who.{By, IsReplyBy, IsReplyOn, by_boxes, by_moves}
 use Rattle.jps_run.specs.declared.replies.answerer.Answerer.{Answerer}
 use Rattle.jps_run.specs.declared.replies.answerer.Answerer.TheVariants as answerer
-use Rattle.jps_run.proofs.Replying.{reply-on-map, unsearched-boxed, unsearched-led}
+use Rattle.jps_run.proofs.Replying.{followed_least, found_boxed, found_led, found_right, reply-on-map}
+use Rattle.jps_run.proofs.Replying.{unsearched-boxed, unsearched-led}
 
 -- a reply on one grid, between cells that are free on it
 record HasReplyOn (by : By) (g : GridData) (s t : Cell) : Type 0 where
@@ -33,32 +27,23 @@ record HasReplyOn (by : By) (g : GridData) (s t : Cell) : Type 0 where
   run : IsReplyOn by g s t reply
 
 module _ (g : GridData) (s t : Cell) (free : (is_free g s && is_free g t) ≡ true) where
-  boxed_told : (walk : Option points.Walk) (taken : List ℕ)
-      → IsBoxedRunOn g s t (record { walk = walk; taken = taken })
-      → IsLeastOrNone g s t walk → HasReplyOn by_boxes g s t
-  boxed_told (option.Some w) taken run least =
-      record { reply = Walk w.points w.cost taken; right = (free, least); run = run }
-  boxed_told option.None taken run least = record { reply = None taken; right = inr least; run = rw free run }
-
   boxed_reply : HasReplyOn by_boxes g s t
   boxed_reply =
-      let h = boxed.has_answer g s t (and_parts (is_free g s) (is_free g t) free).0 in
-      boxed_told h.answer.walk h.answer.taken h.run h.least
-
-  led_told : (walk : Option points.Walk)
-      → MatchOption walk (NoWalk g s t) (λ w. IsFollowed g s t w.points w.cost) → HasReplyOn by_moves g s t
-  led_told (option.Some w) f =
-      record {
-        reply = Walk w.points w.cost [];
-        right = (free, stands g s t w.points w.cost f);
-        run = (f, refl);
+      let ends = and_parts (is_free g s) (is_free g t) free in
+      let h = boxed.has_answer g s t ends.0 in record {
+        reply = reply_with h.answer.walk h.answer.taken;
+        right = found_right g s t h.answer.walk h.answer.taken ends.0 ends.1 h.least;
+        run = found_boxed g s t h.answer.walk h.answer.taken ends.0 ends.1 h.run;
       }
-  led_told option.None none = record { reply = None []; right = inr none; run = refl }
 
   led_reply : (m : MovesData) → AreMoves g m → HasReplyOn by_moves g s t
   led_reply m moves =
       let ends = and_parts (is_free g s) (is_free g t) free in
-      let h = has_followed g m moves t ends.1 s ends.0 in led_told h.answer h.is
+      let h = has_followed g m moves t ends.1 s ends.0 in record {
+        reply = reply_with h.answer [];
+        right = found_right g s t h.answer [] ends.0 ends.1 (followed_least g s t h.answer h.is);
+        run = found_led g s t h.answer h.is;
+      }
 
 -- a reply on the map, where there is one between free cells of one grid
 module _ (ls : Layers) (by : By) (s t : Cell)

@@ -18,7 +18,7 @@ use Rattle.jps_run.specs.HeardCounts.{IsRising, RiseEnd, RisePiece}
 use Rattle.line_work.specs.Working.{CountsMore}
 use Rattle.jps_run.specs.declared.replies.answers.Answers.{Answers}
 use Rattle.line_work.specs.declared.stop.Stop.{Stop}
-use Rattle.jps_run.proofs.Counting.{taken-none}
+use Rattle.jps_run.proofs.Rising.{taken-none}
 use Rattle.jps_run.proofs.Listening.{consumes-both, consumes-none, told-all}
 
 -- the commands that were appended to none are those that became known

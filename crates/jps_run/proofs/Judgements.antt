@@ -16,7 +16,7 @@ use Rattle.jps_run.specs.declared.replies.answerer.Answerer.{Answerer}
 use Rattle.jps_run.specs.declared.replies.row.Row.{Row}
 use Rattle.jps_run.specs.declared.replies.row.Row.TheVariants as row
 use Rattle.jps_run.specs.declared.replies.row.Tally.{Tally}
-use Rattle.jps_run.specs.declared.replies.scenario.Judge.{Judge}
+use Rattle.jps_run.specs.declared.replies.scenario.Scen.{Scen}
 use Rattle.jps_run.proofs.Existing.{answer_exists}
 use Rattle.line_work.proofs.Turns.{turns-more, turns-all}
 
@@ -27,7 +27,7 @@ abbrev stays : Unit {0} → Entry → Unit {0}
 stays s entry = s
 
 -- where nothing is counted yet there is room for a list's entries
-pub new-room : (job : Judge) (count : ℕ) → CanAnswer job.answerer → job.tally ≡ tally_of [] → count < 2 ^ 64
+pub new-room : (job : Scen) (count : ℕ) → CanAnswer job.answerer → job.tally ≡ tally_of [] → count < 2 ^ 64
     → HasRoom job count
 new-room job count ready e few = record {
   ready = ready;
@@ -49,7 +49,7 @@ row_lines-append show number (r ∷ some) others =
     (let e : number + 1 + length some ≡ number + suc (length some) = omega arith in e))
 
 -- one row more leaves room for one less
-pub room-more : {T E : Type 0} (result : Result T E) (job now : Judge) (r : Row)
+pub room-more : {T E : Type 0} (result : Result T E) (job now : Scen) (r : Row)
     (room : HasRoomForOne (HasRoom job))
     → ((rows : List Row) → job.tally ≡ tally_of rows → now.tally ≡ tally_of (rows ++ r ∷ []))
     → IsSmall now.tally → now.answerer ≡ job.answerer
@@ -70,12 +70,12 @@ room-more (Ok done) job now r room counts small same = λ n h.
     }
 
 -- one entry more has its row
-pub judged-more : {T E : Type 0} (result : Result T E) (job now : Judge) (entry : Entry) (r : Row)
+pub judged-more : {T E : Type 0} (result : Result T E) (job now : Scen) (entry : Entry) (r : Row)
     (before after : List ℕ) → IsRow (who_of job.answerer) entry r → now.answerer ≡ job.answerer
     → now.show ≡ job.show
     → ((rows : List Row) → job.tally ≡ tally_of rows → now.tally ≡ tally_of (rows ++ r ∷ []))
     → OnOk result (after ≡ before ++ row_line job.show now.tally.rows r)
-    → OnOk result ((first : Judge) (entries : List Entry) (lines : List (List ℕ))
+    → OnOk result ((first : Scen) (entries : List Entry) (lines : List (List ℕ))
     → HasJudged first job entries lines
     → Adds (HasJudged first now (entries ++ entry ∷ [])) lines before after)
 judged-more (Err error) job now entry r before after is same shown counts w = tt
@@ -104,10 +104,10 @@ judged-more (Ok done) job now entry r before after is same shown counts w = λ f
     }
 
 -- the sum closes the rows
-pub judged-all : (job : Judge) (status : ℕ) (before after : List ℕ)
+pub judged-all : (job : Scen) (status : ℕ) (before after : List ℕ)
     → after ≡ before ++ sum_text job.show job.tally
     → ((rows : List Row) → job.tally ≡ tally_of rows → status ≡ scen_status rows)
-    → (first : Judge) (entries : List Entry) (lines : List (List ℕ)) → HasJudged first job entries lines
+    → (first : Scen) (entries : List Entry) (lines : List (List ℕ)) → HasJudged first job entries lines
     → Adds (λ all. IsJudged first entries all status) lines before after
 judged-all job status before after w s first entries lines h = record {
   more = sum_line first.show h.rows ∷ [];
@@ -162,6 +162,6 @@ rows-complete first now some others lines h =
     }
 
 -- nothing is judged yet
-pub judged-none : (job : Judge) → CanAnswer job.answerer → job.tally ≡ tally_of [] → HasJudged job job [] []
+pub judged-none : (job : Scen) → CanAnswer job.answerer → job.tally ≡ tally_of [] → HasJudged job job [] []
 judged-none job ready e =
     record { rows = []; ready = ready; are = tt; all = refl; counted = e; same = refl; shown = refl }

@@ -1,13 +1,12 @@
 pub mod SessionReply
-pub mod Rising
 pub mod Replying
 pub mod Existing
 pub mod Loading
 pub mod Solving
+pub mod Rising
 pub mod Unfolding
 pub mod Drilling
 pub mod Pictured
-pub mod Counting
 pub mod Hearing
 pub mod Listening
 pub mod Incomings
@@ -15,10 +14,8 @@ pub mod HeardCounts
 pub mod Tallies
 pub mod Judgements
 pub mod Refereed
-pub mod RowCounts
 pub mod Querying
 pub mod Performing
 pub mod Opening
 pub mod Ended
 pub mod Serving
-pub mod Counts

@@ -1,55 +1,83 @@
 -- A call is opened as work whose output answers it.
-use Rattle.std.proofs.Common.{◌≡◌, sym, subst, List, [], ◌∷◌, ℕ, ◌≤◌, arith}
-use Rattle.script_text.specs.declared.command.Command.{Command}
+use Rattle.std.proofs.Common.{◌≡◌, ◌∙◌, refl, sym, ap, subst, inl, false, List, [], ◌∷◌, ◌++◌, ℕ, ◌≤◌, arith}
+use Rattle.std.specs.Prelude.{Ok}
+use Rattle.io_edge.specs.Told.{Held}
+use Rattle.map_text.specs.Faults.{map_of}
+use Rattle.map_text.specs.Map.{Map}
 use Rattle.word_list.specs.Request.{Call}
-use Rattle.jps_run.specs.Answering.{IsSolved}
-use Rattle.jps_run.specs.Answers.{AreAnswers}
-use Rattle.jps_run.specs.Outcome.{IsAnswered, drilled}
+use Rattle.call_files.specs.Files.{AreAccepted}
 use Rattle.line_work.specs.Sending.{IsText}
-use Rattle.map_maker.specs.Drill.{drill_commands}
-use Rattle.map_maker.specs.Making.{made_map}
-use Rattle.word_list.specs.Request as asked
-use Rattle.word_list.specs.declared.request.Settings.{Settings}
-use Rattle.jps_run.specs.Calls.{call_with}
-use Rattle.jps_run.specs.Drill.{AreFindings}
-use Rattle.jps_run.specs.Drilling.{IsDrilled}
-use Rattle.jps_run.specs.Session.{IsSessionOn}
-use Rattle.jps_run.specs.declared.replies.drill.Summary.{Summary}
-use Rattle.jps_run.specs.declared.replies.answers.Answers.{Answers}
+use Rattle.jps_run.specs.Calls.{IsAnswered, files_of, searches}
+use Rattle.jps_run.specs.Opened.{IsWorkOf, IsWorkOn}
+use Rattle.jps_run.specs.Parts.{OnLast, OnMap, Prints, Says}
+use Rattle.jps_run.specs.declared.work.Work.{Work}
+use Rattle.jps_run.specs.Works.{CanPerform, IsWhole}
 
--- a right text is a right output
-pub text-right : (call : Call) (texts : List (List ℕ)) (text : List ℕ) (status : ℕ)
-    → IsAnswered call texts (text ∷ []) status → status ≤ 1 → (lines : List (List ℕ)) (is : ℕ)
-    → IsText text status lines is → (is ≤ 1) × IsAnswered call texts lines is
-text-right call texts text status a small lines is t = (
-  subst (λ n. n ≤ 1) (sym t.1) small,
-  subst (λ (n : ℕ). IsAnswered call texts lines n) (sym t.1)
-      (subst (λ (l : List (List ℕ)). IsAnswered call texts l status) (sym t.0) a),
-)
+-- what is printed of a map is right, where the text is
+module _ {Known : Map → List ℕ → ℕ → Type 0} (text : List ℕ) (m : Map) (read : map_of text ≡ Ok m) where
+  pub prints : (printed : List ℕ) (code : ℕ) → Known m printed code → (lines : List (List ℕ)) (status : ℕ)
+      → IsText printed code lines status → Prints (text ∷ []) lines status Known
+  prints printed code known lines status is = record {
+    text = text;
+    map = m;
+    is = refl;
+    read = read;
+    printed = printed;
+    all = is.0;
+    known = subst (λ (n : ℕ). Known m printed n) (sym is.1) known;
+  }
 
--- and so are the lines that answer commands
-pub solved-right : (call : Call) (texts : List (List ℕ)) (job : Answers) (commands : List Command)
-    → ((lines : List (List ℕ)) → AreAnswers job.session job.show commands lines
-    → IsAnswered call texts lines 0)
-    → (lines : List (List ℕ)) (status : ℕ) → IsSolved job commands lines status
-    → (status ≤ 1) × IsAnswered call texts lines status
-solved-right call texts job commands right lines status s = (
-  (let good : status ≡ 0 = s.good in omega arith),
-  subst (λ (n : ℕ). IsAnswered call texts lines n) (sym s.good) (right lines s.answers),
-)
+  -- so it is work of a call that searches nothing
+  pub prints-on : (call : Call) (holds : List ℕ → Held) → AreAccepted holds [] (files_of call) (text ∷ [])
+      → searches call.request ≡ false → (job : Work) (printed : List ℕ) (code : ℕ)
+      → CanPerform job → ((lines : List (List ℕ)) (status : ℕ) → IsWhole job lines status
+      → IsText printed code lines status)
+      → ((lines : List (List ℕ)) (status : ℕ) → Prints (text ∷ []) lines status Known
+      → IsAnswered call (text ∷ []) lines status)
+      → Known m printed code → code ≤ 1 → IsWorkOn call holds job
+  prints-on call holds accepted none job printed code can whole answers known small = record {
+    texts = text ∷ [];
+    accepted = accepted;
+    is = record {
+      can = can;
+      right = λ lines status w.
+          let is = whole lines status w in (
+            subst (λ (n : ℕ). n ≤ 1) (sym is.1) small,
+            answers lines status (prints printed code known lines status is),
+          );
+      counted = λ old new rose. inl none;
+    };
+  }
 
--- the line of a drill is a right output of its call
-pub drill-right : (set : Settings) (seed : ℕ) (job : Summary) (commands : List Command)
-    → IsSessionOn set (made_map seed 256 256 25) job.session → commands ≡ drill_commands seed
-    → (lines : List (List ℕ)) (status : ℕ) → IsDrilled job commands lines status
-    → (status ≤ 1) × IsAnswered (call_with (asked.Drill seed) set) [] lines status
-drill-right set seed job commands begun e lines status h = (
-  (let good : status ≡ 0 = h.good in omega arith),
-  subst (λ (n : ℕ). IsAnswered (call_with (asked.Drill seed) set) [] lines n) (sym h.good)
-      (subst (λ (l : List (List ℕ)). IsAnswered (call_with (asked.Drill seed) set) [] l 0) (sym h.all)
-      (drilled seed set h.found (record {
-        session = job.session;
-        is = begun;
-        known = subst (λ (some : List Command). AreFindings job.session some h.found) e h.are;
-      }))),
-)
+-- a text of the program's own is work of a call that reads nothing
+pub says-of : (call : Call) (job : Work) (text printed : List ℕ) → printed ≡ text
+    → searches call.request ≡ false → CanPerform job
+    → ((lines : List (List ℕ)) (status : ℕ) → IsWhole job lines status → IsText printed 0 lines status)
+    → ((lines : List (List ℕ)) (status : ℕ) → Says text [] lines status → IsAnswered call [] lines status)
+    → IsWorkOf call [] job
+says-of call job text printed e none can whole answers = record {
+  can = can;
+  right = λ lines status w.
+      let is = whole lines status w in (
+        (let good : status ≡ 0 = is.1 in omega arith),
+        answers lines status (record {
+          none = refl;
+          all = is.0 ∙ ap (λ (t : List ℕ). t ∷ []) e;
+          good = is.1;
+        }),
+      );
+  counted = λ old new rose. inl none;
+}
+
+-- what is known of the last text, behind that of a map and the one of a table file
+pub on-last : {Known : Map → List ℕ → Type 0} (text : List ℕ) (m : Map) → map_of text ≡ Ok m
+    → (loaded : List (List ℕ)) (more : List ℕ) → Known m more
+    → OnMap (text ∷ (loaded ++ more ∷ [])) (λ m behind. OnLast behind (Known m))
+on-last text m read loaded more known = record {
+  text = text;
+  behind = loaded ++ more ∷ [];
+  map = m;
+  is = refl;
+  read = read;
+  known = record { before = loaded; last = more; is = refl; known = known };
+}

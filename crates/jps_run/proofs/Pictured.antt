@@ -16,7 +16,7 @@ use Rattle.line_work.specs.Sending.{AreLines}
 use Rattle.jps_run.specs.Rising.{RoseForQuery}
 use Rattle.jps_run.specs.Session.{IsReply}
 use Rattle.jps_run.specs.Who.{who_is}
-use Rattle.jps_run.specs.declared.replies.draw.Canvas.{Canvas}
+use Rattle.jps_run.specs.declared.replies.drawing.Canvas.{Canvas}
 use Rattle.jps_run.proofs.SessionReply.{reply_exists}
 use Rattle.line_work.proofs.Pieces.{nothing}
 

@@ -1,5 +1,6 @@
 -- The work on one query.
-use Rattle.std.proofs.Common.{◌≡◌, ◌≤◌, ◌*◌, ◌∙◌, ℕ, refl, sym, ap, subst, List, [], ◌∷◌, arith}
+use Rattle.std.proofs.Common.{◌≡◌, ◌*◌, ◌∙◌, ℕ, refl, sym, ap, subst, List, [], ◌∷◌, arith}
+use Rattle.std.specs.Global.{Vec}
 use Rattle.std.specs.Prelude.{None}
 use Rattle.grid_moves.specs.declared.Cell.{Cell}
 use Rattle.edit_replay.specs.Counting.{states_away}
@@ -8,10 +9,10 @@ use Rattle.edit_replay.specs.declared.reply.Reply.{Reply}
 use Rattle.script_text.specs.declared.command.Command.TheVariants.{Query}
 use Rattle.word_list.specs.declared.request.Show.{Show}
 use Rattle.jps_run.specs.Answers.{AreAnswers, IsReplyLine}
-use Rattle.jps_run.specs.Rising.{RoseForQuery}
-use Rattle.jps_run.specs.Counts.{RoseForCommands}
+use Rattle.jps_run.specs.Rising.{RoseForQuery, RoseForCommands}
 use Rattle.jps_run.specs.Lines.{reply_line}
-use Rattle.jps_run.specs.Querying.{IsOneReply}
+use Rattle.jps_run.specs.Querying.{IsOneReply, IsQueryWork}
+use Rattle.jps_run.specs.declared.work.Work.TheVariants as work
 use Rattle.jps_run.specs.Who.{Who, IsReplyBy, fewest_by, most_by, who_is}
 use Rattle.jps_run.proofs.Solving.{nothing_edited}
 
@@ -41,22 +42,29 @@ module _ (d : SessionData) (show : Show) (sx sy gx gy : ℕ) where
       subst (λ (k : SessionData). RoseForQuery (who_is k) start goal old r.0) (sym (nothing_edited d)) r.1 in
       subst (λ (n : ℕ). RoseForQuery (who_is d) start goal old n) (sym r.2) rose
 
--- one reply of which no most is told, and that counts nothing here
-pub told-rose : (who : Who) (s t : Cell) (reply : Reply) (old new : ℕ) → IsReplyBy who s t reply
-    → fewest_by who.by ≡ 0 → most_by who.by ≡ None → old ≤ new → RoseForQuery who s t old new
-told-rose who s t reply old new is none untold later = record {
-  reply = reply;
-  is_reply = is;
-  fewest = rw none (let least : states_away reply * 0 ≡ 0 = omega arith in omega arith);
-  most = rw untold tt;
-}
-
--- the line of one reply
-pub told-line : (who : Who) (show : Show) (s t : Cell) (reply : Reply) (width : ℕ) (text : List ℕ)
-    → IsReplyBy who s t reply → width ≡ who.layers.land.width → text ≡ reply_line width show reply
-    → IsReplyLine who show s t text
-told-line who show s t reply width text is wide e = record {
-  reply = reply;
-  is_reply = is;
-  shown = e ∙ ap (λ (w : ℕ). reply_line w show reply) wide;
+-- the line of one reply that was made at once, where no most is told and nothing is counted
+pub told-work : (who : Who) (show : Show) (s t : Cell) (reply : Reply) (width : ℕ) (text : Vec ℕ)
+    → IsReplyBy who s t reply → fewest_by who.by ≡ 0 → most_by who.by ≡ None
+    → width ≡ who.layers.land.width → text.items ≡ reply_line width show reply
+    → IsQueryWork who show s t (work.Print text 0)
+told-work who show s t reply width text is none untold wide e = record {
+  can = tt;
+  right = λ lines status w. (
+    w.1,
+    record {
+      line = text.items;
+      is = record {
+        reply = reply;
+        is_reply = is;
+        shown = e ∙ ap (λ (w : ℕ). reply_line w show reply) wide;
+      };
+      all = w.0;
+    },
+  );
+  counted = λ old new later. record {
+    reply = reply;
+    is_reply = is;
+    fewest = rw none (let least : states_away reply * 0 ≡ 0 = omega arith in omega arith);
+    most = rw untold tt;
+  };
 }

@@ -24,7 +24,7 @@ use Rattle.jps_run.specs.Rulings.{IsRuling, with_told, scale, outside, blocked, 
 use Rattle.jps_run.specs.Rulings.{is_refused, judge_status, ruling_line, ruling_lines, rulings_line}
 use Rattle.line_work.specs.Turns.{AreInTurn}
 use Rattle.line_work.specs.Working.{Adds, CanComplete, HasRoomForOne}
-use Rattle.jps_run.specs.declared.replies.referee.Referee.{Referee}
+use Rattle.jps_run.specs.declared.replies.judge.Judge.{Judge}
 use Rattle.jps_run.specs.declared.replies.ruling.Counts.{Counts}
 use Rattle.jps_run.specs.declared.replies.ruling.Ruling.{Ruling}
 use Rattle.jps_run.specs.declared.replies.ruling.Ruling.TheVariants as ruling
@@ -100,7 +100,7 @@ ruling_lines-append number (r ∷ some) others =
     (let e : number + 1 + length some ≡ number + suc (length some) = omega arith in e))
 
 -- one row more leaves room for one less
-pub goes-on : {T E : Type 0} (result : Result T E) (job now : Referee) (r : Ruling)
+pub goes-on : {T E : Type 0} (result : Result T E) (job now : Judge) (r : Ruling)
     (room : HasRoomForOne (CanGoOn job)) → now.walks ≡ job.walks
     → ((rulings : List Ruling) → job.counts ≡ counts_of rulings → now.counts ≡ counts_of (rulings ++ r ∷ []))
     → OnOk result ((n : ℕ) → CanGoOn job (n + 1) → CanGoOn now n)
@@ -123,13 +123,13 @@ goes-on (Ok done) job now r room walks counts = λ n h.
     }
 
 -- one entry more has its row
-pub refereed-more : {T E : Type 0} (result : Result T E) (job now : Referee) (entry : Entry) (told : Told)
+pub refereed-more : {T E : Type 0} (result : Result T E) (job now : Judge) (entry : Entry) (told : Told)
     (r : Ruling)
     (before after : List ℕ) → IsRuling job.costs entry told r
     → slice_get job.walks.items job.counts.rows ≡ Some told → now.costs ≡ job.costs → now.walks ≡ job.walks
     → ((rulings : List Ruling) → job.counts ≡ counts_of rulings → now.counts ≡ counts_of (rulings ++ r ∷ []))
     → OnOk result (after ≡ before ++ ruling_line now.counts.rows r)
-    → OnOk result ((first : Referee) (entries : List Entry) (lines : List (List ℕ))
+    → OnOk result ((first : Judge) (entries : List Entry) (lines : List (List ℕ))
     → HasRefereed first job entries lines
     → Adds (HasRefereed first now (entries ++ entry ∷ [])) lines before after)
 refereed-more (Err error) job now entry told r before after is found costs walks counts w = tt
@@ -165,10 +165,10 @@ refereed-more (Ok done) job now entry told r before after is found costs walks c
     }
 
 -- the sum closes the rows
-pub refereed-all : (job : Referee) (status : ℕ) (before after : List ℕ)
+pub refereed-all : (job : Judge) (status : ℕ) (before after : List ℕ)
     → after ≡ before ++ sum_text job.counts
     → ((rulings : List Ruling) → job.counts ≡ counts_of rulings → status ≡ judge_status rulings)
-    → (first : Referee) (entries : List Entry) (lines : List (List ℕ)) → HasRefereed first job entries lines
+    → (first : Judge) (entries : List Entry) (lines : List (List ℕ)) → HasRefereed first job entries lines
     → Adds (λ all. IsRefereed first entries all status) lines before after
 refereed-all job status before after w s first entries lines h = record {
   more = rulings_line h.rulings ∷ [];
@@ -223,7 +223,7 @@ rulings-complete first now some others lines h =
     }
 
 -- nothing is judged yet
-pub refereed-none : (job : Referee) → job.counts ≡ counts_of [] → HasRefereed job job [] []
+pub refereed-none : (job : Judge) → job.counts ≡ counts_of [] → HasRefereed job job [] []
 refereed-none job e = record {
   rulings = [];
   are = tt;
@@ -235,7 +235,7 @@ refereed-none job e = record {
 }
 
 -- and all walks are left
-pub all-left : (job : Referee) (count : ℕ) → IsReady job count → count < 2 ^ 64 → CanGoOn job count
+pub all-left : (job : Judge) (count : ℕ) → IsReady job count → count < 2 ^ 64 → CanGoOn job count
 all-left job count ready few =
     let rows : job.counts.rows ≡ 0 = ap (λ (c : Counts). c.rows) ready.none in
     record {

@@ -1,22 +1,28 @@
 -- Replies on one grid are replies on the map.
 use Rattle.std.proofs.Common.{◌≡◌, ◌<◌, ◌≤◌, ◌+◌, ◌*◌, ◌^◌, Bool, true, false, refl, sym, subst, ◌∙◌, ◌∷◌}
-use Rattle.std.proofs.Common.{arith, length}
-use Rattle.std.specs.Prelude.{Result, Ok, Err, IfOk, if◌then◌else◌}
+use Rattle.std.proofs.Common.{arith, length, inr, List, [], ℕ}
+use Rattle.std.specs.Prelude.{Result, Ok, Err, IfOk, MatchOption, Option, if◌then◌else◌}
+use Rattle.std.specs.Prelude as option
 use Rattle.std.proofs.lemmas.Bool.{and_parts}
 use Rattle.root2_cost.specs.declared.Cost.{Cost}
 use Rattle.grid_moves.specs.declared.Cell.{Cell}
 use Rattle.grid_moves.specs.Grid.{GridData, is_free}
 use Rattle.grid_moves.specs.Layers.{Layers, in_one_layer, query_grid}
 use Rattle.grid_moves.specs.Reply.{IsRight, are_free_ends}
-use Rattle.grid_moves.specs.Walk.{cost_of}
+use Rattle.grid_moves.specs.Walk.{NoWalk, cost_of}
+use Rattle.path_points.specs.declared.points.Walk as points
+use Rattle.path_points.specs.Least.{IsLeastOrNone}
 use Rattle.edit_replay.specs.Replies.{IsRightOn, IsShort, answer_of}
 use Rattle.edit_replay.specs.declared.reply.Reply.{Reply}
 use Rattle.edit_replay.specs.declared.reply.Reply.TheVariants.{Walk, None, Outside, Blocked}
 use Rattle.edit_replay.proofs.Answering.{result_on_grid}
 use Rattle.grid_moves.proofs.Short.{least_steps, steps-cost_of}
-use Rattle.jps_run.specs.Answerers.{IsUnsearched}
+use Rattle.goal_boxes.specs.Answer.{IsBoxedRunOn}
+use Rattle.first_moves.specs.Follow.{IsFollowed}
+use Rattle.first_moves.proofs.Following.{stands}
+use Rattle.jps_run.specs.Answerers.{IsUnsearched, reply_with}
 use Rattle.call_files.specs.Reading.{AreSmall}
-use Rattle.jps_run.specs.Who.{By, IsReplyBy, IsReplyOn, by_boxes, by_moves}
+use Rattle.jps_run.specs.Who.{By, IsBoxedReply, IsLedReply, IsReplyBy, IsReplyOn, by_boxes, by_moves}
 
 -- a reply on the grid of the query is one on the map
 pub reply-on-map : (ls : Layers) (by : By) (s t : Cell) (reply : Reply) → are_free_ends ls s t ≡ true
@@ -69,6 +75,29 @@ unsearched-led ls s t (Walk points cost taken) u = absurd u.none
 unsearched-led ls s t (None taken) u = record { right = u.right; run = u.none.1 }
 unsearched-led ls s t Outside u = record { right = u.right; run = tt }
 unsearched-led ls s t Blocked u = record { right = u.right; run = tt }
+
+-- the reply of what was found between free cells is right where that is, and come to in the same way
+module _ (g : GridData) (s t : Cell) where
+  pub found_right : (walk : Option points.Walk) (taken : List ℕ) → is_free g s ≡ true → is_free g t ≡ true
+      → IsLeastOrNone g s t walk → IsRightOn g s t (reply_with walk taken)
+  found_right (option.Some w) taken from to least = (rw (from, to) refl, least)
+  found_right option.None taken from to none = inr none
+
+  pub found_boxed : (walk : Option points.Walk) (taken : List ℕ) → is_free g s ≡ true → is_free g t ≡ true
+      → IsBoxedRunOn g s t (record { walk = walk; taken = taken }) → IsBoxedReply g s t (reply_with walk taken)
+  found_boxed (option.Some w) taken from to run = run
+  found_boxed option.None taken from to run = rw (from, to) run
+
+  pub found_led : (walk : Option points.Walk)
+      → MatchOption walk (NoWalk g s t) (λ w. IsFollowed g s t w.points w.cost)
+      → IsLedReply g s t (reply_with walk [])
+  found_led (option.Some w) is = (is, refl)
+  found_led option.None none = refl
+
+  pub followed_least : (walk : Option points.Walk)
+      → MatchOption walk (NoWalk g s t) (λ w. IsFollowed g s t w.points w.cost) → IsLeastOrNone g s t walk
+  followed_least (option.Some w) is = stands g s t w.points w.cost is
+  followed_least option.None none = none
 
 -- the grid of a query on a small map is small
 pub few-on : (ls : Layers) (s : Cell) → AreSmall ls → (query_grid ls s).height * (query_grid ls s).width

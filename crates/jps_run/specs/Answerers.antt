@@ -1,9 +1,10 @@
 -- How those who answer are kept.
-use Rattle.std.specs.Prelude.{◌≡◌, true, false, ⊤, []}
+use Rattle.std.specs.Prelude.{◌≡◌, true, false, ⊤, ℕ, List, [], Option, Some, None}
 use Rattle.grid_moves.specs.declared.Cell.{Cell}
 use Rattle.grid_moves.specs.Layers.{Layers, in_one_layer}
 use Rattle.grid_moves.specs.Reply.{IsRight, are_free_ends}
 use Rattle.map_text.specs.Map.{Map}
+use Rattle.path_points.specs.declared.points.Walk.{Walk}
 use Rattle.edit_replay.specs.Replies.{answer_of}
 use Rattle.edit_replay.specs.declared.reply.Reply.{Reply}
 use Rattle.edit_replay.specs.declared.reply.Reply.TheVariants as reply
@@ -71,3 +72,8 @@ TakesNothing ls s t reply.Blocked = ⊤
 pub record IsUnsearched (ls : Layers) (s t : Cell) (told : Reply) : Type 0 where
   pub right : IsRight ls s t (answer_of told)
   pub none : TakesNothing ls s t told
+
+-- the reply of what was found between free cells
+abbrev pub reply_with : Option Walk → List ℕ → Reply
+reply_with (Some walk) taken = reply.Walk walk.points walk.cost taken
+reply_with None taken = reply.None taken

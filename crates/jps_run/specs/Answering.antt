@@ -7,7 +7,7 @@ use Rattle.edit_replay.specs.Session.{SessionData}
 use Rattle.script_text.specs.declared.command.Command.{Command}
 use Rattle.word_list.specs.declared.request.Show.{Show}
 use Rattle.jps_run.specs.Answers.{IsAnswerLine, AreAnswers, edits_with}
-use Rattle.jps_run.specs.Counts.{RoseForCommands}
+use Rattle.jps_run.specs.Rising.{RoseForCommands}
 use Rattle.jps_run.specs.Session.{session_after}
 use Rattle.jps_run.specs.declared.replies.answers.Answers.{Answers}
 

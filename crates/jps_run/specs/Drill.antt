@@ -18,8 +18,8 @@ use Rattle.word_list.specs.declared.request.Settings.{Settings}
 use Rattle.jps_run.specs.Answers.{edits_with}
 use Rattle.jps_run.specs.Session.{IsReply, OnSession, reply_to_edit, session_after}
 use Rattle.line_work.specs.Turns.{AreInTurn}
-use Rattle.jps_run.specs.declared.replies.drill.Finding.{Finding}
-use Rattle.jps_run.specs.declared.replies.drill.Finding.TheVariants as finding
+use Rattle.jps_run.specs.declared.replies.findings.Finding.{Finding}
+use Rattle.jps_run.specs.declared.replies.findings.Finding.TheVariants as finding
 
 -- what the reply to a query comes to
 abbrev pub finding_of : Reply → Finding

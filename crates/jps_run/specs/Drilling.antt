@@ -3,13 +3,13 @@ use Rattle.std.specs.Prelude.{◌≡◌, ℕ, ◌+◌, ◌<◌, ◌≤◌, ◌^�
 use Rattle.std.specs.List.{All, fold, sum_by}
 use Rattle.script_text.specs.declared.command.Command.{Command}
 use Rattle.jps_run.specs.Answers.{edits_with}
-use Rattle.jps_run.specs.Counts.{RoseForCommands}
+use Rattle.jps_run.specs.Rising.{RoseForCommands}
 use Rattle.jps_run.specs.Drill.{AreFindings, IsShortFinding, drill_line, queries_text, edits_text, costs_text}
 use Rattle.jps_run.specs.Drill.{is_walk, is_none, is_blocked, is_done, is_same, straight_in, diagonal_in}
 use Rattle.jps_run.specs.Session.{session_after}
-use Rattle.jps_run.specs.declared.replies.drill.Summary.{Summary}
-use Rattle.jps_run.specs.declared.replies.drill.Finding.{Finding}
-use Rattle.jps_run.specs.declared.replies.drill.Sums.{Sums}
+use Rattle.jps_run.specs.declared.replies.findings.Summary.{Summary}
+use Rattle.jps_run.specs.declared.replies.findings.Finding.{Finding}
+use Rattle.jps_run.specs.declared.replies.findings.Sums.{Sums}
 
 -- the counts of findings and the sums of their costs
 abbrev pub sums_of : List Finding → Sums

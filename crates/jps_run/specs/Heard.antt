@@ -15,7 +15,7 @@ use Rattle.call_files.specs.Kinds.{limit_of}
 use Rattle.call_files.specs.declared.kind.Kind.TheVariants as kind
 use Rattle.line_work.specs.Sending.{Wrote}
 use Rattle.jps_run.specs.Answers.{AreAnswers}
-use Rattle.jps_run.specs.Counts.{RoseForCommands}
+use Rattle.jps_run.specs.Rising.{RoseForCommands}
 
 -- what is left to come in is this text, where it is told
 abbrev pub IsTold : Option (List ℕ) → List ℕ → Type 0

@@ -3,11 +3,9 @@
 use Rattle.std.specs.Prelude.{◌≡◌, ℕ, ◌≤◌, ◌⊎◌, true, false, List, [], Result}
 use Rattle.io_edge.specs.Told.{Disk, Held}
 use Rattle.word_list.specs.Request.{Call}
-use Rattle.jps_run.specs.Counting.{RoseFor, searches}
 use Rattle.call_files.specs.Files.{AreAccepted}
 use Rattle.jps_run.specs.Live.{OnLive}
-use Rattle.jps_run.specs.Calls.{files_of, reads_input}
-use Rattle.jps_run.specs.Outcome.{IsAnswered}
+use Rattle.jps_run.specs.Calls.{IsAnswered, RoseFor, files_of, reads_input, searches}
 use Rattle.call_files.specs.Reading.{open_stops}
 use Rattle.line_work.specs.Stops.{Ends}
 use Rattle.jps_run.specs.declared.replies.answers.Answers.{Answers}

@@ -11,7 +11,7 @@ use Rattle.word_list.specs.declared.request.Settings.{Settings}
 use Rattle.word_list.specs.declared.request.Show.{Show}
 use Rattle.word_list.specs.declared.request.Show.TheVariants.{Points, Cells, Trace, Taken}
 use Rattle.jps_run.specs.Session.{IsReply, IsSessionOn}
-use Rattle.jps_run.specs.declared.replies.draw.Canvas.{Canvas}
+use Rattle.jps_run.specs.declared.replies.drawing.Canvas.{Canvas}
 
 -- the states that a search took, where a picture shows them
 abbrev pub drawn_states : Show → List ℕ → Option (List ℕ)

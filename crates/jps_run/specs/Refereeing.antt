@@ -4,7 +4,7 @@ use Rattle.scen_text.specs.declared.entry.Entry.{Entry}
 use Rattle.call_files.specs.Reading.{AreFit}
 use Rattle.jps_run.specs.Rulings.{AreRulings, is_accepted, is_refused, is_unjudged, judge_lines, judge_status}
 use Rattle.jps_run.specs.Rulings.{ruling_lines}
-use Rattle.jps_run.specs.declared.replies.referee.Referee.{Referee}
+use Rattle.jps_run.specs.declared.replies.judge.Judge.{Judge}
 use Rattle.jps_run.specs.declared.replies.ruling.Counts.{Counts}
 use Rattle.jps_run.specs.declared.replies.ruling.Ruling.{Ruling}
 
@@ -32,7 +32,7 @@ sum_text counts =
     ++ codes "\n"
 
 -- the entries have their rows with these lines, and the rows are counted
-pub record HasRefereed (first now : Referee) (entries : List Entry) (lines : List (List ℕ)) : Type 0 where
+pub record HasRefereed (first now : Judge) (entries : List Entry) (lines : List (List ℕ)) : Type 0 where
   pub rulings : List Ruling
   pub are : AreRulings first.costs entries first.walks.items rulings
   pub all : lines ≡ ruling_lines 1 rulings
@@ -42,20 +42,20 @@ pub record HasRefereed (first now : Referee) (entries : List Entry) (lines : Lis
   pub told : now.walks ≡ first.walks
 
 -- nothing is judged yet, and there are walks for so many entries
-pub record IsReady (job : Referee) (entries : ℕ) : Type 0 where
+pub record IsReady (job : Judge) (entries : ℕ) : Type 0 where
   pub fit : AreFit job.walks.items
   pub none : job.counts ≡ counts_of []
   pub enough : entries ≤ length job.walks.items
 
 -- the walks can be judged, the rows are counted, and walks and room are left for so many more
-pub record CanGoOn (job : Referee) (more : ℕ) : Type 0 where
+pub record CanGoOn (job : Judge) (more : ℕ) : Type 0 where
   pub fit : AreFit job.walks.items
   pub counts : IsCounts job.counts
   pub left : job.counts.rows + more ≤ length job.walks.items
   pub few : job.counts.rows + more < 2 ^ 64
 
 -- the lines are a row for each entry and the sum, and the status is that of the rows
-pub record IsRefereed (first : Referee) (entries : List Entry) (lines : List (List ℕ))
+pub record IsRefereed (first : Judge) (entries : List Entry) (lines : List (List ℕ))
     (status : ℕ) : Type 0 where
   pub rulings : List Ruling
   pub are : AreRulings first.costs entries first.walks.items rulings

@@ -1,47 +1,36 @@
 -- The texts that are printed whole.
-use Rattle.std.specs.Prelude.{ℕ, List, codes, ◌++◌}
+use Rattle.std.specs.Prelude.{ℕ, List, [], codes, map, ◌++◌}
+use Rattle.std.specs.List.{concat}
+use Rattle.word_list.specs.Request.{Named, rows}
+use Rattle.word_list.specs.declared.settings.Family.{Family}
+use Rattle.word_list.specs.declared.settings.Family.TheVariants.{Engine, SmallMap, Show, Drawing, Counts}
+use Rattle.word_list.specs.declared.settings.Family.TheVariants.{Rule, TableFile}
+
+-- how help tells of the settings of a family
+abbrev setting_text : Family → List ℕ
+setting_text Engine = codes " [engine=ENGINE]"
+setting_text SmallMap = []
+setting_text TableFile = codes " [tables=FILE]"
+setting_text Show = codes " [show=points|cells|trace]"
+setting_text Drawing = codes " [show=points|trace]"
+setting_text Counts = codes " [show=taken]"
+setting_text Rule = codes " [rule=none|one|both]"
+
+-- a blank before a text, where there is one
+abbrev blank_before : List ℕ → List ℕ
+blank_before [] = []
+blank_before text = codes " " ++ text
+
+-- the lines of help on a command, by its row
+abbrev command_text : Named → List ℕ
+command_text one =
+    codes "  jps " ++ one.name ++ blank_before one.words ++ concat (map setting_text one.row.allows)
+    ++ codes "\n" ++ concat (map (λ line. codes "      " ++ line ++ codes "\n") one.says)
 
 -- what `--help` prints
 unfoldable pub help_text : List ℕ
 help_text =
-    codes "usage: jps COMMAND ...\n"
-    ++ codes "  jps query MAP SX SY GX GY [engine=ENGINE] [tables=FILE] [show=points|cells|trace] [rule=none|one|both]\n"
-    ++ codes "      a least walk from the cell (SX,SY) to the cell (GX,GY) on the map\n"
-    ++ codes "  jps solve MAP SCRIPT [engine=ENGINE] [tables=FILE] [show=points|cells|trace] [rule=none|one|both]\n"
-    ++ codes "      one line for each command of the script: edits of the map, and queries\n"
-    ++ codes "  jps live MAP [engine=ENGINE] [tables=FILE] [show=points|cells|trace] [rule=none|one|both]\n"
-    ++ codes "      the same for a script on standard input, each command answered as it comes\n"
-    ++ codes "  jps scen MAP SCEN [engine=ENGINE] [tables=FILE] [show=taken] [rule=none|one|both]\n"
-    ++ codes "      a row for each entry of the scenario, its length judged by the least cost, and their sum; with show=taken\n"
-    ++ codes "      also how many states each search took\n"
-    ++ codes "  jps judge MAP SCEN WALKS [rule=none|one|both]\n"
-    ++ codes "      a row for each entry: the walk that another program tells of it accepted, or why not, and their sum\n"
-    ++ codes "  jps lengths MAP SCEN [rule=none|one|both]\n"
-    ++ codes "      the scenario again, with the least length of each entry that has a walk\n"
-    ++ codes "  jps problems MAP SEED N [rule=none|one|both]\n"
-    ++ codes "      a scenario of N entries between free cells of the map that a walk joins, made from the number SEED\n"
-    ++ codes "  jps prove MAP SX SY GX GY [rule=none|one|both]\n"
-    ++ codes "      a certificate that the cost of a least walk is least, or that there is no walk\n"
-    ++ codes "  jps check MAP CERT [rule=none|one|both]\n"
-    ++ codes "      whether the certificate proves what it claims on the map; nothing is searched\n"
-    ++ codes "  jps make SEED W H P\n"
-    ++ codes "      a map of W by H cells, P percent of them blocked, made from the number SEED\n"
-    ++ codes "  jps drill SEED [engine=ENGINE] [rule=none|one|both]\n"
-    ++ codes "      150 edits and queries on the map of SEED, summed up in one line that is the same by each engine\n"
-    ++ codes "  jps draw MAP SX SY GX GY [engine=ENGINE] [show=points|trace] [rule=none|one|both]\n"
-    ++ codes "      a picture (SVG) of the map and of a least walk, and with show=trace of the cells of the taken states\n"
-    ++ codes "  jps costs MAP X Y [rule=none|one|both]\n"
-    ++ codes "      the least cost from the cell (X,Y) to each cell, a line for each row: `A,B`, or `-` where no walk leads\n"
-    ++ codes "  jps tables MAP [rule=none|one|both]\n"
-    ++ codes "      the tables of the engine plus as bytes, for other programs\n"
-    ++ codes "  jps boxes MAP X Y [rule=none|one|both]\n"
-    ++ codes "      for each direction the least box of cells to which some least walk from the cell (X,Y) begins so\n"
-    ++ codes "  jps moves MAP X Y [rule=none|one|both]\n"
-    ++ codes "      the first move from the cell (X,Y) to each cell, a line for each run of cells with one first move\n"
-    ++ codes "  jps --help\n"
-    ++ codes "      this text\n"
-    ++ codes "  jps --version\n"
-    ++ codes "      the version\n"
+    codes "usage: jps COMMAND ...\n" ++ concat (map command_text rows)
     ++ codes "\n"
     ++ codes
     "A cell is its column and its row, which count from 0 in the upper left. `walk A B` is a walk of A\n"

@@ -2,24 +2,8 @@
 //! what is printed of it.
 #![tactic(auto)]
 
-mod boxes;
-mod check;
-mod costs;
-mod draw;
-mod drill;
-mod judge;
-mod lengths;
-mod live;
-mod make;
-mod moves;
-mod problems;
-mod prove;
-mod query;
-mod query_work;
+mod commands;
 mod replies;
-mod scen;
-mod solve;
-mod tables;
 mod texts;
 mod top;
 mod work;

@@ -6,32 +6,15 @@ ghost use Rattle.word_list.specs.Request.{IsSound, asked, called};
 ghost use Rattle.word_list.specs.Serving.{IsServed};
 ghost use Rattle.jps_run.specs.Counting.{RoseAsCalled, RoseForCall};
 ghost use Rattle.jps_run.specs.Ending.{Comes, Gets, HasFailed, HasLines, CanHear, HasPart, InputRose, NamedRose, Names, ending_line};
-ghost use Rattle.jps_run.specs.Opened.{Opens, OpensWork};
-ghost use Rattle.jps_run.specs.Calls.{MayHear, reads_input};
+ghost use Rattle.jps_run.specs.Opened.{Opens};
+ghost use Rattle.jps_run.specs.Calls.{MayHear};
 ghost use Rattle.jps_run.specs.Served.{HasServed};
 ghost use Rattle.call_files.specs.FaultLines.{word_line as line_of_word};
 
-use crate::boxes::boxes;
-use crate::check::check;
-use crate::costs::costs;
-use crate::draw::draw;
-use crate::drill::drill;
-use crate::judge::judge;
-use crate::lengths::lengths;
-use crate::live::live;
-use crate::make::make;
-use crate::moves::moves;
-use crate::problems::problems;
-use crate::prove::prove;
-use crate::query::query;
+use crate::commands::{live, open_work};
 use crate::replies::{Answers, hear};
-use crate::scen::scen;
-use crate::solve::solve;
-use crate::tables::tables;
-use crate::texts::{help_text, version_text};
 use crate::work::{Work, perform};
 use call_files::word_line;
-use cell_lines::Ends;
 use io_edge::{Files, Sink, Source, write_whole};
 use line_work::Stop;
 use std::alloc::Global;
@@ -64,75 +47,6 @@ fn open<F: Files>(
         return Ok(Opened::Listener(live(alloc, files, map, tables, settings)?));
     }
     Ok(Opened::Work(open_work(alloc, request, settings, files)?))
-}
-
-// Reads the files of what is asked for by files alone, and makes the work.
-fn open_work<F: Files>(
-    alloc: Global,
-    request: Request<'_>,
-    settings: Settings,
-    files: &mut F,
-) -> Result<Work, Stop>
-    requires sound { IsSound request settings }
-    requires served { IsServed (asked request) settings }
-    requires apart { reads_input (asked request) ≡ false }
-    ensures opened { OpensWork (called request.entry settings) (F.disk files.old) (F.disk files.new) result }
-    ensures unchanged { (F.disk files.new).holds ≡ (F.disk files.old).holds }
-{
-    match request {
-        Request::Help => Ok(Work::Say(help_text())),
-        Request::Version => Ok(Work::Say(version_text())),
-        Request::Query {
-            map,
-            tables,
-            sx,
-            sy,
-            gx,
-            gy,
-        } => query(alloc, files, map, tables, Ends { sx, sy, gx, gy }, settings),
-        Request::Solve {
-            map,
-            tables,
-            script,
-        } => solve(alloc, files, map, tables, script, settings),
-        Request::Live { .. } => unreachable!(),
-        Request::Scen {
-            map,
-            tables,
-            scen: name,
-        } => scen(alloc, files, map, tables, name, settings),
-        Request::Judge { map, scen, walks } => judge(alloc, files, map, scen, walks, settings),
-        Request::Prove {
-            map,
-            sx,
-            sy,
-            gx,
-            gy,
-        } => prove(alloc, files, map, Ends { sx, sy, gx, gy }, settings),
-        Request::Check { map, cert } => check(alloc, files, map, cert, settings),
-        Request::Make {
-            seed,
-            w,
-            h,
-            percent,
-        } => Ok(make(alloc, seed, w, h, percent, settings)?),
-        Request::Drill { seed } => Ok(drill(alloc, seed, settings)?),
-        Request::Draw {
-            map,
-            sx,
-            sy,
-            gx,
-            gy,
-        } => draw(alloc, files, map, Ends { sx, sy, gx, gy }, settings),
-        Request::Costs { map, x, y } => costs(alloc, files, map, x, y, settings),
-        Request::Tables { map } => tables(alloc, files, map, settings),
-        Request::Boxes { map, x, y } => boxes(alloc, files, map, x, y, settings),
-        Request::Moves { map, x, y } => moves(alloc, files, map, x, y, settings),
-        Request::Lengths { map, scen } => lengths(alloc, files, map, scen, settings),
-        Request::Problems { map, seed, count } => {
-            problems(alloc, files, map, seed, count, settings)
-        }
-    }
 }
 
 // Does what is asked for, and gives the status.

@@ -5,8 +5,8 @@ ghost use Rattle.jps_run.specs.Works.{CanPerform, HasRisen, IsWhole};
 ghost use Rattle.line_work.specs.Sending.{SendsWhole};
 
 use crate::replies::{
-    Answers, Canvas, Judge, Referee, Summary, write_answers, write_drawing, write_rows,
-    write_rulings, write_sums,
+    Answers, Canvas, Judge, Scen, Summary, write_answers, write_drawing, write_rows, write_rulings,
+    write_sums,
 };
 use cell_lines::Ends;
 use grid_answers::{CostLines, TableFile, write_costs, write_file};
@@ -29,18 +29,18 @@ pub enum Work {
         commands: Vec<Command>,
     },
     /// The entries of a scenario are judged by the one who answers, a row each, and their sum.
-    Judge {
-        job: Judge,
+    Scen {
+        job: Scen,
         entries: Vec<Entry>,
     },
     /// The entries of a scenario are written again with their least lengths, below the first line.
-    List {
+    Lengths {
         job: Lengths,
         entries: Vec<Entry>,
     },
     /// What another program tells of the entries of a scenario is judged, a row each, and their sum.
-    Referee {
-        job: Referee,
+    Judge {
+        job: Judge,
         entries: Vec<Entry>,
     },
     /// What the commands come to is summed up in one line.
@@ -55,9 +55,9 @@ pub enum Work {
         show: Show,
     },
     /// The least costs from a cell are told.
-    Tell(CostLines),
+    Costs(CostLines),
     /// The tables of a map are told as a table file.
-    Encode(TableFile),
+    Tables(TableFile),
     /// A text that was made whole, and the status.
     Print {
         text: Vec<u8>,
@@ -80,17 +80,17 @@ pub fn perform<O: Sink, L: Ledger>(
 {
     match work {
         Work::Answer { job, commands } => write_answers(alloc, job, commands, out, steps),
-        Work::Judge { job, entries } => write_rows(alloc, job, entries, out, steps),
-        Work::List { job, entries } => write_lengths(alloc, job, entries, out, steps),
-        Work::Referee { job, entries } => write_rulings(alloc, job, entries, out, steps),
+        Work::Scen { job, entries } => write_rows(alloc, job, entries, out, steps),
+        Work::Lengths { job, entries } => write_lengths(alloc, job, entries, out, steps),
+        Work::Judge { job, entries } => write_rulings(alloc, job, entries, out, steps),
         Work::Drill { job, commands } => write_sums(alloc, job, commands, out, steps),
         Work::Draw {
             mut canvas,
             ends,
             show,
         } => write_drawing(alloc, &mut canvas, ends, show, out, steps),
-        Work::Tell(mut lines) => write_costs(alloc, &mut lines, out, steps),
-        Work::Encode(mut file) => write_file(&mut file, out),
+        Work::Costs(mut lines) => write_costs(alloc, &mut lines, out, steps),
+        Work::Tables(mut file) => write_file(&mut file, out),
         Work::Print { text, status } => send_text(out, text.as_slice(), status),
         Work::Say(text) => send_text(out, text, 0),
     }

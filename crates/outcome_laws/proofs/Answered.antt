@@ -50,7 +50,7 @@ use Rattle.jps_run.specs.Rows.{AreRows, IsRow, row_of, scale, replied}
 use Rattle.jps_run.specs.Rulings.{AreRulings, IsRuling, with_told}
 use Rattle.jps_run.specs.Session.{reply_to_edit, session_after, width_of}
 use Rattle.jps_run.specs.Who.{By, IsReplyBy, IsReplyOn, Who, by_boxes, by_moves}
-use Rattle.jps_run.specs.declared.replies.drill.Finding.{Finding}
+use Rattle.jps_run.specs.declared.replies.findings.Finding.{Finding}
 use Rattle.jps_run.specs.declared.replies.row.Row.{Row}
 use Rattle.jps_run.specs.declared.replies.row.Row.TheVariants as row
 use Rattle.jps_run.specs.declared.replies.ruling.Ruling.{Ruling}

@@ -8,17 +8,14 @@ use Rattle.std.proofs.lemmas.List.{take-append-drop}
 use Rattle.std.proofs.lemmas.List.Folds.{concat-append}
 use Rattle.io_edge.specs.Told.{Disk, Held, Inflow, Outflow}
 use Rattle.io_edge.specs.Whole.{AppendsSome}
-use Rattle.map_text.specs.Faults.{map_of}
 use Rattle.edit_replay.specs.Session.{SessionData}
 use Rattle.word_list.specs.Request.{Call}
-use Rattle.word_list.specs.declared.request.Settings.{Settings}
 use Rattle.word_list.specs.declared.request.Show.{Show}
 use Rattle.line_work.specs.Sending.{Wrote}
 use Rattle.line_work.proofs.Pieces.{part-more}
-use Rattle.jps_run.specs.Session.{by_of}
 use Rattle.jps_run.specs.Heard.{AnswerHeard, AnswerTaken}
-use Rattle.outcome_laws.specs.Alike.{BeginWith, way_of}
-use Rattle.outcome_laws.proofs.Printed.{one_start}
+use Rattle.outcome_laws.specs.Alike.{BeginWith}
+use Rattle.outcome_laws.proofs.OnMap.{one_start_on}
 use Rattle.outcome_laws.proofs.Taken.{pending_taken}
 use Rattle.outcome_laws.specs.Files.{AreTold}
 use Rattle.outcome_laws.proofs.Files.{not_both}
@@ -28,9 +25,8 @@ use Rattle.jps_run.specs.Ending.{of_taken, some}
 use Rattle.outcome_laws.specs.Outcomes.{DifferInEngine, FilesAreTold, WrittenBeginsTheOutput, WroteLinesOf}
 use Rattle.jps_run.specs.Live.{AreHeard, OnLive}
 use Rattle.jps_run.specs.Outcome.{IsOutcome, IsOutput, Outcome, Spell, done}
-use Rattle.outcome_laws.proofs.Alike.{ok_same, same_first, session_layers, sessions_alike}
 use Rattle.outcome_laws.proofs.Only.{CallComes, broken, finished, refused, replied}
-use Rattle.outcome_laws.proofs.Only.{call_comes, live_call, one_list, outcomes_one}
+use Rattle.outcome_laws.proofs.Only.{call_comes, live_call, on_one_map, outcomes_one}
 
 -- the first ones of these lines begin them
 begin-by : (count : ℕ) (lines : List (List ℕ)) → BeginWith lines (take count lines)
@@ -85,31 +81,10 @@ module _ (holds : List ℕ → Held) (script : List ℕ) (call : Call) (told : A
       → AreHeard call holds (Some script) all refusal
       → BeginWith all lines
   heard_begins refusal all q =
-      one_start p.session q.session p.settings.show script left refusal lines all
-      (session_layers p.settings q.settings rule shown ways p.text p.read p.spelled p.session p.answers)
-      (sessions_alike p.settings q.settings rule shown ways p.read q.read one_map p.session q.session
-      p.answers
-      q.answers) taken
-      (subst (λ (show : Show). AnswerHeard q.session show (Some script) refusal all) (sym shown) q.known)
-    where
-      same : p.settings ≡ q.settings
-      same = ap (λ (c : Call). c.settings) (sym p.is ∙ q.is)
-
-      rule : p.settings.rule ≡ q.settings.rule
-      rule = ap (λ (set : Settings). set.rule) same
-
-      shown : p.settings.show ≡ q.settings.show
-      shown = ap (λ (set : Settings). set.show) same
-
-      ways : way_of (by_of p.settings.pick) ≡ way_of (by_of q.settings.pick)
-      ways = ap (λ (set : Settings). way_of (by_of set.pick)) same
-
-      one_map : p.read ≡ q.read
-      one_map = ok_same p.read q.read (map_of p.text) p.spelled
-          (ap map_of (same_first p.text q.text p.behind q.behind
-          (one_list holds script call call itself told (p.text ∷ p.behind) (q.text ∷ q.behind) p.accepted
-          q.accepted))
-          ∙ q.spelled)
+      let o = on_one_map holds script call call itself told p q in
+      one_start_on p.settings q.settings p.read o.rule o.are (o.ways refl) p.session q.session p.answers o.is
+      p.settings.show script left refusal lines all taken
+      (subst (λ (show : Show). AnswerHeard q.session show (Some script) refusal all) (sym o.shown) q.known)
 
   call_begins : (outcome : Outcome) → CallComes call holds (Some script) outcome → BeginWith outcome.out lines
   call_begins _ (refused line r) =

@@ -1,5 +1,5 @@
 -- Calls come to an outcome.
-use Rattle.std.proofs.Common.{◌≡◌, ◌⊎◌, inl, inr, refl, sym, ap, ◌∙◌, subst, ℕ, ◌<◌, ◌≤◌, Bool, true, false}
+use Rattle.std.proofs.Common.{◌≡◌, ◌⊎◌, inl, inr, refl, sym, ap, subst, ℕ, ◌<◌, ◌≤◌, Bool, true, false}
 use Rattle.std.proofs.Common.{List, [], ◌∷◌, ◌++◌, length, append-nil}
 use Rattle.std.specs.Prelude.{Option, Some, None, Result, Ok, Err, if◌then◌else◌, codes, is_some}
 use Rattle.std.specs.Option.{option_map, option_map_or}
@@ -40,15 +40,13 @@ use Rattle.call_files.specs.Layered.{layers_on}
 use Rattle.call_files.specs.MapFiles.{map_files}
 use Rattle.call_files.specs.declared.kind.Extent.TheVariants as extent
 use Rattle.call_files.specs.declared.kind.Kind.TheVariants as kind
-use Rattle.jps_run.specs.Calls.{call_with, files_of}
+use Rattle.jps_run.specs.Calls.{IsAnswer, call_with, files_of}
 use Rattle.jps_run.specs.Drill.{drill_line}
 use Rattle.jps_run.specs.Heard.{AnswerHeard, counted, too_long, whole}
 use Rattle.jps_run.specs.Lines.{reply_line}
 use Rattle.jps_run.specs.Live.{AreHeard}
-use Rattle.jps_run.specs.Outcome.{IsAnswered, IsOutcome, Outcome, Spell, answered, bad_line, bad_text}
-use Rattle.jps_run.specs.Outcome.{bad_word, done, help, version, replied, solved, judged, refereed, made}
-use Rattle.jps_run.specs.Outcome.{moved, drilled, drawn, costed, tabled, boxed, measured, posed, proved}
-use Rattle.jps_run.specs.Outcome.{checked}
+use Rattle.jps_run.specs.Outcome.{IsOutcome, Outcome, Spell, answered, bad_line, bad_text, bad_word, done}
+use Rattle.jps_run.specs.Parts.{OnLast, OnMap, Prints, Says}
 use Rattle.jps_run.specs.Pictures.{drawing_of, drawing_status}
 use Rattle.jps_run.specs.Rows.{scen_lines, scen_status}
 use Rattle.jps_run.specs.Rulings.{judge_lines, judge_status}
@@ -159,89 +157,154 @@ who_replies : (set : Settings) (m : Map) (s t : Cell)
     → (reply : Reply) × IsReplyBy (who_on set m) s t reply
 who_replies set m s t = reply_by (layers_on set m) s t set.pick
 
--- an answer to a call on the texts of its files
-record HasAnswer (call : Call) (texts : List (List ℕ)) : Type 0 where
-  lines : List (List ℕ)
-  status : ℕ
-  is : IsAnswered call texts lines status
+-- what is asked for has an answer, on these texts
+abbrev HasAnswer : Asked → Settings → List (List ℕ) → Type 0
+HasAnswer asked set texts = (lines : List (List ℕ)) × (status : ℕ) × IsAnswer asked set texts lines status
 
-on_texts : (call : Call) (texts also : List (List ℕ)) → texts ≡ also → HasAnswer call also
-    → HasAnswer call texts
-on_texts call texts also e h = subst (λ (ts : List (List ℕ)). HasAnswer call ts) (sym e) h
+-- so has a text of the program's own
+says : (text : List ℕ) (texts : List (List ℕ)) → texts ≡ []
+    → (lines : List (List ℕ)) × (status : ℕ) × Says text texts lines status
+says text texts none = (text ∷ [], 0, record { none = none; all = refl; good = refl })
 
 module _ (holds : List ℕ → Held) (set : Settings) where
-  -- the answers of commands that read a map and no more
-  on_map : (asked : Asked) (map : List ℕ) (texts : List (List ℕ))
-      → ((text : List ℕ) (m : Map) → map_of text ≡ Ok m → HasAnswer (call_with asked set) (text ∷ []))
-      → AreAccepted holds [] (file_of kind.Map map ∷ []) texts → HasAnswer (call_with asked set) texts
-  on_map asked map texts has p =
+  -- a map that is read alone
+  record Alone (texts : List (List ℕ)) : Type 0 where
+    text : List ℕ
+    map : Map
+    is : texts ≡ text ∷ []
+    read : map_of text ≡ Ok map
+
+  on_map : (map : List ℕ) (texts : List (List ℕ)) → AreAccepted holds [] (file_of kind.Map map ∷ []) texts
+      → Alone texts
+  on_map map texts p =
       let one = single holds [] (file_of kind.Map map) texts p in
       let m = read_of map_line (map_of one.0) one.1.1 in
-      on_texts (call_with asked set) texts (one.0 ∷ []) one.1.0 (has one.0 m.0 m.1)
+      record { text = one.0; map = m.0; is = one.1.0; read = m.1 }
 
-  on_small_map : (asked : Asked) (map : List ℕ) (texts : List (List ℕ))
-      → ((text : List ℕ) (m : Map) → map_of text ≡ Ok m → HasAnswer (call_with asked set) (text ∷ []))
-      → AreAccepted holds [] (file_of kind.SmallMap map ∷ []) texts → HasAnswer (call_with asked set) texts
-  on_small_map asked map texts has p =
+  on_small_map : (map : List ℕ) (texts : List (List ℕ))
+      → AreAccepted holds [] (file_of kind.SmallMap map ∷ []) texts → Alone texts
+  on_small_map map texts p =
       let one = single holds [] (file_of kind.SmallMap map) texts p in
       let m = small_of (map_of one.0) one.1.1 in
-      on_texts (call_with asked set) texts (one.0 ∷ []) one.1.0 (has one.0 m.0 m.1)
+      record { text = one.0; map = m.0; is = one.1.0; read = m.1 }
+
+  -- a text is printed of it
+  prints : {Known : Map → List ℕ → ℕ → Type 0} {texts : List (List ℕ)} → Alone texts
+      → ((text : List ℕ) (m : Map) → map_of text ≡ Ok m
+      → (printed : List ℕ) × (status : ℕ) × Known m printed status)
+      → (lines : List (List ℕ)) × (status : ℕ) × Prints texts lines status Known
+  prints one has =
+      let all = has one.text one.map one.read in (
+        all.0 ∷ [],
+        all.1,
+        record {
+          text = one.text;
+          map = one.map;
+          is = one.is;
+          read = one.read;
+          printed = all.0;
+          all = refl;
+          known = all.2;
+        },
+      )
 
   query_has : (map : List ℕ) (tables : Option (List ℕ)) (sx sy gx gy : ℕ) (texts : List (List ℕ))
       → AreAccepted holds [] (map_files set map tables) texts
-      → HasAnswer (call_with (Query map tables sx sy gx gy) set) texts
+      → HasAnswer (Query map tables sx sy gx gy) set texts
+  unfolding IsAnswer
   query_has map tables sx sy gx gy texts p =
       let h = has_map holds set map tables [] texts (subst (λ (fs : List File). AreAccepted holds [] fs texts)
       (sym (append-nil (map_files set map tables))) p) in
       let r = who_replies set h.map (record { x = sx; y = sy }) (record { x = gx; y = gy }) in
-      on_texts (call_with (Query map tables sx sy gx gy) set) texts (h.text ∷ (h.loaded ++ h.more)) h.is
-      (record {
-        lines = reply_line (who_on set h.map).layers.land.width set.show r.0 ∷ [];
-        status = 0;
-        is = replied map h.text tables (h.loaded ++ h.more) sx sy gx gy set h.map
-            (reply_line (who_on set h.map).layers.land.width set.show r.0) h.read
-            (record { reply = r.0; is_reply = r.1; shown = refl });
-      })
+      let line = reply_line (who_on set h.map).layers.land.width set.show r.0 in (
+        line ∷ [],
+        0,
+        (
+          record {
+            text = h.text;
+            behind = h.loaded ++ h.more;
+            map = h.map;
+            is = h.is;
+            read = h.read;
+            known = record {
+              one = line;
+              is = refl;
+              known = record { reply = r.0; is_reply = r.1; shown = refl };
+            };
+          },
+          refl,
+        ),
+      )
+
+  -- what is known of the last file, behind a map and a table file
+  on_last : {Known : Map → List ℕ → Type 0} (map : List ℕ) (tables : Option (List ℕ)) (file : File)
+      (texts : List (List ℕ)) (h : HasMap holds (file ∷ []) texts)
+      (one : (second : List ℕ) × ((h.more ≡ second ∷ [])
+      × (refusal_of file.kind (h.text ∷ h.loaded) second ≡ None))) → Known h.map one.0
+      → OnMap texts (λ m behind. OnLast behind (Known m))
+  on_last map tables file texts h one known = record {
+    text = h.text;
+    behind = h.loaded ++ h.more;
+    map = h.map;
+    is = h.is;
+    read = h.read;
+    known = record {
+      before = h.loaded;
+      last = one.0;
+      is = ap (λ (more : List (List ℕ)). h.loaded ++ more) one.1.0;
+      known = known;
+    };
+  }
 
   solve_has : (map : List ℕ) (tables : Option (List ℕ)) (script : List ℕ) (texts : List (List ℕ))
       → is_for_small_maps set.pick ≡ false
       → AreAccepted holds [] (map_files set map tables ++ file_of kind.Script script ∷ []) texts
-      → HasAnswer (call_with (Solve map tables script) set) texts
+      → HasAnswer (Solve map tables script) set texts
+  unfolding IsAnswer
   solve_has map tables script texts large p =
-      let h = has_map holds set map tables (file_of kind.Script script ∷ []) texts p in
-      let one = single holds (h.text ∷ h.loaded) (file_of kind.Script script) h.more h.accepted in
+      let file = file_of kind.Script script in
+      let h = has_map holds set map tables (file ∷ []) texts p in
+      let one = single holds (h.text ∷ h.loaded) file h.more h.accepted in
       let commands = read_of script_line (script_of one.0) one.1.1 in
       let d = session_on set h.map large in
-      let all = answers_exist d.0 set.show commands.0 in
-      on_texts (call_with (Solve map tables script) set) texts (h.text ∷ (h.loaded ++ one.0 ∷ []))
-      (h.is ∙ ap (λ (ts : List (List ℕ)). h.text ∷ (h.loaded ++ ts)) one.1.0) (record {
-        lines = all.0;
-        status = 0;
-        is = solved map script h.text one.0 tables h.loaded set h.map commands.0 all.0 h.read commands.1
-            (record { session = d.0; is = d.1; known = all.1 });
-      })
+      let all = answers_exist d.0 set.show commands.0 in (
+        all.0,
+        0,
+        (
+          on_last map tables file texts h one (record {
+            value = commands.0;
+            is = commands.1;
+            known = record { session = d.0; is = d.1; known = all.1 };
+          }),
+          refl,
+        ),
+      )
 
   scen_has : (map : List ℕ) (tables : Option (List ℕ)) (scenario : List ℕ) (texts : List (List ℕ))
       → AreAccepted holds [] (map_files set map tables ++ file_of kind.Scen scenario ∷ []) texts
-      → HasAnswer (call_with (Scen map tables scenario) set) texts
+      → HasAnswer (Scen map tables scenario) set texts
+  unfolding IsAnswer
   scen_has map tables scenario texts p =
-      let h = has_map holds set map tables (file_of kind.Scen scenario ∷ []) texts p in
-      let one = single holds (h.text ∷ h.loaded) (file_of kind.Scen scenario) h.more h.accepted in
+      let file = file_of kind.Scen scenario in
+      let h = has_map holds set map tables (file ∷ []) texts p in
+      let one = single holds (h.text ∷ h.loaded) file h.more h.accepted in
       let entries = read_of scen_line (scen_of one.0) one.1.1 in
-      let all = rows_exist (who_on set h.map) (who_replies set h.map) entries.0 in
-      on_texts (call_with (Scen map tables scenario) set) texts (h.text ∷ (h.loaded ++ one.0 ∷ []))
-      (h.is ∙ ap (λ (ts : List (List ℕ)). h.text ∷ (h.loaded ++ ts)) one.1.0) (record {
-        lines = scen_lines set.show all.0;
-        status = scen_status all.0;
-        is = judged map scenario h.text one.0 tables h.loaded set h.map entries.0 all.0 h.read entries.1
-            all.1;
-      })
+      let all = rows_exist (who_on set h.map) (who_replies set h.map) entries.0 in (
+        scen_lines set.show all.0,
+        scen_status all.0,
+        on_last map tables file texts h one (record {
+          value = entries.0;
+          is = entries.1;
+          known = record { from = all.0; all = refl; code = refl; known = all.1 };
+        }),
+      )
 
   -- the answer of a judge, on three texts
   judge_has : (map scenario walks : List ℕ) (texts : List (List ℕ))
       → AreAccepted holds []
       (file_of kind.Map map ∷ file_of kind.Scen scenario ∷ file_of kind.Walks walks ∷ [])
-      texts → HasAnswer (call_with (Judge map scenario walks) set) texts
+      texts → HasAnswer (Judge map scenario walks) set texts
+  unfolding IsAnswer
   judge_has map scenario walks [] p = absurd p
   judge_has map scenario walks (text ∷ []) p = absurd (p.1)
   judge_has map scenario walks (text ∷ second ∷ []) p = absurd (p.1.1)
@@ -251,27 +314,58 @@ module _ (holds : List ℕ → Held) (set : Settings) where
       let entries = read_of scen_line (scen_of second) p.1.0.1 in
       let told = read_of walks_line (walks_of third (length entries.0))
       (subst (λ (n : ℕ). fault_in walks_line (walks_of third n) ≡ None) (ap count_in entries.1) p.1.1.0.1) in
-      let all = rulings_exist (layers_on set m.0) entries.0 told.0 in record {
-        lines = judge_lines all.0;
-        status = judge_status all.0;
-        is = refereed map scenario walks text second third set m.0 entries.0 told.0 all.0 m.1 entries.1 told.1
-            all.1;
-      }
+      let all = rulings_exist (layers_on set m.0) entries.0 told.0 in (
+        judge_lines all.0,
+        judge_status all.0,
+        record {
+          text = text;
+          behind = second ∷ third ∷ [];
+          map = m.0;
+          is = refl;
+          read = m.1;
+          known = (
+            second,
+            third,
+            refl,
+            record {
+              value = entries.0;
+              is = entries.1;
+              known = record {
+                value = told.0;
+                is = told.1;
+                known = record { from = all.0; all = refl; code = refl; known = all.1 };
+              };
+            },
+          );
+        },
+      )
 
   lengths_has : (map scenario : List ℕ) (texts : List (List ℕ))
       → AreAccepted holds [] (file_of kind.Map map ∷ file_of kind.Scen scenario ∷ []) texts
-      → HasAnswer (call_with (Lengths map scenario) set) texts
+      → HasAnswer (Lengths map scenario) set texts
+  unfolding IsAnswer
   lengths_has map scenario [] p = absurd p
   lengths_has map scenario (text ∷ []) p = absurd (p.1)
   lengths_has map scenario (text ∷ second ∷ x ∷ texts) p = absurd (p.1.1)
   lengths_has map scenario (text ∷ second ∷ []) p =
       let m = read_of map_line (map_of text) p.0.1 in
       let entries = read_of scen_line (scen_of second) p.1.0.1 in
-      let all = lengths_exist (layers_on set m.0) second entries.0 in record {
-        lines = all.0;
-        status = all.1;
-        is = measured map scenario text second set m.0 entries.0 all.0 all.1 m.1 entries.1 all.2;
-      }
+      let all = lengths_exist (layers_on set m.0) second entries.0 in (
+        all.0,
+        all.1,
+        record {
+          text = text;
+          behind = second ∷ [];
+          map = m.0;
+          is = refl;
+          read = m.1;
+          known = record {
+            one = second;
+            is = refl;
+            known = record { value = entries.0; is = entries.1; known = all.2 };
+          };
+        },
+      )
 
   -- a text of a file is no longer than the limit of its kind
   within : (held : Held) (limit : ℕ) (text : List ℕ) → IsWhole held limit text → length text ≤ limit
@@ -281,7 +375,8 @@ module _ (holds : List ℕ → Held) (set : Settings) where
 
   check_has : (map cert : List ℕ) (texts : List (List ℕ))
       → AreAccepted holds [] (file_of kind.Map map ∷ file_of kind.Cert cert ∷ []) texts
-      → HasAnswer (call_with (Check map cert) set) texts
+      → HasAnswer (Check map cert) set texts
+  unfolding IsAnswer
   check_has map cert [] p = absurd p
   check_has map cert (text ∷ []) p = absurd (p.1)
   check_has map cert (text ∷ second ∷ x ∷ texts) p = absurd (p.1.1)
@@ -290,86 +385,30 @@ module _ (holds : List ℕ → Held) (set : Settings) where
       let read = read_of cert_line (certificate_of second) p.1.0.1 in
       let few = within (holds cert) (limit_of kind.Cert) second p.1.0.0 in
       let c = certificate_read second read.0 few read.1 in
-      let all = verdict_exists (query_grid (layers_on set m.0) c.0.start) c.0 in record {
-        lines = all.0 ∷ [];
-        status = all.1;
-        is = checked map cert text second set m.0 c.0 all.0 all.1 m.1 c.1 all.2;
-      }
-
-  drill_has : (seed : ℕ) → is_for_small_maps set.pick ≡ false → HasAnswer (call_with (Drill seed) set) []
-  drill_has seed large =
-      let d = session_on set (made_map seed 256 256 25) large in
-      let all = findings_exist d.0 (drill_commands seed) in record {
-        lines = drill_line all.0 ∷ [];
-        status = 0;
-        is = drilled seed set all.0 (record { session = d.0; is = d.1; known = all.1 });
-      }
-
-  draw_has : (map : List ℕ) (sx sy gx gy : ℕ) → is_for_small_maps set.pick ≡ false → (text : List ℕ) (m : Map)
-      → map_of text ≡ Ok m → HasAnswer (call_with (Draw map sx sy gx gy) set) (text ∷ [])
-  draw_has map sx sy gx gy large text m read =
-      let d = session_on set m large in
-      let s : Cell = record { x = sx; y = sy } in
-      let t : Cell = record { x = gx; y = gy } in
-      let r = reply_exists d.0 s t in record {
-        lines = drawing_of m s t set.show r.0 ∷ [];
-        status = drawing_status r.0;
-        is = drawn map text sx sy gx gy set m (drawing_of m s t set.show r.0) (drawing_status r.0) read
-            (record {
-              session = d.0;
-              is = d.1;
-              known = record { reply = r.0; is_reply = r.1; drawn = refl; same_status = refl };
-            });
-      }
-
-  costs_has : (map : List ℕ) (x y : ℕ) (text : List ℕ) (m : Map) → map_of text ≡ Ok m
-      → HasAnswer (call_with (Costs map x y) set) (text ∷ [])
-  costs_has map x y text m read =
-      let all = costs_exist (layers_on set m) (record { x = x; y = y }) in
-      record { lines = all.0; status = 0; is = costed map text x y set m all.0 read all.1 }
-
-  boxes_has : (map : List ℕ) (x y : ℕ) (text : List ℕ) (m : Map) → map_of text ≡ Ok m
-      → HasAnswer (call_with (Boxes map x y) set) (text ∷ [])
-  boxes_has map x y text m read =
-      let all = boxes_exist (layers_on set m) (record { x = x; y = y }) in
-      record { lines = all.0 ∷ []; status = 0; is = boxed map text x y set m all.0 read all.1 }
-
-  moves_has : (map : List ℕ) (x y : ℕ) (text : List ℕ) (m : Map) → map_of text ≡ Ok m
-      → HasAnswer (call_with (Moves map x y) set) (text ∷ [])
-  moves_has map x y text m read =
-      let all = runs_exist (layers_on set m) (record { x = x; y = y }) in
-      record { lines = all.0 ∷ []; status = 0; is = moved map text x y set m all.0 read all.1 }
-
-  problems_has : (map : List ℕ) (seed count : ℕ) (text : List ℕ) (m : Map) → map_of text ≡ Ok m
-      → HasAnswer (call_with (Problems map seed count) set) (text ∷ [])
-  problems_has map seed count text m read =
-      let all = problems_exist (layers_on set m) map seed count in record {
-        lines = all.0 ∷ [];
-        status = all.1;
-        is = posed map text seed count set m all.0 all.1 read all.2;
-      }
-
-  prove_has : (map : List ℕ) (sx sy gx gy : ℕ) (text : List ℕ) (m : Map) → map_of text ≡ Ok m
-      → HasAnswer (call_with (Prove map sx sy gx gy) set) (text ∷ [])
-  prove_has map sx sy gx gy text m read =
-      let all = proof_exists (layers_on set m) (are_layers-text set text m read) (record { x = sx; y = sy })
-      (record { x = gx; y = gy }) in record {
-        lines = all.0 ∷ [];
-        status = all.1;
-        is = proved map text sx sy gx gy set m all.0 all.1 read all.2;
-      }
+      let all = verdict_exists (query_grid (layers_on set m.0) c.0.start) c.0 in (
+        all.0 ∷ [],
+        all.1,
+        record {
+          text = text;
+          behind = second ∷ [];
+          map = m.0;
+          is = refl;
+          read = m.1;
+          known = record {
+            one = second;
+            is = refl;
+            known = (c.0, c.1, record { one = all.0; is = refl; known = all.2 });
+          };
+        },
+      )
 
   -- what is asked for is answered, on accepted texts
   is_answered : (asked : Asked) → IsServed asked set → (texts : List (List ℕ))
       → AreAccepted holds [] (files_of (call_with asked set)) texts
-      → ((map : List ℕ) (tables : Option (List ℕ)) → ¬ (asked ≡ Live map tables))
-      → HasAnswer (call_with asked set) texts
-  is_answered Help serves texts p other =
-      on_texts (call_with Help set) texts [] (nothing holds [] texts p)
-      (record { lines = help_text ∷ []; status = 0; is = help set })
-  is_answered Version serves texts p other =
-      on_texts (call_with Version set) texts [] (nothing holds [] texts p)
-      (record { lines = version_text ∷ []; status = 0; is = version set })
+      → ((map : List ℕ) (tables : Option (List ℕ)) → ¬ (asked ≡ Live map tables)) → HasAnswer asked set texts
+  unfolding IsAnswer
+  is_answered Help serves texts p other = says help_text texts (nothing holds [] texts p)
+  is_answered Version serves texts p other = says version_text texts (nothing holds [] texts p)
   is_answered (Query map tables sx sy gx gy) serves texts p other =
       query_has map tables sx sy gx gy texts p
   is_answered (Solve map tables script) serves texts p other =
@@ -379,34 +418,66 @@ module _ (holds : List ℕ → Held) (set : Settings) where
       scen_has map tables scenario texts p
   is_answered (Judge map scenario walks) serves texts p other = judge_has map scenario walks texts p
   is_answered (Prove map sx sy gx gy) serves texts p other =
-      on_map (Prove map sx sy gx gy) map texts (prove_has map sx sy gx gy) p
+      prints (on_map map texts p) (λ text m read. proof_exists (layers_on set m)
+      (are_layers-text set text m read) (record { x = sx; y = sy }) (record { x = gx; y = gy }))
   is_answered (Check map cert) serves texts p other = check_has map cert texts p
   is_answered (Make seed w h percent) serves texts p other =
-      on_texts (call_with (Make seed w h percent) set) texts [] (nothing holds [] texts p) (record {
-        lines = canonical_text (made_map seed w h percent) ∷ [];
-        status = 0;
-        is = made seed w h percent set;
-      })
+      says (canonical_text (made_map seed w h percent)) texts (nothing holds [] texts p)
   is_answered (Drill seed) serves texts p other =
-      on_texts (call_with (Drill seed) set) texts [] (nothing holds [] texts p) (drill_has seed (serves refl))
+      let d = session_on set (made_map seed 256 256 25) (serves refl) in
+      let all = findings_exist d.0 (drill_commands seed) in (
+        drill_line all.0 ∷ [],
+        0,
+        (
+          nothing holds [] texts p,
+          record {
+            from = all.0;
+            all = refl;
+            code = refl;
+            known = record { session = d.0; is = d.1; known = all.1 };
+          },
+        ),
+      )
   is_answered (Draw map sx sy gx gy) serves texts p other =
-      on_map (Draw map sx sy gx gy) map texts (draw_has map sx sy gx gy (serves refl)) p
+      let s : Cell = record { x = sx; y = sy } in
+      let t : Cell = record { x = gx; y = gy } in
+      prints (on_map map texts p) (λ text m read.
+      let d = session_on set m (serves refl) in
+      let r = reply_exists d.0 s t in (
+        drawing_of m s t set.show r.0,
+        drawing_status r.0,
+        record {
+          session = d.0;
+          is = d.1;
+          known = record { reply = r.0; is_reply = r.1; drawn = refl; same_status = refl };
+        },
+      ))
   is_answered (Costs map x y) serves texts p other =
-      on_map (Costs map x y) map texts (costs_has map x y) p
+      let one = on_map map texts p in
+      let all = costs_exist (layers_on set one.map) (record { x = x; y = y }) in (
+        all.0,
+        0,
+        (
+          record {
+            text = one.text;
+            behind = [];
+            map = one.map;
+            is = one.is;
+            read = one.read;
+            known = (refl, all.1);
+          },
+          refl,
+        ),
+      )
   is_answered (Tables map) serves texts p other =
-      on_map (Tables map) map texts
-      (λ text m read. record {
-        lines = tables_text set.rule m ∷ [];
-        status = 0;
-        is = tabled map text set m read;
-      }) p
-  is_answered (Boxes map x y) serves texts p other =
-      on_small_map (Boxes map x y) map texts (boxes_has map x y) p
-  is_answered (Moves map x y) serves texts p other =
-      on_small_map (Moves map x y) map texts (moves_has map x y) p
+      prints (on_map map texts p) (λ text m read. (tables_text set.rule m, 0, (refl, refl)))
+  is_answered (Boxes map x y) serves texts p other = prints (on_small_map map texts p) (λ text m read.
+      let all = boxes_exist (layers_on set m) (record { x = x; y = y }) in (all.0, 0, (all.1, refl)))
+  is_answered (Moves map x y) serves texts p other = prints (on_small_map map texts p) (λ text m read.
+      let all = runs_exist (layers_on set m) (record { x = x; y = y }) in (all.0, 0, (all.1, refl)))
   is_answered (Lengths map scenario) serves texts p other = lengths_has map scenario texts p
   is_answered (Problems map seed count) serves texts p other =
-      on_map (Problems map seed count) map texts (problems_has map seed count) p
+      prints (on_map map texts p) (λ text m read. problems_exist (layers_on set m) map seed count)
 
   -- a told script that comes in is heard
   heard_exists : (d : SessionData) (show : Show) (script : List ℕ) → (line : Option (List ℕ))
@@ -481,10 +552,11 @@ module _ (words : List (List ℕ)) (holds : List ℕ → Held) (script : List �
       )
 
   done_ends : (call : Call) → Spell words call → (texts : List (List ℕ))
-      → AreAccepted holds [] (files_of call) texts → HasAnswer call texts → Ends words holds script
-  done_ends call spelled texts p h = (
-    record { status = h.status; out = h.lines; line = [] },
-    done call h.lines h.status spelled (record { texts = texts; accepted = p; answered = h.is }),
+      → AreAccepted holds [] (files_of call) texts → HasAnswer call.request call.settings texts
+      → Ends words holds script
+  done_ends call spelled texts p (lines, status, is) = (
+    record { status = status; out = lines; line = [] },
+    done call lines status spelled (record { texts = texts; accepted = p; answered = is }),
   )
 
   -- the files of the call are accepted
@@ -500,38 +572,7 @@ module _ (words : List (List ℕ)) (holds : List ℕ → Held) (script : List �
       → Ends words holds script
   call_ends (Live map tables) set spelled texts p =
       live_ends map tables set spelled (served words (call_with (Live map tables) set) spelled refl) texts p
-  call_ends Help set spelled texts p = not_live Help set spelled texts p (λ m t e. cc)
-  call_ends Version set spelled texts p = not_live Version set spelled texts p (λ m t e. cc)
-  call_ends (Query map tables sx sy gx gy) set spelled texts p =
-      not_live (Query map tables sx sy gx gy) set spelled texts p (λ m t e. cc)
-  call_ends (Solve map tables script) set spelled texts p =
-      not_live (Solve map tables script) set spelled texts p (λ m t e. cc)
-  call_ends (Scen map tables scenario) set spelled texts p =
-      not_live (Scen map tables scenario) set spelled texts p (λ m t e. cc)
-  call_ends (Judge map scenario walks) set spelled texts p =
-      not_live (Judge map scenario walks) set spelled texts p (λ m t e. cc)
-  call_ends (Prove map sx sy gx gy) set spelled texts p =
-      not_live (Prove map sx sy gx gy) set spelled texts p (λ m t e. cc)
-  call_ends (Check map cert) set spelled texts p =
-      not_live (Check map cert) set spelled texts p (λ m t e. cc)
-  call_ends (Make seed w h percent) set spelled texts p =
-      not_live (Make seed w h percent) set spelled texts p (λ m t e. cc)
-  call_ends (Drill seed) set spelled texts p =
-      not_live (Drill seed) set spelled texts p (λ m t e. cc)
-  call_ends (Draw map sx sy gx gy) set spelled texts p =
-      not_live (Draw map sx sy gx gy) set spelled texts p (λ m t e. cc)
-  call_ends (Costs map x y) set spelled texts p =
-      not_live (Costs map x y) set spelled texts p (λ m t e. cc)
-  call_ends (Tables map) set spelled texts p =
-      not_live (Tables map) set spelled texts p (λ m t e. cc)
-  call_ends (Boxes map x y) set spelled texts p =
-      not_live (Boxes map x y) set spelled texts p (λ m t e. cc)
-  call_ends (Moves map x y) set spelled texts p =
-      not_live (Moves map x y) set spelled texts p (λ m t e. cc)
-  call_ends (Lengths map scenario) set spelled texts p =
-      not_live (Lengths map scenario) set spelled texts p (λ m t e. cc)
-  call_ends (Problems map seed count) set spelled texts p =
-      not_live (Problems map seed count) set spelled texts p (λ m t e. cc)
+  call_ends asked set spelled texts p = not_live asked set spelled texts p (λ m t e. cc)
 
   refused_ends : (call : Call) → Spell words call → (line : List ℕ) → HasRefused holds (files_of call) line
       → Ends words holds script

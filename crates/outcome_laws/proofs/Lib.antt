@@ -29,7 +29,6 @@ pub mod Taken
 pub mod Sessions
 pub mod Printed
 pub mod OnMap
-pub mod Asked
 pub mod Alike
 pub mod SmallMaps
 pub mod Only

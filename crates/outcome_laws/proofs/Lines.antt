@@ -16,7 +16,7 @@ use Rattle.jps_run.specs.Answers.{AnswersAfter, AreAnswers, IsAnswerLine, IsRepl
 use Rattle.jps_run.specs.Drill.{AreFindings, FindsAfter, IsFinding, finding_of_edit}
 use Rattle.jps_run.specs.Lines.{edit_line, reply_line}
 use Rattle.jps_run.specs.Pictures.{IsDrawing, drawing_of, drawing_status}
-use Rattle.jps_run.specs.declared.replies.drill.Finding.{Finding}
+use Rattle.jps_run.specs.declared.replies.findings.Finding.{Finding}
 use Rattle.outcome_laws.specs.Alike.{AnswerAlike, BeginWith}
 use Rattle.outcome_laws.proofs.Same.{FindTheSame, ReplyTheSame, after_edits, alike_after, find_same}
 use Rattle.outcome_laws.proofs.Same.{layers_same, reply_same}

@@ -13,13 +13,12 @@ use Rattle.word_list.specs.declared.request.Show.{Show}
 use Rattle.call_files.specs.Files.{AreAccepted, File, HasRefused, file_of, faulty, too_long}
 use Rattle.call_files.specs.Kinds.{refusal_of}
 use Rattle.call_files.specs.declared.kind.Kind.TheVariants as kind
-use Rattle.jps_run.specs.Calls.{call_with, files_of}
+use Rattle.jps_run.specs.Calls.{IsAnswer, call_with, files_of}
 use Rattle.jps_run.specs.Live.{AreHeard}
-use Rattle.jps_run.specs.Outcome.{IsAnswered, IsOutcome, IsOutput, Outcome, Spell, answered, bad_line}
-use Rattle.jps_run.specs.Outcome.{bad_text, done, judged, replied, solved}
+use Rattle.jps_run.specs.Outcome.{IsOutcome, IsOutput, Outcome, Spell, answered, bad_line, bad_text, done}
+use Rattle.jps_run.specs.Parts.{OnLast, OnMap}
 use Rattle.outcome_laws.specs.Loaded.{AreTablesOf, DifferInTables, query, solve, live, scen}
 use Rattle.outcome_laws.proofs.Alike.{last, last_append, same_first, same_others}
-use Rattle.outcome_laws.proofs.Asked.{Answers, OnLast, OnMap, asked_so}
 use Rattle.outcome_laws.proofs.Files.{ComesToRefusal, accepted_not_refused, comes, refuses}
 use Rattle.outcome_laws.proofs.Only.{CallComes, broken, call_comes, finished, refused}
 use Rattle.outcome_laws.proofs.Only as only
@@ -132,66 +131,26 @@ on_map {one} {other} {K} {L} text f p = record {
 }
 
 -- the texts before the last one change
-on_last : {K : List ℕ → Type 0} (before also : List (List ℕ)) (second : List ℕ)
-    → OnLast (before ++ second ∷ []) K → OnLast (also ++ second ∷ []) K
-on_last {K} before also second p = record {
+on_last : {K L : List ℕ → Type 0} (before also : List (List ℕ)) (second : List ℕ) → (K second → L second)
+    → OnLast (before ++ second ∷ []) K → OnLast (also ++ second ∷ []) L
+on_last {K} before also second f p = record {
   before = also;
   last = second;
   is = refl;
-  known = subst K (sym (last_append [] p.before p.last)
-      ∙ ap (λ (ts : List (List ℕ)). last [] ts) (sym p.is) ∙ last_append [] before second) p.known;
+  known = f (subst K (sym (last_append [] p.before p.last)
+      ∙ ap (λ (ts : List (List ℕ)). last [] ts) (sym p.is) ∙ last_append [] before second) p.known);
 }
 
--- one text is accepted of one file
-single : (holds : List ℕ → Held) (earlier : List (List ℕ)) (file : File) (texts : List (List ℕ))
-    → AreAccepted holds earlier (file ∷ []) texts → (second : List ℕ) × (texts ≡ second ∷ [])
-single holds earlier file [] p = absurd p
-single holds earlier file (text ∷ []) p = (text, refl)
-single holds earlier file (text ∷ more ∷ texts) p = absurd (p.1)
-
--- what is an answer to what is asked for answers the call
-module _ (map : List ℕ) (tables : Option (List ℕ)) (set : Settings) (texts lines : List (List ℕ))
-    (status : ℕ) where
-  query_so : (sx sy gx gy : ℕ) → Answers (Query map tables sx sy gx gy) set texts lines status
-      → IsAnswered (call_with (Query map tables sx sy gx gy) set) texts lines status
-  unfolding Answers
-  query_so sx sy gx gy h = rw (h.0.is, h.0.known.all, h.1) (replied map h.0.text tables h.0.behind sx sy gx gy
-      set h.0.map h.0.known.line h.0.read h.0.known.known)
-
-  solve_so : (script : List ℕ) → Answers (Solve map tables script) set texts lines status
-      → IsAnswered (call_with (Solve map tables script) set) texts lines status
-  unfolding Answers
-  solve_so script h = rw (h.0.is, h.0.known.is, h.1) (solved map script h.0.text h.0.known.last tables
-      h.0.known.before set h.0.map h.0.known.known.value lines h.0.read h.0.known.known.is
-      h.0.known.known.known)
-
-  scen_so : (scenario : List ℕ) → Answers (Scen map tables scenario) set texts lines status
-      → IsAnswered (call_with (Scen map tables scenario) set) texts lines status
-  unfolding Answers
-  scen_so scenario h = rw (h.is, h.known.is, h.known.known.known.all, h.known.known.known.code)
-      (judged map scenario h.text h.known.last tables h.known.before set h.map h.known.known.value
-      h.known.known.known.from h.read h.known.known.is h.known.known.known.known)
-
--- the text of a table file is no matter for an answer
-module _ (map : List ℕ) (one other : Option (List ℕ)) (set : Settings) (lines : List (List ℕ)) (status : ℕ)
-    (text : List ℕ) where
-  query_swap : (sx sy gx gy : ℕ) (behind also : List (List ℕ))
-      → Answers (Query map one sx sy gx gy) set (text ∷ behind) lines status
-      → Answers (Query map other sx sy gx gy) set (text ∷ also) lines status
-  unfolding Answers
-  query_swap sx sy gx gy behind also h = (on_map text (λ m k. k) h.0, h.1)
-
-  solve_swap : (script second : List ℕ) (before also : List (List ℕ))
-      → Answers (Solve map one script) set (text ∷ before ++ second ∷ []) lines status
-      → Answers (Solve map other script) set (text ∷ also ++ second ∷ []) lines status
-  unfolding Answers
-  solve_swap script second before also h = (on_map text (λ m k. on_last before also second k) h.0, h.1)
-
-  scen_swap : (scenario second : List ℕ) (before also : List (List ℕ))
-      → Answers (Scen map one scenario) set (text ∷ before ++ second ∷ []) lines status
-      → Answers (Scen map other scenario) set (text ∷ also ++ second ∷ []) lines status
-  unfolding Answers
-  scen_swap scenario second before also h = on_map text (λ m k. on_last before also second k) h
+-- where one file is read behind the map, the text before its text is no matter for what is known of it
+last_swap : {K L : Map → List ℕ → Type 0} (holds : List ℕ → Held) (earlier : List (List ℕ)) (file : File)
+    (text : List ℕ) (before also more : List (List ℕ)) → AreAccepted holds earlier (file ∷ []) more
+    → ((m : Map) (second : List ℕ) → K m second → L m second)
+    → OnMap (text ∷ (before ++ more)) (λ m behind. OnLast behind (K m))
+    → OnMap (text ∷ (also ++ more)) (λ m behind. OnLast behind (L m))
+last_swap holds earlier file text before also [] p f h = absurd p
+last_swap holds earlier file text before also (second ∷ x ∷ more) p f h = absurd (p.1)
+last_swap holds earlier file text before also (second ∷ []) p f h =
+    on_map text (λ m k. on_last before also second (f m second) k) h
 
 -- what the first call comes to the second comes to
 record Leads (holds : List ℕ → Held) (call like : Call) : Type 0 where
@@ -200,6 +159,11 @@ record Leads (holds : List ℕ → Held) (call like : Call) : Type 0 where
       → IsOutput like holds lines status
   heard : (input : Option (List ℕ)) (lines : List (List ℕ)) (line : Option (List ℕ))
       → AreHeard call holds input lines line → AreHeard like holds input lines line
+
+-- both ways
+record LeadBoth (holds : List ℕ → Held) (call like : Call) : Type 0 where
+  off : Leads holds call like
+  on : Leads holds like call
 
 leads : (holds : List ℕ → Held) (input : Option (List ℕ)) (call like : Call) (others : List (List ℕ))
     (outcome : Outcome) → Leads holds call like → Spell others like → CallComes call holds input outcome
@@ -227,155 +191,91 @@ module _ (holds : List ℕ → Held) (map tables : List ℕ) (show : Show) (rule
   abbrev set : Settings
   set = record { pick = pick.Plus; show = show; rule = rule }
 
-  module _ (sx sy gx gy : ℕ) where
-    abbrev queried : Option (List ℕ) → Call
-    queried named = call_with (Query map named sx sy gx gy) set
+  -- what is asked for with a table file and without, where files that stand alone are read behind it, and its
+  -- text is no matter for an answer
+  module _ (asked : Option (List ℕ) → Asked) (rest : List File) (alone : StandAlone rest)
+      (named : files_of (call_with (asked (Some tables)) set)
+      ≡ with_tables holds rule map tables right rest alone)
+      (unnamed : files_of (call_with (asked None) set) ≡ without holds rule map tables right rest alone)
+      (quiet : (named : Option (List ℕ)) (m : List ℕ) (t : Option (List ℕ)) → ¬ (asked named ≡ Live m t))
+      (swap : (one other : Option (List ℕ)) (lines : List (List ℕ)) (status : ℕ) (text : List ℕ)
+      (before also more : List (List ℕ)) → AreAccepted holds (text ∷ []) rest more
+      → IsAnswer (asked one) set (text ∷ (before ++ more)) lines status
+      → IsAnswer (asked other) set (text ∷ (also ++ more)) lines status) where
+    abbrev asks : Option (List ℕ) → Call
+    asks named = call_with (asked named) set
 
-    query_off : Leads holds (queried (Some tables)) (queried None)
-    query_off = record {
-      refusal = refused_off holds rule map tables right [] tt;
+    leads_off : Leads holds (asks (Some tables)) (asks None)
+    leads_off = record {
+      refusal = λ line p. subst (λ (fs : List File). HasRefused holds fs line) (sym unnamed)
+          (refused_off holds rule map tables right rest alone line
+          (subst (λ (fs : List File). HasRefused holds fs line) named p));
       output = λ lines status p.
-          let off = accepted_off holds rule map tables right [] tt p.texts p.accepted in record {
+          let off = accepted_off holds rule map tables right rest alone p.texts
+          (subst (λ (fs : List File). AreAccepted holds [] fs p.texts) named p.accepted) in record {
             texts = off.text ∷ off.more;
-            accepted = off.accepted;
-            answered = query_so map None set (off.text ∷ off.more) lines status sx sy gx gy
-                (query_swap map (Some tables) None set lines status off.text sx sy gx gy
-                (off.loaded ∷ off.more) off.more
-                (subst (λ (ts : List (List ℕ)).
-                Answers (Query map (Some tables) sx sy gx gy) set ts lines status) off.is
-                (asked_so (queried (Some tables)) p.texts lines status p.answered)));
+            accepted = subst (λ (fs : List File). AreAccepted holds [] fs (off.text ∷ off.more)) (sym unnamed)
+                off.accepted;
+            answered = swap (Some tables) None lines status off.text (off.loaded ∷ []) [] off.more
+                off.accepted.1
+                (subst (λ (ts : List (List ℕ)). IsAnswer (asked (Some tables)) set ts lines status) off.is
+                p.answered);
           };
-      heard = λ input lines line p.
-          not_live holds (queried (Some tables)) input lines line (λ m t e. cc) p;
+      heard = λ input lines line p. not_live holds (asks (Some tables)) input lines line (quiet (Some tables))
+          p;
     }
 
-    query_on : Leads holds (queried None) (queried (Some tables))
-    query_on = record {
-      refusal = refused_on holds rule map tables right [] tt;
-      output = λ lines status p. on lines status p.texts p.accepted
-          (asked_so (queried None) p.texts lines status p.answered);
-      heard = λ input lines line p. not_live holds (queried None) input lines line (λ m t e. cc) p;
+    leads_on : Leads holds (asks None) (asks (Some tables))
+    leads_on = record {
+      refusal = λ line p. subst (λ (fs : List File). HasRefused holds fs line) (sym named)
+          (refused_on holds rule map tables right rest alone line
+          (subst (λ (fs : List File). HasRefused holds fs line) unnamed p));
+      output = λ lines status p. on lines status p.texts
+          (subst (λ (fs : List File). AreAccepted holds [] fs p.texts) unnamed p.accepted) p.answered;
+      heard = λ input lines line p. not_live holds (asks None) input lines line (quiet None) p;
     }
       where
         on : (lines : List (List ℕ)) (status : ℕ) (texts : List (List ℕ))
-            → AreAccepted holds [] (files_of (queried None)) texts
-            → Answers (Query map None sx sy gx gy) set texts lines status
-            → IsOutput (queried (Some tables)) holds lines status
+            → AreAccepted holds [] (without holds rule map tables right rest alone) texts
+            → IsAnswer (asked None) set texts lines status → IsOutput (asks (Some tables)) holds lines status
         on lines status [] p h = absurd p
         on lines status (text ∷ more) p h = record {
           texts = text ∷ right.loaded ∷ more;
-          accepted = accepted_on holds rule map tables right [] tt text more p;
-          answered = query_so map (Some tables) set (text ∷ right.loaded ∷ more) lines status sx sy gx gy
-              (query_swap map None (Some tables) set lines status text sx sy gx gy more
-              (right.loaded ∷ more) h);
+          accepted = subst (λ (fs : List File). AreAccepted holds [] fs (text ∷ right.loaded ∷ more))
+              (sym named) (accepted_on holds rule map tables right rest alone text more p);
+          answered = swap None (Some tables) lines status text [] (right.loaded ∷ []) more p.1 h;
         }
 
-  module _ (script : List ℕ) where
-    abbrev behind : List File
-    behind = file_of kind.Script script ∷ []
+    leads_both : LeadBoth holds (asks (Some tables)) (asks None)
+    leads_both = record { off = leads_off; on = leads_on }
 
-    abbrev solved_by : Option (List ℕ) → Call
-    solved_by named = call_with (Solve map named script) set
+  query_both : (sx sy gx gy : ℕ) → LeadBoth holds (call_with (Query map (Some tables) sx sy gx gy) set)
+      (call_with (Query map None sx sy gx gy) set)
+  unfolding IsAnswer
+  query_both sx sy gx gy =
+      leads_both (λ named. Query map named sx sy gx gy) [] tt refl refl (λ named m t e. cc)
+      (λ one other lines status text before also more p h. (on_map text (λ m k. k) h.0, h.1))
 
-    solve_off : Leads holds (solved_by (Some tables)) (solved_by None)
-    solve_off = record {
-      refusal = refused_off holds rule map tables right behind (λ one other text. refl, tt);
-      output = λ lines status p.
-          let off = accepted_off holds rule map tables right behind (λ one other text. refl, tt) p.texts
-          p.accepted in
-          let one = single holds (off.text ∷ []) (file_of kind.Script script) off.more off.accepted.1 in
-          record {
-            texts = off.text ∷ one.0 ∷ [];
-            accepted = subst (λ (ts : List (List ℕ)).
-                AreAccepted holds [] (files_of (solved_by None)) (off.text ∷ ts)) one.1 off.accepted;
-            answered = solve_so map None set (off.text ∷ one.0 ∷ []) lines status script
-                (solve_swap map (Some tables) None set lines status off.text script one.0 (off.loaded ∷ []) []
-                (subst (λ (ts : List (List ℕ)).
-                Answers (Solve map (Some tables) script) set ts lines status)
-                (off.is ∙ ap (λ (ts : List (List ℕ)). off.text ∷ off.loaded ∷ ts) one.1)
-                (asked_so (solved_by (Some tables)) p.texts lines status p.answered)));
-          };
-      heard = λ input lines line p.
-          not_live holds (solved_by (Some tables)) input lines line (λ m t e. cc) p;
-    }
+  solve_both : (script : List ℕ) → LeadBoth holds (call_with (Solve map (Some tables) script) set)
+      (call_with (Solve map None script) set)
+  unfolding IsAnswer
+  solve_both script =
+      leads_both (λ named. Solve map named script) (file_of kind.Script script ∷ [])
+      (λ one other text. refl, tt) refl refl (λ named m t e. cc)
+      (λ one other lines status text before also more p h. (
+        last_swap holds (text ∷ []) (file_of kind.Script script) text before also more p (λ m second k. k)
+            h.0,
+        h.1,
+      ))
 
-    solve_on : Leads holds (solved_by None) (solved_by (Some tables))
-    solve_on = record {
-      refusal = refused_on holds rule map tables right behind (λ one other text. refl, tt);
-      output = λ lines status p. on lines status p.texts p.accepted
-          (asked_so (solved_by None) p.texts lines status p.answered);
-      heard = λ input lines line p. not_live holds (solved_by None) input lines line (λ m t e. cc) p;
-    }
-      where
-        on : (lines : List (List ℕ)) (status : ℕ) (texts : List (List ℕ))
-            → AreAccepted holds [] (files_of (solved_by None)) texts
-            → Answers (Solve map None script) set texts lines status
-            → IsOutput (solved_by (Some tables)) holds lines status
-        on lines status [] p h = absurd p
-        on lines status (text ∷ []) p h = absurd (p.1)
-        on lines status (text ∷ second ∷ x ∷ more) p h = absurd (p.1.1)
-        on lines status (text ∷ second ∷ []) p h = record {
-          texts = text ∷ right.loaded ∷ second ∷ [];
-          accepted = accepted_on holds rule map tables right behind (λ one other text. refl, tt) text
-              (second ∷ []) p;
-          answered = solve_so map (Some tables) set (text ∷ right.loaded ∷ second ∷ []) lines status script
-              (solve_swap map None (Some tables) set lines status text script second [] (right.loaded ∷ [])
-              h);
-        }
-
-  module _ (scenario : List ℕ) where
-    abbrev entries : List File
-    entries = file_of kind.Scen scenario ∷ []
-
-    abbrev judged_by : Option (List ℕ) → Call
-    judged_by named = call_with (Scen map named scenario) set
-
-    scen_off : Leads holds (judged_by (Some tables)) (judged_by None)
-    scen_off = record {
-      refusal = refused_off holds rule map tables right entries (λ one other text. refl, tt);
-      output = λ lines status p.
-          let off = accepted_off holds rule map tables right entries (λ one other text. refl, tt) p.texts
-          p.accepted in
-          let one = single holds (off.text ∷ []) (file_of kind.Scen scenario) off.more off.accepted.1 in
-          record {
-            texts = off.text ∷ one.0 ∷ [];
-            accepted = subst (λ (ts : List (List ℕ)).
-                AreAccepted holds [] (files_of (judged_by None)) (off.text ∷ ts)) one.1 off.accepted;
-            answered = scen_so map None set (off.text ∷ one.0 ∷ []) lines status scenario
-                (scen_swap map (Some tables) None set lines status off.text scenario one.0 (off.loaded ∷ [])
-                []
-                (subst (λ (ts : List (List ℕ)).
-                Answers (Scen map (Some tables) scenario) set ts lines status)
-                (off.is ∙ ap (λ (ts : List (List ℕ)). off.text ∷ off.loaded ∷ ts) one.1)
-                (asked_so (judged_by (Some tables)) p.texts lines status p.answered)));
-          };
-      heard = λ input lines line p.
-          not_live holds (judged_by (Some tables)) input lines line (λ m t e. cc) p;
-    }
-
-    scen_on : Leads holds (judged_by None) (judged_by (Some tables))
-    scen_on = record {
-      refusal = refused_on holds rule map tables right entries (λ one other text. refl, tt);
-      output = λ lines status p. on lines status p.texts p.accepted
-          (asked_so (judged_by None) p.texts lines status p.answered);
-      heard = λ input lines line p. not_live holds (judged_by None) input lines line (λ m t e. cc) p;
-    }
-      where
-        on : (lines : List (List ℕ)) (status : ℕ) (texts : List (List ℕ))
-            → AreAccepted holds [] (files_of (judged_by None)) texts
-            → Answers (Scen map None scenario) set texts lines status
-            → IsOutput (judged_by (Some tables)) holds lines status
-        on lines status [] p h = absurd p
-        on lines status (text ∷ []) p h = absurd (p.1)
-        on lines status (text ∷ second ∷ x ∷ more) p h = absurd (p.1.1)
-        on lines status (text ∷ second ∷ []) p h = record {
-          texts = text ∷ right.loaded ∷ second ∷ [];
-          accepted = accepted_on holds rule map tables right entries (λ one other text. refl, tt) text
-              (second ∷ []) p;
-          answered = scen_so map (Some tables) set (text ∷ right.loaded ∷ second ∷ []) lines status scenario
-              (scen_swap map None (Some tables) set lines status text scenario second [] (right.loaded ∷ [])
-              h);
-        }
+  scen_both : (scenario : List ℕ) → LeadBoth holds (call_with (Scen map (Some tables) scenario) set)
+      (call_with (Scen map None scenario) set)
+  unfolding IsAnswer
+  scen_both scenario =
+      leads_both (λ named. Scen map named scenario) (file_of kind.Scen scenario ∷ [])
+      (λ one other text. refl, tt) refl refl (λ named m t e. cc)
+      (λ one other lines status text before also more p h.
+      last_swap holds (text ∷ []) (file_of kind.Scen scenario) text before also more p (λ m second k. k) h)
 
   abbrev live_by : Option (List ℕ) → Call
   live_by named = call_with (Live map named) set
@@ -410,10 +310,10 @@ module _ (holds : List ℕ → Held) (map tables : List ℕ) (show : Show) (rule
 
   nothing_done : {A : Type 0} (named : Option (List ℕ)) (lines : List (List ℕ)) (status : ℕ)
       → IsOutput (live_by named) holds lines status → A
-  unfolding Answers
-  nothing_done named lines status p = absurd (none (asked_so (live_by named) p.texts lines status p.answered))
+  unfolding IsAnswer
+  nothing_done named lines status p = absurd (none p.answered)
     where
-      none : Answers (Live map named) set p.texts lines status → ⊥
+      none : IsAnswer (Live map named) set p.texts lines status → ⊥
       none h = h
 
   live_off : Leads holds (live_by (Some tables)) (live_by None)
@@ -438,11 +338,6 @@ module _ (holds : List ℕ → Held) (map tables : List ℕ) (show : Show) (rule
     ));
   }
 
--- both ways
-record LeadBoth (holds : List ℕ → Held) (call like : Call) : Type 0 where
-  off : Leads holds call like
-  on : Leads holds like call
-
 abbrev RightTables : (List ℕ → Held) → List ℕ → List ℕ → Settings → Type 0
 RightTables holds map tables set = (set.pick ≡ pick.Plus) × AreTablesOf holds set.rule map tables
 
@@ -456,16 +351,12 @@ both_lead : (holds : List ℕ → Held) (map tables : List ℕ) (call like : Cal
     → RightTables holds map tables call.settings → LeadBoth holds call like
 both_lead holds map tables _ _ (query sx sy gx gy set) right =
     subst (λ (s : Settings). LeadBoth holds (call_with (Query map (Some tables) sx sy gx gy) s)
-    (call_with (Query map None sx sy gx gy) s)) (as_plus set right.0) (record {
-      off = query_off holds map tables set.show set.rule right.1 sx sy gx gy;
-      on = query_on holds map tables set.show set.rule right.1 sx sy gx gy;
-    })
+    (call_with (Query map None sx sy gx gy) s)) (as_plus set right.0)
+    (query_both holds map tables set.show set.rule right.1 sx sy gx gy)
 both_lead holds map tables _ _ (solve script set) right =
     subst (λ (s : Settings). LeadBoth holds (call_with (Solve map (Some tables) script) s)
-    (call_with (Solve map None script) s)) (as_plus set right.0) (record {
-      off = solve_off holds map tables set.show set.rule right.1 script;
-      on = solve_on holds map tables set.show set.rule right.1 script;
-    })
+    (call_with (Solve map None script) s)) (as_plus set right.0)
+    (solve_both holds map tables set.show set.rule right.1 script)
 both_lead holds map tables _ _ (live set) right =
     subst (λ (s : Settings). LeadBoth holds (call_with (Live map (Some tables)) s)
     (call_with (Live map None) s)) (as_plus set right.0) (record {
@@ -474,10 +365,8 @@ both_lead holds map tables _ _ (live set) right =
     })
 both_lead holds map tables _ _ (scen scenario set) right =
     subst (λ (s : Settings). LeadBoth holds (call_with (Scen map (Some tables) scenario) s)
-    (call_with (Scen map None scenario) s)) (as_plus set right.0) (record {
-      off = scen_off holds map tables set.show set.rule right.1 scenario;
-      on = scen_on holds map tables set.show set.rule right.1 scenario;
-    })
+    (call_with (Scen map None scenario) s)) (as_plus set right.0)
+    (scen_both holds map tables set.show set.rule right.1 scenario)
 
 pub tables_same : (words others : List (List ℕ)) (call like : Call) (map tables : List ℕ)
     (holds : List ℕ → Held) (input : Option (List ℕ)) (outcome : Outcome)

@@ -3,8 +3,8 @@ use Rattle.std.proofs.Common.{◌≡◌, refl, ap, subst, ℕ, Bool, true, false
 use Rattle.std.specs.Prelude.{Option, Some, None, if◌then◌else◌, option_and_then}
 use Rattle.std.proofs.lemmas.Bool.{and_parts}
 use Rattle.word_list.specs.Calls.{fits}
-use Rattle.word_list.specs.Request.{Asked, Call, Query, Solve, Live, Scen}
-use Rattle.word_list.specs.Rows.{Row, asked_by, is_of, row_of}
+use Rattle.word_list.specs.Kinds.{is_of}
+use Rattle.word_list.specs.Request.{Asked, Call, Query, Solve, Live, Row, Scen, asked_by, row_of}
 use Rattle.word_list.specs.Settings.{all_follow, can_load, has_tables, is_complete, settings_of, tables_of}
 use Rattle.word_list.specs.declared.request.Pick.{Pick}
 use Rattle.word_list.specs.declared.request.Pick.TheVariants as pick
@@ -37,24 +37,11 @@ named_in other = None
 named_by : (c : Command) (words : List (List ℕ)) (tables : Option (List ℕ)) (set : Settings)
     → can_load tables set ≡ true → can_load (named_in (asked_by c words tables)) set ≡ true
 unfolding named_in
-named_by command.Help words tables set can = refl
-named_by command.Version words tables set can = refl
 named_by command.Query words tables set can = can
 named_by command.Solve words tables set can = can
 named_by command.Live words tables set can = can
 named_by command.Scen words tables set can = can
-named_by command.Judge words tables set can = refl
-named_by command.Prove words tables set can = refl
-named_by command.Check words tables set can = refl
-named_by command.Make words tables set can = refl
-named_by command.Drill words tables set can = refl
-named_by command.Draw words tables set can = refl
-named_by command.Costs words tables set can = refl
-named_by command.Tables words tables set can = refl
-named_by command.Boxes words tables set can = refl
-named_by command.Moves words tables set can = refl
-named_by command.Lengths words tables set can = refl
-named_by command.Problems words tables set can = refl
+named_by other words tables set can = refl
 
 call_or : Call → Option Call → Call
 call_or d None = d

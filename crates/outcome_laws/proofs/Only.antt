@@ -5,11 +5,12 @@ use Rattle.std.proofs.Common.{inl, inr}
 use Rattle.grid_moves.specs.declared.Corner.{Corner}
 use Rattle.io_edge.specs.Told.{Held, holding, absent, untold}
 use Rattle.io_edge.specs.Whole.{IsWhole}
+use Rattle.grid_moves.specs.Layers.{AreLayers}
+use Rattle.map_text.specs.Map.{Map}
 use Rattle.map_text.specs.Faults.{map_of}
 use Rattle.edit_replay.specs.Session.{SessionData}
 use Rattle.word_list.specs.Calls.{is_call}
-use Rattle.word_list.specs.Request.{Asked, Call, Help, Version, Query, Solve, Live, Scen, Judge, Prove, Check}
-use Rattle.word_list.specs.Request.{Make, Drill, Draw, Costs, Tables, Boxes, Moves, Lengths, Problems}
+use Rattle.word_list.specs.Request.{Asked, Call, Query, Solve, Live, Scen}
 use Rattle.word_list.specs.Rule.{IsBadWord}
 use Rattle.word_list.specs.Settings.{is_for_small_maps}
 use Rattle.word_list.specs.declared.request.Pick.{Pick}
@@ -19,26 +20,26 @@ use Rattle.word_list.specs.declared.request.Show.{Show}
 use Rattle.call_files.specs.FaultLines.{word_line}
 use Rattle.call_files.specs.Files.{AreAccepted, File, HasRefused, IsAccepted, file_of}
 use Rattle.call_files.specs.Kinds.{kind_for, limit_of}
+use Rattle.call_files.specs.Layered.{layers_on}
 use Rattle.call_files.specs.MapFiles.{map_files}
 use Rattle.call_files.specs.declared.kind.Extent.TheVariants as extent
 use Rattle.call_files.specs.declared.kind.Kind.TheVariants as kind
 use Rattle.jps_run.specs.Heard.{AnswerHeard}
-use Rattle.jps_run.specs.Session.{by_of}
+use Rattle.jps_run.specs.Session.{IsSessionOn, by_of}
 use Rattle.jps_run.specs.Who.{By, by_session, by_boxes, by_moves}
 use Rattle.outcome_laws.specs.Alike.{way_of}
-use Rattle.outcome_laws.proofs.Printed.{one_heard}
+use Rattle.outcome_laws.proofs.Kept.{are_layers-text}
+use Rattle.outcome_laws.proofs.OnMap.{one_heard_on}
 use Rattle.outcome_laws.specs.Files.{AreTold}
 use Rattle.outcome_laws.proofs.Files.{one_line, not_both}
 use Rattle.outcome_laws.proofs.Words.{one_bad_word, none_of_calls}
 use Rattle.edit_replay.specs.declared.engine.Engine.TheVariants as engine
-use Rattle.jps_run.specs.Calls.{call_with, files_of}
+use Rattle.jps_run.specs.Calls.{IsAnswer, call_with, files_of}
 use Rattle.outcome_laws.specs.Outcomes.{AsksForCosts, DifferInEngine, FilesAreTold, HasSmallMap, is_jump}
 use Rattle.jps_run.specs.Live.{AreHeard, OnLive}
 use Rattle.jps_run.specs.Outcome.{IsOutcome, IsOutput, Outcome, Spell, answered, bad_line}
 use Rattle.jps_run.specs.Outcome.{bad_text, bad_word, done}
-use Rattle.outcome_laws.proofs.Alike.{one_answer, one_cost_answer, ok_same, same_first, same_others}
-use Rattle.outcome_laws.proofs.Alike.{session_layers, sessions_alike}
-use Rattle.outcome_laws.proofs.Asked.{Answers, asked_so}
+use Rattle.outcome_laws.proofs.Alike.{one_answer, one_cost_answer, ok_same, picking, same_first, same_others}
 use Rattle.outcome_laws.proofs.SmallMaps.{AreAlike, same_alike, small_alike}
 
 -- what a call comes to, where its words are not refused
@@ -140,8 +141,6 @@ names_with files others file e = names_append files file ∙ ap (λ (ns : List (
 
 same_names : (asked : Asked) (set other : Settings)
     → names (files_of (call_with asked set)) ≡ names (files_of (call_with asked other))
-same_names Help set other = refl
-same_names Version set other = refl
 same_names (Query map tables sx sy gx gy) set other = same_map_names set other map tables
 same_names (Solve map tables script) set other =
     names_with (map_files set map tables) (map_files other map tables) (file_of kind.Script script)
@@ -150,18 +149,7 @@ same_names (Live map tables) set other = same_map_names set other map tables
 same_names (Scen map tables scen) set other =
     names_with (map_files set map tables) (map_files other map tables) (file_of kind.Scen scen)
     (same_map_names set other map tables)
-same_names (Judge map scen walks) set other = refl
-same_names (Prove map sx sy gx gy) set other = refl
-same_names (Check map cert) set other = refl
-same_names (Make seed w h percent) set other = refl
-same_names (Drill seed) set other = refl
-same_names (Draw map sx sy gx gy) set other = refl
-same_names (Costs map x y) set other = refl
-same_names (Tables map) set other = refl
-same_names (Boxes map x y) set other = refl
-same_names (Moves map x y) set other = refl
-same_names (Lengths map scen) set other = refl
-same_names (Problems map seed count) set other = refl
+same_names asked set other = refl
 
 -- nor for the files themselves, where engines take the same maps
 module _ (set other : Settings) (rule : set.rule ≡ other.rule)
@@ -174,26 +162,13 @@ module _ (set other : Settings) (rule : set.rule ≡ other.rule)
       ap (λ (corner : Corner). file_of kind.Map map ∷ file_of (kind.Tables corner) tables ∷ []) rule
 
   same_files : (asked : Asked) → files_of (call_with asked set) ≡ files_of (call_with asked other)
-  same_files Help = refl
-  same_files Version = refl
   same_files (Query map tables sx sy gx gy) = same_map_files map tables
   same_files (Solve map tables script) =
       ap (λ (files : List File). files ++ file_of kind.Script script ∷ []) (same_map_files map tables)
   same_files (Live map tables) = same_map_files map tables
   same_files (Scen map tables scen) =
       ap (λ (files : List File). files ++ file_of kind.Scen scen ∷ []) (same_map_files map tables)
-  same_files (Judge map scen walks) = refl
-  same_files (Prove map sx sy gx gy) = refl
-  same_files (Check map cert) = refl
-  same_files (Make seed w h percent) = refl
-  same_files (Drill seed) = refl
-  same_files (Draw map sx sy gx gy) = refl
-  same_files (Costs map x y) = refl
-  same_files (Tables map) = refl
-  same_files (Boxes map x y) = refl
-  same_files (Moves map x y) = refl
-  same_files (Lengths map scen) = refl
-  same_files (Problems map seed count) = refl
+  same_files asked = refl
 
 -- engines that come to answers in one way take the same maps
 is_small : By → Bool
@@ -233,8 +208,8 @@ module _ (holds : List ℕ → Held) (script : List ℕ) (call like : Call) (ali
   -- the answers of both calls on the same texts
   Same : Type 0
   Same = (texts lines same : List (List ℕ)) (status code : ℕ)
-      → Answers call.request call.settings texts lines status
-      → Answers call.request like.settings texts same code → (lines ≡ same) × (status ≡ code)
+      → IsAnswer call.request call.settings texts lines status
+      → IsAnswer call.request like.settings texts same code → (lines ≡ same) × (status ≡ code)
 
   HeardSame : Type 0
   HeardSame = (refusal also : Option (List ℕ)) (lines same : List (List ℕ))
@@ -245,22 +220,49 @@ module _ (holds : List ℕ → Held) (script : List ℕ) (call like : Call) (ali
       → IsOutput like holds same code → (lines ≡ same) × (status ≡ code)
   unfolding Same
   both_finished one lines same status code p q =
-      one p.texts lines same status code (asked_so call p.texts lines status p.answered)
-      (subst (λ (asked : Asked). Answers asked like.settings p.texts same code) (sym alike.request)
-      (subst (λ (texts : List (List ℕ)). Answers like.request like.settings texts same code)
-      (sym (one_list p.texts q.texts p.accepted q.accepted)) (asked_so like q.texts same code q.answered)))
+      one p.texts lines same status code p.answered
+      (subst (λ (asked : Asked). IsAnswer asked like.settings p.texts same code) (sym alike.request)
+      (subst (λ (texts : List (List ℕ)). IsAnswer like.request like.settings texts same code)
+      (sym (one_list p.texts q.texts p.accepted q.accepted)) q.answered))
 
   -- a call that reads the input has no answer by its files alone
   pub live_call : {A : Type 0} {K : SessionData → Show → Type 0} (c : Call) → c.request ≡ call.request
       → OnLive c holds K → (d : Call) → d.request ≡ call.request → (lines : List (List ℕ)) (status : ℕ)
       → IsOutput d holds lines status → A
-  unfolding Answers
+  unfolding IsAnswer
   live_call c e p d f lines status q = absurd (none
-      (subst (λ (asked : Asked). Answers asked d.settings q.texts lines status)
-      (f ∙ sym e ∙ ap (λ (k : Call). k.request) p.is) (asked_so d q.texts lines status q.answered)))
+      (subst (λ (asked : Asked). IsAnswer asked d.settings q.texts lines status)
+      (f ∙ sym e ∙ ap (λ (k : Call). k.request) p.is) q.answered))
     where
-      none : Answers (Live p.map p.tables) d.settings q.texts lines status → ⊥
+      none : IsAnswer (Live p.map p.tables) d.settings q.texts lines status → ⊥
       none h = h
+
+  -- two sessions that answer what comes in, on one map
+  pub record OnOneMap {K L : SessionData → Show → Type 0} (p : OnLive call holds K) (q : OnLive like holds L)
+      : Type 0 where
+    pub rule : p.settings.rule ≡ q.settings.rule
+    pub shown : p.settings.show ≡ q.settings.show
+    pub ways : way_of (by_of call.settings.pick) ≡ way_of (by_of like.settings.pick)
+        → way_of (by_of p.settings.pick) ≡ way_of (by_of q.settings.pick)
+    pub are : AreLayers (layers_on p.settings p.read)
+    pub is : IsSessionOn q.settings p.read q.session
+
+  pub on_one_map : {K L : SessionData → Show → Type 0} (p : OnLive call holds K) (q : OnLive like holds L)
+      → OnOneMap p q
+  on_one_map p q =
+      let map : p.read ≡ q.read = ok_same p.read q.read (map_of p.text) p.spelled
+      (ap map_of (same_first p.text q.text p.behind q.behind
+      (one_list (p.text ∷ p.behind) (q.text ∷ q.behind) p.accepted q.accepted)) ∙ q.spelled) in
+      record {
+        rule = ap (λ (c : Call). c.settings.rule) (sym p.is) ∙ alike.rule
+            ∙ ap (λ (c : Call). c.settings.rule) q.is;
+        shown = ap (λ (c : Call). c.settings.show) (sym p.is) ∙ alike.show
+            ∙ ap (λ (c : Call). c.settings.show) q.is;
+        ways = λ way. ap (λ (c : Call). way_of (by_of c.settings.pick)) (sym p.is) ∙ way
+            ∙ ap (λ (c : Call). way_of (by_of c.settings.pick)) q.is;
+        are = are_layers-text p.settings p.text p.read p.spelled;
+        is = subst (λ (m : Map). IsSessionOn q.settings m q.session) (sym map) q.answers;
+      }
 
   both_same : AreAlike holds (files_of call) (files_of like) → Same → HeardSame → (one other : Outcome)
       → CallComes call holds (Some script) one → CallComes like holds (Some script) other → one ≡ other
@@ -310,40 +312,27 @@ module _ (holds : List ℕ → Held) (script : List ℕ) (call like : Call) (ali
       line_or None = []
       line_or (Some text) = text
 
+  -- an answer by the settings of the second call is one by those of the first with its engine
+  so_picked : (texts lines : List (List ℕ)) (status : ℕ)
+      → IsAnswer call.request like.settings texts lines status
+      → IsAnswer call.request (picking call.settings like.settings.pick) texts lines status
+  so_picked texts lines status p = rw (alike.show, alike.rule) p
+
   -- where engines come to answers in one way
   module _ (way : way_of (by_of call.settings.pick) ≡ way_of (by_of like.settings.pick)) where
     one_way : Same
     unfolding Same
     one_way texts lines same status code p q =
-        one_answer call.settings like.settings alike.rule call.request texts lines same status code
-        alike.show way p q
+        one_answer call.settings like.settings.pick call.request texts lines same status code way p
+        (so_picked texts same code q)
 
     heard_one_way : HeardSame
     unfolding HeardSame
     heard_one_way refusal also lines same p q =
-        one_heard p.session q.session p.settings.show script refusal also lines same
-        (session_layers p.settings q.settings rule shown ways p.text p.read p.spelled p.session p.answers)
-        (sessions_alike p.settings q.settings rule shown ways p.read q.read one_map p.session q.session
-        p.answers
-        q.answers) p.known
-        (subst (λ (show : Show). AnswerHeard q.session show (Some script) also same) (sym shown) q.known)
-      where
-        rule : p.settings.rule ≡ q.settings.rule
-        rule = ap (λ (c : Call). c.settings.rule) (sym p.is) ∙ alike.rule
-            ∙ ap (λ (c : Call). c.settings.rule) q.is
-
-        shown : p.settings.show ≡ q.settings.show
-        shown = ap (λ (c : Call). c.settings.show) (sym p.is) ∙ alike.show
-            ∙ ap (λ (c : Call). c.settings.show) q.is
-
-        ways : way_of (by_of p.settings.pick) ≡ way_of (by_of q.settings.pick)
-        ways = ap (λ (c : Call). way_of (by_of c.settings.pick)) (sym p.is) ∙ way
-            ∙ ap (λ (c : Call). way_of (by_of c.settings.pick)) q.is
-
-        one_map : p.read ≡ q.read
-        one_map = ok_same p.read q.read (map_of p.text) p.spelled
-            (ap map_of (same_first p.text q.text p.behind q.behind
-            (one_list (p.text ∷ p.behind) (q.text ∷ q.behind) p.accepted q.accepted)) ∙ q.spelled)
+        let o = on_one_map p q in
+        one_heard_on p.settings q.settings p.read o.rule o.are (o.ways way) p.session q.session p.answers o.is
+        p.settings.show script refusal also lines same p.known
+        (subst (λ (show : Show). AnswerHeard q.session show (Some script) also same) (sym o.shown) q.known)
 
     files_one_way : files_of call ≡ files_of like
     files_one_way =
@@ -362,8 +351,8 @@ module _ (holds : List ℕ → Held) (script : List ℕ) (call like : Call) (ali
     one_cost : Same
     unfolding Same
     one_cost texts lines same status code p q =
-        one_cost_answer call.settings like.settings alike.rule call.request texts lines same status code
-        alike.show costs p q
+        one_cost_answer call.settings like.settings.pick call.request texts lines same status code costs p
+        (so_picked texts same code q)
 
     not_live : {A : Type 0} {K : SessionData → Show → Type 0} (c : Call) → c.request ≡ call.request
         → OnLive c holds K → A

@@ -18,7 +18,7 @@ use Rattle.jps_run.specs.Who.{Who, who_is}
 use Rattle.jps_run.specs.Answers.{AreAnswers, IsReplyLine}
 use Rattle.jps_run.specs.Drill.{AreDrilled, AreFindings}
 use Rattle.jps_run.specs.Pictures.{IsDrawing}
-use Rattle.jps_run.specs.declared.replies.drill.Finding.{Finding}
+use Rattle.jps_run.specs.declared.replies.findings.Finding.{Finding}
 use Rattle.jps_run.specs.Heard.{AnswerHeard, AnswerTaken}
 use Rattle.jps_run.specs.Rows.{AreRows}
 use Rattle.jps_run.specs.declared.replies.row.Row.{Row}

@@ -6,8 +6,8 @@ use Rattle.std.specs.Prelude.{Option, Some, None, is_some, slice_get}
 use Rattle.io_edge.specs.Told.{Held, holding}
 use Rattle.io_edge.specs.Whole.{IsLonger, IsWhole}
 use Rattle.word_list.specs.Calls.{call_of, is_call}
-use Rattle.word_list.specs.Request.{Asked, Call}
-use Rattle.word_list.specs.Rows.{Row, asked_by, is_of, row_of}
+use Rattle.word_list.specs.Kinds.{is_of}
+use Rattle.word_list.specs.Request.{Asked, Call, Row, asked_by, row_of}
 use Rattle.word_list.specs.Rule.{IsBadWord}
 use Rattle.word_list.specs.Settings.{is_complete, may_follow, settings_of, tables_of}
 use Rattle.word_list.specs.Steps.{AreOf, AreSettled, is_one_of, one_follows}

@@ -8,8 +8,8 @@ use Rattle.edit_replay.specs.declared.reply.Reply.TheVariants as reply
 use Rattle.scen_text.specs.declared.entry.Entry.{Entry}
 use Rattle.jps_run.specs.Who.{Who}
 use Rattle.jps_run.specs.Drill.{finding_of}
-use Rattle.jps_run.specs.declared.replies.drill.Finding.{Finding}
-use Rattle.jps_run.specs.declared.replies.drill.Finding.TheVariants as finding
+use Rattle.jps_run.specs.declared.replies.findings.Finding.{Finding}
+use Rattle.jps_run.specs.declared.replies.findings.Finding.TheVariants as finding
 use Rattle.jps_run.specs.Rows.{AreRows, IsRow, scale, replied, has_sides, row_of}
 use Rattle.jps_run.specs.declared.replies.row.Row.{Row}
 use Rattle.jps_run.specs.declared.replies.row.Row.TheVariants as row

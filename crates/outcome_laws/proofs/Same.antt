@@ -10,8 +10,8 @@ use Rattle.edit_replay.specs.declared.reply.Reply.TheVariants as reply
 use Rattle.jps_run.specs.Session.{session_after}
 use Rattle.jps_run.specs.Who.{By, Who, by_session, by_boxes, by_moves, who_is, IsReplyBy}
 use Rattle.jps_run.specs.Drill.{finding_of}
-use Rattle.jps_run.specs.declared.replies.drill.Finding.{Finding}
-use Rattle.jps_run.specs.declared.replies.drill.Finding.TheVariants as finding
+use Rattle.jps_run.specs.declared.replies.findings.Finding.{Finding}
+use Rattle.jps_run.specs.declared.replies.findings.Finding.TheVariants as finding
 use Rattle.outcome_laws.specs.Costs.{Gist, gist_of}
 use Rattle.outcome_laws.specs.Costs as gist
 use Rattle.outcome_laws.specs.Oneness.{is_by_jumps}

@@ -8,8 +8,7 @@ use Rattle.io_edge.specs.Whole.{IsLonger, IsWhole}
 use Rattle.map_text.specs.Map as maps
 use Rattle.map_text.specs.Faults.{map_of}
 use Rattle.map_text.specs.declared.fault.MapFault.{MapFault}
-use Rattle.word_list.specs.Request.{Asked, Help, Version, Query, Solve, Live, Scen, Judge, Prove, Check, Make}
-use Rattle.word_list.specs.Request.{Drill, Draw, Costs, Tables, Boxes, Moves, Lengths, Problems}
+use Rattle.word_list.specs.Request.{Asked, Scen}
 use Rattle.word_list.specs.Settings.{is_for_small_maps}
 use Rattle.word_list.specs.declared.request.Settings.{Settings}
 use Rattle.call_files.specs.FaultLines.{large_line, long_line, map_line}
@@ -153,20 +152,4 @@ small_alike holds set other rule (Scen map (Some tables) scen) told small =
     same_alike holds (files_of (call_with (Scen map (Some tables) scen) set))
     (files_of (call_with (Scen map (Some tables) scen) other)) (ap (λ (corner : Corner). file_of kind.Map map
     ∷ file_of (kind.Tables corner) tables ∷ file_of kind.Scen scen ∷ []) rule)
-small_alike holds set other rule Help told small = absurd small
-small_alike holds set other rule Version told small = absurd small
-small_alike holds set other rule (Query map tables sx sy gx gy) told small = absurd small
-small_alike holds set other rule (Solve map tables script) told small = absurd small
-small_alike holds set other rule (Live map tables) told small = absurd small
-small_alike holds set other rule (Judge map scen walks) told small = absurd small
-small_alike holds set other rule (Prove map sx sy gx gy) told small = absurd small
-small_alike holds set other rule (Check map cert) told small = absurd small
-small_alike holds set other rule (Make seed w h percent) told small = absurd small
-small_alike holds set other rule (Drill seed) told small = absurd small
-small_alike holds set other rule (Draw map sx sy gx gy) told small = absurd small
-small_alike holds set other rule (Costs map x y) told small = absurd small
-small_alike holds set other rule (Tables map) told small = absurd small
-small_alike holds set other rule (Boxes map x y) told small = absurd small
-small_alike holds set other rule (Moves map x y) told small = absurd small
-small_alike holds set other rule (Lengths map scen) told small = absurd small
-small_alike holds set other rule (Problems map seed count) told small = absurd small
+small_alike holds set other rule asked told small = absurd small

@@ -7,9 +7,8 @@ use Rattle.std.proofs.lemmas.Bool.{and_right}
 use Rattle.std.proofs.lemmas.List.{append-nil}
 use Rattle.word_list.specs.declared.request.Settings.{Settings}
 use Rattle.word_list.specs.declared.request.BadWord.{BadWord}
-use Rattle.word_list.specs.Request.{Asked, Call}
+use Rattle.word_list.specs.Request.{Asked, Call, Row, asked_by, row_of}
 use Rattle.word_list.specs.Settings.{are_settings, can_load, is_complete, settings_of, tables_of}
-use Rattle.word_list.specs.Rows.{Row, row_of, asked_by}
 use Rattle.word_list.specs.Calls.{fits, call_of, is_call}
 use Rattle.word_list.specs.Rule.{Begins, EndsAfter, StopsAt, IsBadWord}
 use Rattle.word_list.specs.Steps.{AreOf, AreSettled}

@@ -8,7 +8,7 @@ use Rattle.word_list.specs.declared.rows.Kind.{Kind}
 use Rattle.word_list.specs.declared.rows.Kind.TheVariants.{File, Number, Seed, Side, Percent, Count}
 use Rattle.word_list.specs.declared.settings.Family.{Family}
 use Rattle.word_list.specs.Settings.{are_settings}
-use Rattle.word_list.specs.Rows.{is_of}
+use Rattle.word_list.specs.Kinds.{is_of}
 use Rattle.word_list.specs.Calls.{fits}
 use Rattle.word_list.specs.Rule.{Begins, EndsAfter}
 use Rattle.word_list.specs.Steps.{AreOf}

@@ -1,18 +1,21 @@
 -- A call picks an engine of small maps only where its command's row allows one.
-use Rattle.std.proofs.Common.{◌≡◌, ℕ, Bool, true, false, List, [], ◌∷◌, ◌++◌, length, drop, refl, ap, subst}
-use Rattle.std.specs.Prelude.{Option, Some, None, unwrap_or, option_and_then, bytes_eq, codes, if◌then◌else◌}
-use Rattle.std.specs.List.{fold}
-use Rattle.std.proofs.lemmas.Bool.{and_parts}
+use Rattle.std.proofs.Common.{◌≡◌, ◌∙◌, ℕ, Bool, true, false, not, ◌||◌, List, [], ◌∷◌, ◌++◌, length, drop}
+use Rattle.std.proofs.Common.{refl, sym, ap, subst}
+use Rattle.std.specs.Prelude.{Option, Some, None, unwrap_or, option_and_then, bytes_eq, if◌then◌else◌}
+use Rattle.std.specs.List.{fold, list_all}
+use Rattle.std.proofs.lemmas.Bool.{and_parts, or_parts}
 use Rattle.word_list.specs.declared.request.Pick.{Pick}
 use Rattle.word_list.specs.declared.request.Pick.TheVariants.{Plain, Jps, Block, Plus, Boxes, Moves}
 use Rattle.word_list.specs.declared.request.Settings.{Settings}
+use Rattle.word_list.specs.declared.rows.Command.{Command}
+use Rattle.word_list.specs.declared.rows.Command.TheVariants as command
 use Rattle.word_list.specs.declared.rows.Kind.{Kind}
 use Rattle.word_list.specs.declared.settings.Family.{Family}
 use Rattle.word_list.specs.declared.settings.Setting.{Setting}
 use Rattle.word_list.specs.declared.settings.Setting.TheVariants as setting
 use Rattle.word_list.specs.Calls.{fits, call_of}
-use Rattle.word_list.specs.Request.{Call}
-use Rattle.word_list.specs.Rows.{Row, row_of, is_of, asked_by}
+use Rattle.word_list.specs.Kinds.{is_of}
+use Rattle.word_list.specs.Request.{Call, Named, Row, asked_by, row_in, row_of, rows}
 use Rattle.word_list.specs.Serving.{IsServed, takes_small_maps}
 use Rattle.word_list.specs.Settings.{setting_of, is_for_small_maps, is_allowed, may_follow, all_follow}
 use Rattle.word_list.specs.Settings.{are_settings, settings_with, tables_of, default_settings}
@@ -67,6 +70,36 @@ record IsServing (row : Row) : Type 0 where
       → takes_small_maps (asked_by row.command words tables) ≡ false
       → BarSmall row.allows
 
+-- which words a command has is no matter for whether they may
+same_takes : (c : Command) (words : List (List ℕ)) (tables : Option (List ℕ))
+    → takes_small_maps (asked_by c words tables) ≡ takes_small_maps (asked_by c [] None)
+same_takes command.Query words tables = refl
+same_takes other words tables = refl
+
+-- so each row of the table does, by computing
+allows_small : Row → Bool
+allows_small row = is_allowed row.allows (Some (setting.Engine Boxes))
+    || is_allowed row.allows (Some (setting.Engine Moves))
+
+may_allow : Named → Bool
+may_allow one = not (allows_small one.row) || takes_small_maps (asked_by one.row.command [] None)
+
+serving : (one : Named) → may_allow one ≡ true → IsServing one.row
+unfolding may_allow allows_small
+serving one may = record {
+  bar = λ words tables no.
+      let is = same_takes one.row.command words tables in
+      let barred = or_parts (is_allowed one.row.allows (Some (setting.Engine Boxes)))
+      (is_allowed one.row.allows (Some (setting.Engine Moves)))
+      (not_small (allows_small one.row) (takes_small_maps (asked_by one.row.command [] None)) may
+      (sym is ∙ no)) in
+      bars one.row.allows barred.0 barred.1;
+}
+  where
+    not_small : (small takes : Bool) → not small || takes ≡ true → takes ≡ false → small ≡ false
+    not_small false takes may never = refl
+    not_small true takes may never = absurd (cc)
+
 -- the row of a name is this one, or one behind it
 either : (b : Bool) (row : Row) (others : Option Row) (one : Row) → IsServing row
     → (others ≡ Some one → IsServing one) → (if b then Some row else others) ≡ Some one → IsServing one
@@ -74,31 +107,17 @@ either true row others one here behind e =
     subst (λ (r : Row). IsServing r) (ap (λ (o : Option Row). unwrap_or o row) e) here
 either false row others one here behind e = behind e
 
-barred : (row : Row) → is_allowed row.allows (Some (setting.Engine Boxes)) ≡ false
-    → is_allowed row.allows (Some (setting.Engine Moves)) ≡ false → IsServing row
-barred row boxes moves = record { bar = λ words tables no. bars row.allows boxes moves }
+serves_in : (all : List Named) (name : List ℕ) (row : Row) → list_all may_allow all ≡ true
+    → row_in all name ≡ Some row → IsServing row
+serves_in [] name row may e = absurd (cc)
+serves_in (one ∷ others) name row may e =
+    let parts = and_parts (may_allow one) (list_all may_allow others) may in
+    either (bytes_eq name one.name) one.row (row_in others name) row (serving one parts.0)
+    (serves_in others name row parts.1) e
 
 row_serves : (name : List ℕ) (row : Row) → row_of name ≡ Some row → IsServing row
-row_serves name row e =
-    either (bytes_eq name (codes "--help")) _ _ row (barred _ refl refl)
-    (either (bytes_eq name (codes "--version")) _ _ row (barred _ refl refl)
-    (either (bytes_eq name (codes "query")) _ _ row (record { bar = λ words tables no. absurd (cc) })
-    (either (bytes_eq name (codes "solve")) _ _ row (barred _ refl refl)
-    (either (bytes_eq name (codes "live")) _ _ row (barred _ refl refl)
-    (either (bytes_eq name (codes "scen")) _ _ row (record { bar = λ words tables no. absurd (cc) })
-    (either (bytes_eq name (codes "judge")) _ _ row (barred _ refl refl)
-    (either (bytes_eq name (codes "prove")) _ _ row (barred _ refl refl)
-    (either (bytes_eq name (codes "check")) _ _ row (barred _ refl refl)
-    (either (bytes_eq name (codes "make")) _ _ row (barred _ refl refl)
-    (either (bytes_eq name (codes "drill")) _ _ row (barred _ refl refl)
-    (either (bytes_eq name (codes "draw")) _ _ row (barred _ refl refl)
-    (either (bytes_eq name (codes "costs")) _ _ row (barred _ refl refl)
-    (either (bytes_eq name (codes "tables")) _ _ row (barred _ refl refl)
-    (either (bytes_eq name (codes "boxes")) _ _ row (barred _ refl refl)
-    (either (bytes_eq name (codes "moves")) _ _ row (barred _ refl refl)
-    (either (bytes_eq name (codes "lengths")) _ _ row (barred _ refl refl)
-    (either (bytes_eq name (codes "problems")) _ _ row (barred _ refl refl)
-    (λ no. absurd (cc))))))))))))))))))) e
+unfolding may_allow allows_small
+row_serves name row e = serves_in rows name row refl e
 
 same_call : (one other : Call) → Some one ≡ Some other → one ≡ other
 same_call one other e = ap (λ (o : Option Call). unwrap_or o one) e

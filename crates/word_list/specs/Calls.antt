@@ -3,9 +3,9 @@ use Rattle.std.specs.Prelude.{ℕ, Bool, false, List, [], ◌∷◌, length, dro
 use Rattle.std.specs.Prelude.{Option, Some, None, option_and_then}
 use Rattle.word_list.specs.declared.rows.Kind.{Kind}
 use Rattle.word_list.specs.declared.settings.Family.{Family}
-use Rattle.word_list.specs.Request.{Call}
+use Rattle.word_list.specs.Request.{Call, asked_by, row_of}
 use Rattle.word_list.specs.Settings.{are_settings, settings_of, tables_of}
-use Rattle.word_list.specs.Rows.{is_of, asked_by, row_of}
+use Rattle.word_list.specs.Kinds.{is_of}
 
 -- whether the words are a word of each kind and then settings
 abbrev pub fits : List Kind → List Family → List (List ℕ) → Bool

@@ -1,6 +1,6 @@
-pub mod Request
 pub mod Settings
-pub mod Rows
+pub mod Kinds
+pub mod Request
 pub mod Calls
 pub mod Serving
 pub mod Rule

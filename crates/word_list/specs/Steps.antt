@@ -4,7 +4,7 @@ use Rattle.std.specs.Prelude.{Option, Some, None}
 use Rattle.word_list.specs.declared.settings.Family.{Family}
 use Rattle.word_list.specs.declared.rows.Kind.{Kind}
 use Rattle.word_list.specs.Settings.{may_follow}
-use Rattle.word_list.specs.Rows.{is_of}
+use Rattle.word_list.specs.Kinds.{is_of}
 
 -- whether there is a kind, and a word that is of it
 abbrev pub is_one_of : Option Kind → Option (List ℕ) → Bool

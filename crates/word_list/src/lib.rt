@@ -41,4 +41,5 @@ mod rows;
 mod settings;
 
 pub use reading::{first_bad, read_words};
-pub use request::{BadWord, Pick, Request, Settings, Show};
+pub use request::{BadWord, Pick, Settings, Show};
+pub use rows::Request;

@@ -6,8 +6,8 @@ ghost use Rattle.word_list.specs.Calls.{call_of, is_call};
 ghost use Rattle.word_list.specs.Rule.{IsBadWord, StopsAt};
 ghost use Rattle.word_list.specs.Steps.{AreOf};
 
-use crate::request::{BadWord, Request, Settings};
-use crate::rows::{Kind, request, row_named};
+use crate::request::{BadWord, Settings};
+use crate::rows::{Kind, Request, request_of, row_named};
 use crate::settings::{can_load, chosen, settled, table_file};
 
 /// The call that the words spell, or the number of the word that no call has there.
@@ -77,7 +77,7 @@ fn read_after<'a>(name: &str, words: &'a [String]) -> Result<(Request<'a>, Setti
     if more < rest.len() || !can_load(tables, settings) {
         return Err(BadWord((taken + more) as u32 + 2));
     }
-    Ok((request(row.command, words, tables), settings))
+    Ok((request_of(row.command, words, tables), settings))
 }
 
 /// How many of the words are of these kinds, one after the other.

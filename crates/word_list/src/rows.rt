@@ -1,27 +1,26 @@
-//! The table of commands.
+//! The table of commands, and the requests that their words make.
 
 ghost use Rattle.std.specs.Prelude.{◌≡◌, ◌≤◌, true, length, map, string_bytes, Some, IfSome, slice_get};
 ghost use Rattle.std.specs.Option.{option_copied, option_map};
 ghost use Rattle.word_list.specs.declared.request.Settings.{Settings};
-ghost use Rattle.word_list.specs.Request.{IsSound, asked};
+ghost use Rattle.word_list.specs.Request.{IsSound, asked, asked_by, row_data, row_of};
 ghost use Rattle.word_list.specs.Settings.{can_load};
 ghost use Rattle.word_list.specs.Steps.{is_one_of};
-ghost use Rattle.word_list.specs.Rows.{row_of, row_data, is_of, word_at, number_at as spelled_at, seed_at as spelled_seed_at, side_of as spelled_side, side_at as spelled_side_at, percent_of as spelled_percent, percent_at as spelled_percent_at, count_of as spelled_count, count_at as spelled_count_at, asked_by};
+ghost use Rattle.word_list.specs.Kinds.{is_of, word_at, number_at as spelled_at, seed_at as spelled_seed_at, side_of as spelled_side, side_at as spelled_side_at, percent_of as spelled_percent, percent_at as spelled_percent_at, count_of as spelled_count, count_at as spelled_count_at};
 
-use crate::request::Request;
 use crate::settings::Family;
 use text_line::long_number;
 
 /// A command.
 #[derive(Clone, Copy)]
 pub enum Command {
-    Help,
-    Version,
     Query,
     Solve,
     Live,
     Scen,
     Judge,
+    Lengths,
+    Problems,
     Prove,
     Check,
     Make,
@@ -31,8 +30,117 @@ pub enum Command {
     Tables,
     Boxes,
     Moves,
-    Lengths,
-    Problems,
+    Help,
+    Version,
+}
+
+/// A request, with the names of files as they stand among the words. Where a request may name a table file,
+/// `tables` is its name: the session then begins with the tables of that file.
+#[derive(Clone, Copy)]
+pub enum Request<'a> {
+    /// How the program is called.
+    Help,
+    /// The program's name and version.
+    Version,
+    /// A least walk on the map between two cells, each by its column and its row from 0.
+    Query {
+        map: &'a str,
+        tables: Option<&'a str>,
+        sx: u32,
+        sy: u32,
+        gx: u32,
+        gy: u32,
+    },
+    /// What each command of the script does on the map.
+    Solve {
+        map: &'a str,
+        tables: Option<&'a str>,
+        script: &'a str,
+    },
+    /// What each command of a script that comes in does on the map.
+    Live {
+        map: &'a str,
+        tables: Option<&'a str>,
+    },
+    /// How the listed lengths of the scenario agree with the least ones on the map.
+    Scen {
+        map: &'a str,
+        tables: Option<&'a str>,
+        scen: &'a str,
+    },
+    /// How the walks that another program tells for the scenario are judged by the least ones on the
+    /// map.
+    Judge {
+        map: &'a str,
+        scen: &'a str,
+        walks: &'a str,
+    },
+    /// A certificate of the least cost of the walks on the map between two cells, or that there is
+    /// none.
+    Prove {
+        map: &'a str,
+        sx: u32,
+        sy: u32,
+        gx: u32,
+        gy: u32,
+    },
+    /// Whether the certificate proves what it claims on the map.
+    Check {
+        map: &'a str,
+        cert: &'a str,
+    },
+    /// The map of a seed with these sides, 1 to 4096, of whose cells so many percent are blocked.
+    Make {
+        seed: u64,
+        w: u16,
+        h: u16,
+        percent: u8,
+    },
+    /// What the commands of a seed come to on the map of the seed.
+    Drill {
+        seed: u64,
+    },
+    /// A picture of a least walk on the map between two cells.
+    Draw {
+        map: &'a str,
+        sx: u32,
+        sy: u32,
+        gx: u32,
+        gy: u32,
+    },
+    /// The least costs on the map from a cell to each cell.
+    Costs {
+        map: &'a str,
+        x: u32,
+        y: u32,
+    },
+    /// The tables of the map's two grids, as bytes.
+    Tables {
+        map: &'a str,
+    },
+    /// The goal boxes of a cell, one for each direction.
+    Boxes {
+        map: &'a str,
+        x: u32,
+        y: u32,
+    },
+    /// The first moves from a cell to each cell, in runs.
+    Moves {
+        map: &'a str,
+        x: u32,
+        y: u32,
+    },
+    /// The scenario with the least lengths on the map.
+    Lengths {
+        map: &'a str,
+        scen: &'a str,
+    },
+    /// A scenario of so many entries, 1 to 100000, between cells of the map that come from a seed.
+    Problems {
+        map: &'a str,
+        seed: u64,
+        count: u32,
+    },
 }
 
 /// The side of a map that the word spells, if it is one: a number from 1 to 4096.
@@ -125,8 +233,6 @@ pub fn row_named(name: &str) -> Option<Row>
     use Family::{Counts, Drawing, Engine, Rule, Show, SmallMap, TableFile};
     use Kind::{Count, File, Number, Percent, Seed, Side};
     let (command, takes, allows): (Command, &[Kind], &[Family]) = match name {
-        "--help" => (Command::Help, &[], &[]),
-        "--version" => (Command::Version, &[], &[]),
         "query" => (
             Command::Query,
             &[File, Number, Number, Number, Number],
@@ -144,6 +250,8 @@ pub fn row_named(name: &str) -> Option<Row>
             &[Engine, SmallMap, TableFile, Counts, Rule],
         ),
         "judge" => (Command::Judge, &[File, File, File], &[Rule]),
+        "lengths" => (Command::Lengths, &[File, File], &[Rule]),
+        "problems" => (Command::Problems, &[File, Seed, Count], &[Rule]),
         "prove" => (
             Command::Prove,
             &[File, Number, Number, Number, Number],
@@ -161,8 +269,8 @@ pub fn row_named(name: &str) -> Option<Row>
         "tables" => (Command::Tables, &[File], &[Rule]),
         "boxes" => (Command::Boxes, &[File, Number, Number], &[Rule]),
         "moves" => (Command::Moves, &[File, Number, Number], &[Rule]),
-        "lengths" => (Command::Lengths, &[File, File], &[Rule]),
-        "problems" => (Command::Problems, &[File, Seed, Count], &[Rule]),
+        "--help" => (Command::Help, &[], &[]),
+        "--version" => (Command::Version, &[], &[]),
         _ => return None,
     };
     Some(Row {
@@ -174,7 +282,7 @@ pub fn row_named(name: &str) -> Option<Row>
 
 /// What the command asks for by the words after its name, which are of its kinds, and by the name of the
 /// table file that its settings tell.
-pub fn request<'a>(command: Command, words: &'a [String], tables: Option<&'a str>) -> Request<'a>
+pub fn request_of<'a>(command: Command, words: &'a [String], tables: Option<&'a str>) -> Request<'a>
     ensures asked { asked result ≡ asked_by command (map string_bytes words.now) (option_copied tables.entry) }
     ensures sound { (set : Settings) → can_load (option_copied tables.entry) set ≡ true → IsSound result set }
 {

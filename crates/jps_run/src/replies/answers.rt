@@ -2,7 +2,7 @@
 
 ghost use Rattle.std.specs.Prelude.{OnOk};
 ghost use Rattle.jps_run.specs.Answering.{PutsAnswer, GoesOn, IsSolved};
-ghost use Rattle.jps_run.specs.Counts.{RoseForCommand, RoseForCommands};
+ghost use Rattle.jps_run.specs.Rising.{RoseForCommand, RoseForCommands};
 ghost use Rattle.line_work.specs.Sending.{SendsWhole};
 
 use crate::NoMemory;

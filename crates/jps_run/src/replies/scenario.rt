@@ -4,7 +4,7 @@ ghost use Rattle.std.specs.Prelude.{◌≡◌, [], IfOk, OnOk};
 ghost use Rattle.scen_text.specs.Lengths.{IsKept};
 ghost use Rattle.edit_replay.specs.Replies.{IsShort, answer_of};
 ghost use Rattle.jps_run.specs.Answerers.{CanAnswer, who_of};
-ghost use Rattle.jps_run.specs.Entries.{RoseForEntries, RoseForEntry};
+ghost use Rattle.jps_run.specs.Rising.{RoseForEntries, RoseForEntry};
 ghost use Rattle.jps_run.specs.Judging.{IsJudged};
 ghost use Rattle.jps_run.specs.Rows as rows;
 ghost use Rattle.line_work.specs.Sending.{SendsWhole};
@@ -28,13 +28,13 @@ use word_list::Show;
 
 /// What judges a scenario's entries in order by the one who answers, and the counts of their rows.
 #[derive(Drop)]
-pub struct Judge {
+pub struct Scen {
     pub answerer: Answerer,
     pub show: Show,
     pub tally: Tally,
 }
 
-impl Job for Judge {
+impl Job for Scen {
     ghost use Rattle.std.specs.Prelude.{true};
     ghost use Rattle.scen_text.specs.Lengths.{IsKept};
     ghost use Rattle.jps_run.specs.Judging.{HasJudged, HasRoom, HaveCounted, IsJudged};
@@ -120,7 +120,7 @@ fn row_of<L: Ledger>(
 /// Judges the entries in order by a judge who has judged none yet, and sums their rows up.
 pub fn write_rows<O: Sink, L: Ledger>(
     alloc: Global,
-    mut job: Judge,
+    mut job: Scen,
     entries: Vec<Entry>,
     out: &mut O,
     steps: &mut Steps<L>,

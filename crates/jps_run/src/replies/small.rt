@@ -5,14 +5,14 @@ ghost use Rattle.edit_replay.specs.Replies.{IsRightOn};
 ghost use Rattle.first_moves.specs.Row.{AreMoves};
 ghost use Rattle.goal_boxes.specs.Stored.{HoldsBoxes};
 ghost use Rattle.grid_moves.specs.Grid.{is_free};
-ghost use Rattle.jps_run.specs.Answerers.{AreEndsOn, IsUnsearched};
+ghost use Rattle.jps_run.specs.Answerers.{AreEndsOn, IsUnsearched, reply_with};
 ghost use Rattle.jps_run.specs.Who.{IsBoxedReply, IsLedReply, IsReplyBy, by_boxes, by_moves};
 
 use crate::NoMemory;
 use cell_lines::Ends;
 use edit_replay::Reply;
 use first_moves::{Moves, follow_by_pass};
-use goal_boxes::{Boxes, Found, boxed_query, boxed_search};
+use goal_boxes::{Boxes, boxed_query, boxed_search};
 use grid_moves::{Cell, Grid, Layers};
 use path_points::Walk;
 use plain_search::Taken;
@@ -44,6 +44,20 @@ pub fn ends_on(alloc: Global, layers: &Layers, ends: Ends) -> Result<(Cell, Cell
     Ok((from, to))
 }
 
+// The reply of what was found between free cells.
+fn reply_of(walk: Option<Walk>, taken: Taken) -> Reply
+    ensures { result ≡ reply_with walk taken }
+{
+    match walk {
+        Some(Walk { points, cost }) => Reply::Walk {
+            points,
+            cost,
+            taken,
+        },
+        None => Reply::None { taken },
+    }
+}
+
 /// The reply of the boxed run between free cells of a grid, by its boxes.
 pub fn search_boxed(
     alloc: Global,
@@ -58,15 +72,8 @@ pub fn search_boxed(
     ensures right { IfOk result (IsRightOn grid.now from to) }
     ensures run { IfOk result (IsBoxedReply grid.now from to) }
 {
-    let Found { walk, taken } = boxed_search(alloc, grid, boxes, from, to)?;
-    match walk {
-        Some(Walk { points, cost }) => Ok(Reply::Walk {
-            points,
-            cost,
-            taken,
-        }),
-        None => Ok(Reply::None { taken }),
-    }
+    let found = boxed_search(alloc, grid, boxes, from, to)?;
+    Ok(reply_of(found.walk, found.taken))
 }
 
 /// The reply of the walk of first moves between free cells of a small grid, by its first moves.
@@ -87,14 +94,8 @@ pub fn follow_moves<L: Ledger>(
     ensures later { OnOk result (steps.old ≤ steps.new) }
 {
     let taken = Taken::new(alloc);
-    match moves.follow(alloc, grid, from, to, steps)? {
-        Some(Walk { points, cost }) => Ok(Reply::Walk {
-            points,
-            cost,
-            taken,
-        }),
-        None => Ok(Reply::None { taken }),
-    }
+    let walk = moves.follow(alloc, grid, from, to, steps)?;
+    Ok(reply_of(walk, taken))
 }
 
 // The reply of the boxed run with no boxes at hand: a pass for each taken cell, at most.
@@ -114,15 +115,8 @@ fn search_alone<L: Ledger>(
     ensures run { IfOk result (IsBoxedReply grid.now from to) }
 {
     let mut passes = Steps::<L>::new(blank);
-    let Found { walk, taken } = boxed_query(alloc, grid, from, to, &mut passes)?;
-    match walk {
-        Some(Walk { points, cost }) => Ok(Reply::Walk {
-            points,
-            cost,
-            taken,
-        }),
-        None => Ok(Reply::None { taken }),
-    }
+    let found = boxed_query(alloc, grid, from, to, &mut passes)?;
+    Ok(reply_of(found.walk, found.taken))
 }
 
 // The reply of the walk of first moves with none of them at hand: one pass, from the goal.
@@ -143,14 +137,8 @@ fn follow_alone<L: Ledger>(
 {
     let mut steps = Steps::<L>::new(blank);
     let taken = Taken::new(alloc);
-    match follow_by_pass(alloc, grid, from, to, &mut steps)? {
-        Some(Walk { points, cost }) => Ok(Reply::Walk {
-            points,
-            cost,
-            taken,
-        }),
-        None => Ok(Reply::None { taken }),
-    }
+    let walk = follow_by_pass(alloc, grid, from, to, &mut steps)?;
+    Ok(reply_of(walk, taken))
 }
 
 /// The reply to one query by the boxed run. No more boxes are found than it asks for.

@@ -1,9 +1,8 @@
 use Rattle.std.proofs.Common.{subst, List}
 use Rattle.std.specs.Prelude.{OnOk}
 use Rattle.script_text.specs.declared.command.Command.{Command}
-use Rattle.jps_run.specs.Counts.{RoseForCommands}
-use Rattle.jps_run.proofs.Rising.{on_ok}
-use Rattle.jps_run.proofs.Counting.{taken-none}
+use Rattle.jps_run.specs.Rising.{RoseForCommands}
+use Rattle.jps_run.proofs.Rising.{on_ok, taken-none}
 use Rattle.jps_run.proofs.Solving.{answered-none, answers-complete}
 use Rattle.jps_run.proofs.replies.answers.write_answers.Goals as goal
 

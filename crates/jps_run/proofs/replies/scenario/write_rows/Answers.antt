@@ -1,7 +1,7 @@
 use Rattle.std.proofs.Common.{refl, [], arith, subst, List}
 use Rattle.std.specs.Prelude.{OnOk}
 use Rattle.scen_text.specs.declared.entry.Entry.{Entry}
-use Rattle.jps_run.specs.Entries.{RoseForEntries}
+use Rattle.jps_run.specs.Rising.{RoseForEntries}
 use Rattle.jps_run.specs.Answerers.{who_of}
 use Rattle.jps_run.proofs.Rising.{on_ok}
 use Rattle.jps_run.proofs.Judgements.{new-room, rows-complete}

@@ -1,5 +1,5 @@
 use Rattle.std.proofs.Common.{refl}
-use Rattle.jps_run.proofs.Counting.{taken-more}
+use Rattle.jps_run.proofs.Rising.{taken-more}
 use Rattle.jps_run.proofs.Solving.{answered-more}
 use Rattle.jps_run.proofs.replies.answers.AnswersJob.answer.Goals as goal
 

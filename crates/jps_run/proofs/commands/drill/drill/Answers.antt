@@ -1,0 +1,45 @@
+use Rattle.std.proofs.Common.{◌≡◌, refl, subst, inr, List, arith}
+use Rattle.map_text.specs.Map.{Map}
+use Rattle.map_maker.specs.Making.{made_map}
+use Rattle.script_text.specs.declared.command.Command.{Command}
+use Rattle.jps_run.specs.Calls.{HasSearched, IsAnswer}
+use Rattle.jps_run.specs.Rising.{RoseForCommands}
+use Rattle.jps_run.specs.Drill.{AreFindings}
+use Rattle.jps_run.specs.Session.{IsSessionOn}
+use Rattle.jps_run.proofs.Drilling.{few-commands}
+use Rattle.jps_run.proofs.commands.drill.drill.Goals as goal
+
+pub returns : goal.returns
+unfolding IsAnswer HasSearched
+returns c =
+    let session = c.in_ok-session.session in
+    let begun : IsSessionOn c.args.settings (made_map c.args.seed 256 256 25) session
+    = subst (λ (m : Map). IsSessionOn c.args.settings m session) c.in_ok-map.ensures c.in_ok-session.ensures in
+    let e = c.in_ok-commands.ensures in
+    record {
+      can = (few-commands c.args.seed c.in_ok-commands.commands.items e, c.new.ensures);
+      right = λ lines status w. (
+        (let good : status ≡ 0 = w.good in omega arith),
+        (
+          refl,
+          record {
+            from = w.found;
+            all = w.all;
+            code = w.good;
+            known = record {
+              session = session;
+              is = begun;
+              known = subst (λ (some : List Command). AreFindings session some w.found) e w.are;
+            };
+          },
+        ),
+      );
+      counted = λ old new rose. inr (
+        refl,
+        record {
+          session = session;
+          is = begun;
+          known = subst (λ (some : List Command). RoseForCommands session some old new) e rose;
+        },
+      );
+    }

@@ -1,0 +1,55 @@
+use Rattle.std.proofs.Common.{◌≤◌, refl, sym, subst, inl, [], ◌∷◌, arith}
+use Rattle.grid_moves.specs.Layers.{Layers}
+use Rattle.jps_run.specs.Calls.{IsAnswer}
+use Rattle.jps_run.specs.Rulings.{AreRulings}
+use Rattle.jps_run.proofs.Refereed.{small_judge_status}
+use Rattle.jps_run.proofs.commands.judge.judge.Goals as goal
+
+pub returns-clause-opened : goal.returns-clause-opened
+unfolding IsAnswer
+returns-clause-opened g c =
+    let r = c.in_ok-costs.ensures.read in
+    let case = c.in_ok-costs.field-0 in
+    let entries = case.entries.items in
+    let told = case.walks.items in
+    record {
+      texts = r.text ∷ r.second ∷ r.third ∷ [];
+      accepted = r.accepted;
+      is = record {
+        can = record {
+          fit = r.walks.1;
+          none = c.new.ensures;
+          enough = omega (arith, r.walks.2);
+        };
+        right = λ lines status w. (
+          subst (λ n. n ≤ 1) (sym w.same_status) (small_judge_status w.rulings),
+          record {
+            text = r.text;
+            behind = r.second ∷ r.third ∷ [];
+            map = r.costs.map;
+            is = refl;
+            read = r.costs.spelled;
+            known = (
+              r.second,
+              r.third,
+              refl,
+              record {
+                value = entries;
+                is = r.entries.0;
+                known = record {
+                  value = told;
+                  is = r.walks.0;
+                  known = record {
+                    from = w.rulings;
+                    all = w.all;
+                    code = w.same_status;
+                    known = subst (λ (ls : Layers). AreRulings ls entries told w.rulings) r.costs.is w.are;
+                  };
+                };
+              },
+            );
+          },
+        );
+        counted = λ old new rose. inl refl;
+      };
+    }

@@ -1,0 +1,22 @@
+use Rattle.std.proofs.Common.{subst, List}
+use Rattle.script_text.specs.declared.command.Command.{Command}
+use Rattle.jps_run.specs.Answers.{AreAnswers}
+use Rattle.jps_run.specs.Rising.{RoseForCommands}
+use Rattle.jps_run.proofs.Querying.{one-line, one-rose}
+use Rattle.jps_run.proofs.commands.query_work.by_session.Goals as goal
+
+pub returns : goal.returns
+returns c =
+    let d = c.args.session in
+    let e = c.args.ends in
+    record {
+      can = tt;
+      right = λ lines status w. (
+        w.good,
+        one-line d c.args.show e.sx e.sy e.gx e.gy lines
+            (subst (λ (all : List Command). AreAnswers d c.args.show all lines) c.in_ok-commands.ensures
+            w.answers),
+      );
+      counted = λ old new rose. one-rose d c.args.show e.sx e.sy e.gx e.gy old new
+          (subst (λ (all : List Command). RoseForCommands d all old new) c.in_ok-commands.ensures rose);
+    }

@@ -1,0 +1,31 @@
+use Rattle.std.proofs.Common.{◌≡◌, Bool, true, false, ◌&&◌, refl}
+use Rattle.grid_moves.specs.declared.Cell.{Cell}
+use Rattle.grid_moves.specs.Layers.{is_on_map}
+use Rattle.jps_run.proofs.Pictured.{outside_counted}
+use Rattle.jps_run.proofs.replies.drawing.drawn.Goals as goal
+
+first : (a b : Bool) → a ≡ false → (a && b) ≡ false
+first false b e = refl
+first true b e = absurd (cc)
+
+second : (a b : Bool) → b ≡ false → (a && b) ≡ false
+second true b e = e
+second false b e = refl
+
+pub returns-in_default-clause-counted : goal.returns-in_default-clause-counted
+returns-in_default-clause-counted g c =
+    let e = c.args.ends in
+    let s : Cell = record { x = e.sx; y = e.sy } in
+    let t : Cell = record { x = e.gx; y = e.gy } in
+    let d = c.args.session.now in
+    outside_counted c.said.result d s t c.args.steps.now
+    (first (is_on_map d.layers s) (is_on_map d.layers t) c.in_default.ensures)
+
+pub returns-in_default-end_at-clause-counted : goal.returns-in_default-end_at-clause-counted
+returns-in_default-end_at-clause-counted g c =
+    let e = c.args.ends in
+    let s : Cell = record { x = e.sx; y = e.sy } in
+    let t : Cell = record { x = e.gx; y = e.gy } in
+    let d = c.args.session.now in
+    outside_counted c.said-in_default-end_at.result d s t c.args.steps.now
+    (second (is_on_map d.layers s) (is_on_map d.layers t) c.in_default-end_at.ensures)

@@ -1,0 +1,24 @@
+use Rattle.std.proofs.Common.{sym, subst}
+use Rattle.grid_moves.specs.Grid.{GridData}
+use Rattle.plain_search.specs.Costs.{IsCostTo}
+use Rattle.jps_run.proofs.Refereed.{ruled-searched, searched-so}
+use Rattle.jps_run.proofs.replies.judge.ruling_by.Goals as goal
+
+pub judge_told-requires : goal.judge_told-requires
+judge_told-requires c =
+    let how = c.in-Searched in
+    let is = searched-so c.args.costs.now c.args.entry c.args.settled how.from how.to how.least
+    c.requires.settled how.is in
+    record {
+      fit = c.requires.fit;
+      least = subst (λ (q : GridData). IsCostTo q how.from how.to how.least) (sym c.query_grid.ensures)
+          is.least;
+    }
+
+pub returns-in-Searched : goal.returns-in-Searched
+returns-in-Searched c =
+    let how = c.in-Searched in
+    let is = searched-so c.args.costs.now c.args.entry c.args.settled how.from how.to how.least
+    c.requires.settled how.is in
+    ruled-searched c.args.costs.now c.args.entry c.args.told.now c.judge_told.result how.from how.to how.least
+    c.query_grid.result.now is c.query_grid.ensures c.judge_told.ensures.judged

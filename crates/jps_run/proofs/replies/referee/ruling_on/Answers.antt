@@ -1,9 +1,0 @@
-use Rattle.std.proofs.Common.{subst}
-use Rattle.grid_moves.specs.Layers.{Layers}
-use Rattle.jps_run.specs.Rulings.{IsRuling}
-use Rattle.jps_run.proofs.replies.referee.ruling_on.Goals as goal
-
-pub returns-clause-ruling : goal.returns-clause-ruling
-returns-clause-ruling g c =
-    subst (λ (ls : Layers). IsRuling ls c.args.entry c.args.told.now c.ruling_by.result)
-    c.settle.ensures.unchanged c.ruling_by.ensures

@@ -1,5 +1,0 @@
-use Rattle.jps_run.proofs.Refereed.{rulings-complete}
-use Rattle.jps_run.proofs.replies.referee.write_rulings.Goals as goal
-
-pub work_items-requires-clause-completes : goal.work_items-requires-clause-completes
-work_items-requires-clause-completes g c = rulings-complete

@@ -1,0 +1,36 @@
+//! The command `lengths`: a scenario again, with the least lengths.
+
+ghost use Rattle.std.specs.Prelude.{◌≡◌};
+ghost use Rattle.word_list.specs.Request as asked;
+ghost use Rattle.jps_run.specs.Calls.{call_with};
+ghost use Rattle.jps_run.specs.Opened.{OpensWork};
+
+use crate::work::Work;
+use call_files::{Scenario, open_two};
+use io_edge::Files;
+use line_work::Stop;
+use scen_maker::{LeastCosts, Lengths};
+use std::alloc::Global;
+use word_list::Settings;
+
+/// Opens a scenario, whose text is kept: there the names of its entries stand.
+pub(crate) fn lengths<F: Files>(
+    alloc: Global,
+    files: &mut F,
+    map: &str,
+    scen: &str,
+    settings: Settings,
+) -> Result<Work, Stop>
+    ensures opened { OpensWork (call_with (asked.Lengths map.now scen.now) settings)
+        (F.disk files.old) (F.disk files.new) result }
+    ensures unchanged { (F.disk files.new).holds ≡ (F.disk files.old).holds }
+{
+    let both: (LeastCosts, Scenario) = open_two(alloc, files, map, settings, scen, &())?;
+    let (costs, Scenario { text, entries }) = both;
+    let job = Lengths {
+        costs,
+        text,
+        all: true,
+    };
+    Ok(Work::Lengths { job, entries })
+}
