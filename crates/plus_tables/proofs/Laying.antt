@@ -21,7 +21,7 @@ use Rattle.plus_tables.specs.Rows.{number, is_along, IsEntryRow}
 use Rattle.plus_tables.specs.Lines.{AreAhead, AreAlong}
 use Rattle.plus_tables.specs.Laid.{with_entry, with_cell, part, as_tables, rows_there, AreLaid}
 use Rattle.plus_tables.specs.Laid.{AreSwept, IsAlongRight, IsRowSwept}
-use Rattle.plus_tables.proofs.Placing.{dir_number-few}
+use Rattle.grid_moves.proofs.Dirs.{dir_number-few}
 use Rattle.plus_tables.proofs.Lining.{along_seen}
 use Rattle.plus_tables.specs.Entry.{table_entry}
 use Rattle.plus_tables.proofs.Growing.{number_stays}
