@@ -15,7 +15,7 @@ use Rattle.table_repair.specs.declared.walks.Walk.{Walk}
 use Rattle.table_repair.specs.Abreast.{is_at_one}
 use Rattle.table_repair.specs.Mending.{IsRight, Mends, CanSweep, Sweeps, either, is_in_row}
 use Rattle.table_repair.proofs.Abreast.{at_both}
-use Rattle.table_repair.proofs.Lines.{after_moved, right_ahead, is_inside-from}
+use Rattle.table_repair.proofs.Lines.{after_moved, right_ahead}
 use Rattle.table_repair.proofs.Mends.{mends_wider, follow_more}
 use Rattle.table_repair.proofs.Rows.{and_true, not_true}
 use Rattle.table_repair.proofs.Sweeping.{Swept, swept_more, among_from}

@@ -16,7 +16,7 @@ use Rattle.table_repair.specs.declared.span.Span.{Span}
 use Rattle.table_repair.specs.Mending.{is_among, is_in, span_beside, widened, span_next, is_in_reach}
 use Rattle.table_repair.specs.Mending.{goes_right, goes_down, NoneAhead}
 use Rattle.table_repair.proofs.Moving.{is_near-parts}
-use Rattle.table_repair.proofs.Lines.{after_moved, inside_parts, is_inside-from}
+use Rattle.table_repair.proofs.Lines.{after_moved}
 use Rattle.table_repair.proofs.Sweeping.{among_parts, among_from}
 use Rattle.table_repair.proofs.Rows.{and_true, not_true}
 use Rattle.table_repair.proofs.Walking.{or_right}
