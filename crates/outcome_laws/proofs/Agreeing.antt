@@ -88,12 +88,7 @@ agree_all (row.Judged Agree cost taken ∷ rows) h =
       counts_none is_other r rows 0 refl t.3,
       t.4,
     )
-agree_all (row.Judged Near cost taken ∷ rows) h = absurd (cc)
-agree_all (row.Judged Off cost taken ∷ rows) h = absurd (cc)
-agree_all (row.Scale ∷ rows) h = absurd (cc)
-agree_all (row.Outside ∷ rows) h = absurd (cc)
-agree_all (row.Blocked ∷ rows) h = absurd (cc)
-agree_all (row.None taken ∷ rows) h = absurd (cc)
+agree_all (other ∷ rows) h = absurd (cc)
 
 all_agree : (many : ℕ) (rows : List Row) → length rows ≡ many → list_all is_agree rows ≡ true
     → AllAgree many rows

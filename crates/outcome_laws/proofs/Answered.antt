@@ -36,8 +36,8 @@ use Rattle.word_list.specs.declared.request.Show.{Show}
 use Rattle.line_work.proofs.Turns.{turns-all}
 use Rattle.grid_answers.specs.BoxLines.{IsBoxText, boxes_text}
 use Rattle.grid_answers.specs.BoxLines as boxes
-use Rattle.grid_answers.specs.Distances.{AreCostLines, AreCosts, IsCostLine, costs_line, none, more, outside}
-use Rattle.grid_answers.specs.Distances.{blocked, told}
+use Rattle.grid_answers.specs.Distances.{AreCostLines, AreCosts, IsCostLine, costs_line, none, more}
+use Rattle.outcome_laws.proofs.OfCell.{told_exists}
 use Rattle.scen_maker.specs.Lengths.{AreLengths, IsLengthLine, IsLineAt, IsProblemLine, lengths_status}
 use Rattle.scen_maker.specs.Lengths.{problem_of}
 use Rattle.scen_maker.specs.Settling.{has_sides, least_in}
@@ -86,18 +86,8 @@ module _ (g : GridData) (s : Cell) (free : is_free g s ≡ true) where
       let line = line_at n in (rest.0 ++ line.0 ∷ [], more n rest.0 line.0 rest.1 line.1)
 
 pub costs_exist : (ls : Layers) (s : Cell) → (lines : List (List ℕ)) × AreCosts ls s lines
-costs_exist ls s = by_map (is_on_map ls s) refl
-  where
-    by_ground : is_on_map ls s ≡ true → (b : Bool) → is_free_ground ls s ≡ b
-        → (lines : List (List ℕ)) × AreCosts ls s lines
-    by_ground on false e = (codes "blocked\n" ∷ [], blocked on e)
-    by_ground on true e =
-        let all = lines_to (query_grid ls s) s (on_grid ls s e) (query_grid ls s).height in
-        (all.0, told all.0 e all.1)
-
-    by_map : (b : Bool) → is_on_map ls s ≡ b → (lines : List (List ℕ)) × AreCosts ls s lines
-    by_map false e = (codes "outside\n" ∷ [], outside e)
-    by_map true e = by_ground e (is_free_ground ls s) refl
+costs_exist ls s = told_exists ls s (λ line. line ∷ [])
+    (λ free. lines_to (query_grid ls s) s (on_grid ls s free) (query_grid ls s).height)
 
 -- the boxes of a free cell
 module _ (g : GridData) (u : Cell) (free : is_free g u ≡ true) where
@@ -124,18 +114,9 @@ module _ (g : GridData) (u : Cell) (free : is_free g u ≡ true) where
   boxes_are dir.NW = (all_told g).boxes u free dir.NW
 
 pub boxes_exist : (ls : Layers) (s : Cell) → (text : List ℕ) × IsBoxText ls s text
-boxes_exist ls s = by_map (is_on_map ls s) refl
-  where
-    by_ground : is_on_map ls s ≡ true → (b : Bool) → is_free_ground ls s ≡ b
-        → (text : List ℕ) × IsBoxText ls s text
-    by_ground on false e = (codes "blocked\n", boxes.blocked on e)
-    by_ground on true e =
-        let b : CellBoxes = cell_boxes (query_grid ls s) s (on_grid ls s e) in
-        (boxes_text b, boxes.told b e (boxes_are (query_grid ls s) s (on_grid ls s e)))
-
-    by_map : (b : Bool) → is_on_map ls s ≡ b → (text : List ℕ) × IsBoxText ls s text
-    by_map false e = (codes "outside\n", boxes.outside e)
-    by_map true e = by_ground e (is_free_ground ls s) refl
+boxes_exist ls s = told_exists ls s (λ line. line) (λ free.
+    let b : CellBoxes = cell_boxes (query_grid ls s) s (on_grid ls s free) in
+    (boxes_text b, (b, boxes_are (query_grid ls s) s (on_grid ls s free), refl)))
 
 -- the line of a cost
 pub problem_line : (name : List ℕ) (problem : Problem) (cost : Cost) → (line : List ℕ)

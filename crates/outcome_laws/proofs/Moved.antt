@@ -25,7 +25,8 @@ use Rattle.first_moves.specs.declared.row.Run.{Run}
 use Rattle.first_moves.proofs.Leading.{has_followed}
 use Rattle.first_moves.proofs.Picking.{below_all, first_is}
 use Rattle.first_moves.proofs.Rows.{without_moves}
-use Rattle.grid_answers.specs.RunLines.{IsRunText, blocked, outside, runs_text, told}
+use Rattle.grid_answers.specs.RunLines.{IsRunText, runs_text}
+use Rattle.outcome_laws.proofs.OfCell.{told_exists}
 use Rattle.outcome_laws.proofs.Reached.{cost_exists, on_grid}
 
 -- a move begins a least walk, or it does not
@@ -140,18 +141,9 @@ module _ (g : GridData) (s : Cell) (free : is_free g s ≡ true) where
   )
 
 pub runs_exist : (ls : Layers) (s : Cell) → (text : List ℕ) × IsRunText ls s text
-runs_exist ls s = by_map (is_on_map ls s) refl
-  where
-    by_ground : is_on_map ls s ≡ true → (b : Bool) → is_free_ground ls s ≡ b
-        → (text : List ℕ) × IsRunText ls s text
-    by_ground on false e = (codes "blocked\n", blocked on e)
-    by_ground on true e =
-        let row = row_exists (query_grid ls s) s (on_grid ls s e) in
-        (runs_text (query_grid ls s).width row.0, told row.0 e row.1)
-
-    by_map : (b : Bool) → is_on_map ls s ≡ b → (text : List ℕ) × IsRunText ls s text
-    by_map false e = (codes "outside\n", outside e)
-    by_map true e = by_ground e (is_free_ground ls s) refl
+runs_exist ls s = told_exists ls s (λ line. line) (λ free.
+    let row = row_exists (query_grid ls s) s (on_grid ls s free) in
+    (runs_text (query_grid ls s).width row.0, (row.0, row.1, refl)))
 
 -- all rows of a grid
 module _ (g : GridData) where
