@@ -8,7 +8,7 @@ use Rattle.std.proofs.lemmas.List.Elements.{All-cons, All-head, All-tail}
 use Rattle.std.proofs.lemmas.List.Sorted.{All-permutation, length_permutation}
 use Rattle.std.proofs.lemmas.List.Sums.{sum_by-cons}
 use Rattle.root2_cost.specs.declared.Cost.{Cost}
-use Rattle.root2_cost.specs.declared.lengths.Verdict.TheVariants.{Agree, Near, Off}
+use Rattle.root2_cost.specs.declared.lengths.Verdict.TheVariants.{Agree}
 use Rattle.root2_cost.specs.Length.{eight_places}
 use Rattle.root2_cost.specs.Verdict.{verdict_of}
 use Rattle.root2_cost.proofs.Rounding.{nearest_agrees}

@@ -5,11 +5,11 @@ use Rattle.std.specs.Prelude.{Option, codes}
 use Rattle.root2_cost.specs.declared.Cost.{Cost}
 use Rattle.grid_moves.specs.declared.Cell.{Cell}
 use Rattle.grid_moves.specs.Grid.{GridData}
-use Rattle.grid_moves.specs.Layers.{AreLayers, Layers, is_free_ground, is_on_map, query_grid}
+use Rattle.grid_moves.specs.Layers.{AreLayers, Layers, query_grid}
 use Rattle.grid_answers.specs.Distances.{AreCostLines, AreCosts, IsCostLine, cost_field, fields_to}
 use Rattle.grid_answers.specs.Distances.{more, none}
 use Rattle.outcome_laws.proofs.OfCell.{one_told}
-use Rattle.outcome_laws.proofs.Ground.{ground_on, not_both, query_whole}
+use Rattle.outcome_laws.proofs.Ground.{query_whole}
 use Rattle.outcome_laws.proofs.Least.{one_cost}
 
 fields_same : (p q : ℕ → Option Cost) (n : ℕ) → ((x : ℕ) → x ≤ n → p x ≡ q x) → fields_to p n ≡ fields_to q n

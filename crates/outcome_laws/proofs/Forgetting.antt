@@ -4,9 +4,9 @@ use Rattle.std.specs.Prelude.{◌≢◌, codes, decimal, cond, if◌then◌else�
 use Rattle.std.specs.List.{count_by, list_all, sum_by}
 use Rattle.std.proofs.lemmas.List.{length-map}
 use Rattle.std.proofs.lemmas.List.Sums.{sum_by-cons}
-use Rattle.root2_cost.specs.declared.lengths.Verdict.TheVariants.{Agree, Near, Off}
+use Rattle.root2_cost.specs.declared.lengths.Verdict.TheVariants.{Agree, Near}
 use Rattle.word_list.specs.declared.request.Show.{Show}
-use Rattle.word_list.specs.declared.request.Show.TheVariants.{Points, Cells, Trace, Taken}
+use Rattle.word_list.specs.declared.request.Show.TheVariants.{Taken}
 use Rattle.jps_run.specs.Rows.{count_text, is_agree, is_near, is_off, is_other, row_line, row_lines, row_text}
 use Rattle.jps_run.specs.Rows.{scen_lines, scen_status, states_in, sum_line, verdict_text}
 use Rattle.jps_run.specs.declared.replies.row.Row.{Row}

@@ -1,7 +1,7 @@
 -- From each free cell there are first moves, and walks of them.
 use Rattle.std.proofs.Common.{◌≡◌, ◌⊎◌, inl, inr, refl, sym, ap, ◌∙◌, subst, ℕ, zero, suc, ◌*◌, ◌/◌, ◌%◌}
 use Rattle.std.proofs.Common.{◌<◌, arith, Bool, true, false, List, [], ◌∷◌, length}
-use Rattle.std.specs.Prelude.{Option, Some, None, IsTrue, ◌↔◌, slice_index_or, codes}
+use Rattle.std.specs.Prelude.{Option, Some, None, IsTrue, ◌↔◌, slice_index_or}
 use Rattle.std.proofs.lemmas.Bool.Decides.{nat_tests}
 use Rattle.std.proofs.lemmas.Nat.{div-mul-add, mod-mul-add}
 use Rattle.root2_cost.specs.declared.Cost.{Cost}
@@ -9,7 +9,7 @@ use Rattle.root2_cost.proofs.AtMost.{IsAtMost-not_more, IsAtMost-or_more}
 use Rattle.grid_moves.specs.declared.Cell.{Cell}
 use Rattle.grid_moves.specs.declared.Dir.{Dir}
 use Rattle.grid_moves.specs.Grid.{GridData, cell_number, is_free, is_inside}
-use Rattle.grid_moves.specs.Layers.{Layers, is_free_ground, is_on_map, query_grid}
+use Rattle.grid_moves.specs.Layers.{Layers, query_grid}
 use Rattle.grid_moves.specs.Move.{all_dirs, legal_ahead}
 use Rattle.grid_moves.specs.Walk.{cost_of}
 use Rattle.grid_moves.proofs.Ahead.{legal_ahead-is}
@@ -17,12 +17,10 @@ use Rattle.grid_moves.proofs.Legal.{legal_is, same_cell}
 use Rattle.grid_moves.proofs.Short.{least_rest}
 use Rattle.cost_waves.specs.Begin.{Begins, IsCostTo}
 use Rattle.cost_waves.proofs.Falling.{goes_over, least_by_move, least_on}
-use Rattle.first_moves.specs.Existence.{HasFollowed}
 use Rattle.first_moves.specs.First.{IsFirstMove, first_where}
 use Rattle.first_moves.specs.Row.{AreMoves, IsRow, MovesData}
 use Rattle.first_moves.specs.Runs.{runs_of}
 use Rattle.first_moves.specs.declared.row.Run.{Run}
-use Rattle.first_moves.proofs.Leading.{has_followed}
 use Rattle.first_moves.proofs.Picking.{below_all, first_is}
 use Rattle.first_moves.proofs.Rows.{without_moves}
 use Rattle.grid_answers.specs.RunLines.{IsRunText, runs_text}
@@ -176,8 +174,3 @@ module _ (g : GridData) where
     record { width = g.width; height = g.height; rows = rows },
     record { width = refl; height = refl; rows = row_at_cell },
   )
-
-pub followed_exists : (g : GridData) (s t : Cell) → is_free g s ≡ true → is_free g t ≡ true
-    → HasFollowed g s t
-followed_exists g s t from to =
-    let m = moves_exist g in has_followed g m.0 m.1 t to s from

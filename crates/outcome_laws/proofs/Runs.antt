@@ -18,12 +18,12 @@ use Rattle.first_moves.proofs.Picking.{same_dir}
 use Rattle.grid_moves.specs.declared.Cell.{Cell}
 use Rattle.grid_moves.specs.declared.Dir.{Dir}
 use Rattle.grid_moves.specs.Grid.{GridData, IsGrid, cell_number, is_free, is_inside}
-use Rattle.grid_moves.specs.Layers.{AreLayers, Layers, is_free_ground, is_on_map, query_grid}
+use Rattle.grid_moves.specs.Layers.{AreLayers, Layers, query_grid}
 use Rattle.grid_moves.specs.Walk.{cost_of}
 use Rattle.path_points.proofs.Joined.{cost_counts}
 use Rattle.grid_answers.specs.RunLines.{IsRunText, runs_text}
 use Rattle.outcome_laws.proofs.OfCell.{one_told}
-use Rattle.outcome_laws.proofs.Ground.{and_true, ground_on, not_both, query_free, query_whole}
+use Rattle.outcome_laws.proofs.Ground.{and_true, query_free, query_whole}
 
 lt_true : (m n : ℕ) → m < n → nat_lt m n ≡ true
 lt_true m n h = grind (arith, nat_tests)

@@ -8,7 +8,7 @@ use Rattle.edit_replay.specs.declared.engine.Engine.TheVariants as engine
 use Rattle.edit_replay.specs.declared.reply.Reply.{Reply}
 use Rattle.edit_replay.specs.declared.reply.Reply.TheVariants as reply
 use Rattle.jps_run.specs.Session.{session_after}
-use Rattle.jps_run.specs.Who.{By, Who, by_session, by_boxes, by_moves, who_is, IsReplyBy}
+use Rattle.jps_run.specs.Who.{By, Who, by_session, who_is, IsReplyBy}
 use Rattle.jps_run.specs.Drill.{finding_of}
 use Rattle.jps_run.specs.declared.replies.findings.Finding.{Finding}
 use Rattle.jps_run.specs.declared.replies.findings.Finding.TheVariants as finding
