@@ -1,6 +1,6 @@
 -- What is printed of one cell.
-use Rattle.std.proofs.Common.{◌≡◌, ◌≤◌, ◌*◌, sym, subst, ℕ, List, Bool, true, false}
-use Rattle.std.specs.Prelude.{codes, if◌then◌else◌, IfOk, Result, Ok, Err}
+use Rattle.std.proofs.Common.{◌≡◌, ◌≤◌, ◌*◌, ◌∙◌, refl, ap, sym, subst, ℕ, List, Bool, true, false}
+use Rattle.std.specs.Prelude.{if◌then◌else◌, IfOk, Result, Ok, Err}
 use Rattle.std.specs.Global.{Vec}
 use Rattle.first_moves.specs.declared.row.Run.{Run}
 use Rattle.first_moves.specs.Row.{IsRow}
@@ -8,10 +8,9 @@ use Rattle.goal_boxes.specs.declared.around.CellBoxes.{CellBoxes}
 use Rattle.goal_boxes.specs.Box.{AreBoxes}
 use Rattle.grid_moves.specs.declared.Cell.{Cell}
 use Rattle.grid_moves.specs.Grid.{GridData, is_free}
-use Rattle.grid_moves.specs.Layers.{Layers, is_free_ground, is_on_map, query_grid}
-use Rattle.grid_answers.specs.BoxLines as boxes
+use Rattle.grid_moves.specs.Layers.{Layers, is_free_ground, query_grid}
 use Rattle.grid_answers.specs.BoxLines.{IsBoxText, boxes_text}
-use Rattle.grid_answers.specs.RunLines as runs
+use Rattle.grid_answers.specs.OfCell.{told}
 use Rattle.grid_answers.specs.RunLines.{IsRunText, runs_text}
 
 -- a text that is this line
@@ -26,32 +25,24 @@ pub if_same : {E : Type 0} (result : Result (Vec ℕ) E) (Right : Cell → List 
 if_same (Ok t) Right c s e r = subst (λ (k : Cell). Right k t.items) e r
 if_same (Err f) Right c s e r = tt
 
-pub blocked-boxes : (ls : Layers) (c s : Cell) → c ≡ s → is_on_map ls c ≡ true → is_free_ground ls c ≡ false
-    → IsBoxText ls s (codes "blocked\n")
-blocked-boxes ls c s e on shut = subst (λ (k : Cell). IsBoxText ls k (codes "blocked\n")) e
-    (boxes.blocked on shut)
-
-pub blocked-runs : (ls : Layers) (c s : Cell) → c ≡ s → is_on_map ls c ≡ true → is_free_ground ls c ≡ false
-    → IsRunText ls s (codes "blocked\n")
-blocked-runs ls c s e on shut = subst (λ (k : Cell). IsRunText ls k (codes "blocked\n")) e
-    (runs.blocked on shut)
-
 -- the lines of the boxes and of the runs of a free cell
 pub told-boxes : {E : Type 0} (result : Result (Vec ℕ) E) (ls : Layers) (s : Cell) (g : GridData)
     (b : CellBoxes)
     → g ≡ query_grid ls s → is_free_ground ls s ≡ true → AreBoxes g s b
     → IfOk result (λ t. t.items ≡ boxes_text b) → IfOk result (λ t. IsBoxText ls s t.items)
 told-boxes result ls s g b same free are is = if_line result (IsBoxText ls s) (boxes_text b) is
-    (boxes.told b free (subst (λ (k : GridData). AreBoxes k s b) same are))
+    (told (boxes_text b) free (b, subst (λ (k : GridData). AreBoxes k s b) same are, refl))
 
 pub told-runs : {E : Type 0} (result : Result (Vec ℕ) E) (ls : Layers) (s : Cell) (g : GridData)
     (row : List Run)
     (width : ℕ) → g ≡ query_grid ls s → is_free_ground ls s ≡ true → IsRow g s row → width ≡ g.width
     → IfOk result (λ t. t.items ≡ runs_text width row) → IfOk result (λ t. IsRunText ls s t.items)
 told-runs result ls s g row width same free is w e = if_line result (IsRunText ls s) (runs_text width row) e
-    (subst (λ (k : ℕ). IsRunText ls s (runs_text k row)) (sym w)
-    (subst (λ (k : GridData). IsRunText ls s (runs_text k.width row)) (sym same)
-    (runs.told row free (subst (λ (k : GridData). IsRow k s row) same is))))
+    (told (runs_text width row) free (
+      row,
+      subst (λ (k : GridData). IsRow k s row) same is,
+      ap (λ (n : ℕ). runs_text n row) (w ∙ ap (λ (k : GridData). k.width) same),
+    ))
 
 -- the grid of a cell is small where both grids are
 pub few-cells : (ls : Layers) (s : Cell) (g : GridData) → g ≡ query_grid ls s

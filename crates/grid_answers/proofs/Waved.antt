@@ -10,9 +10,10 @@ use Rattle.cost_waves.specs.Begin.{IsCostTo}
 use Rattle.cost_waves.specs.Told.{Tells, WaveData, cost_at}
 use Rattle.grid_moves.specs.declared.Cell.{Cell}
 use Rattle.grid_moves.specs.Grid.{GridData}
-use Rattle.grid_moves.specs.Layers.{Layers, is_free_ground, is_on_map, query_grid}
-use Rattle.grid_answers.specs.Distances.{AreCostLines, AreCosts, IsCostLine, blocked, cost_field, costs_line}
-use Rattle.grid_answers.specs.Distances.{fields_to, more, none, told}
+use Rattle.grid_moves.specs.Layers.{Layers, is_free_ground, query_grid}
+use Rattle.grid_answers.specs.Distances.{AreCostLines, AreCosts, IsCostLine, cost_field, costs_line}
+use Rattle.grid_answers.specs.Distances.{fields_to, more, none}
+use Rattle.grid_answers.specs.OfCell.{told}
 use Rattle.grid_answers.specs.Telling.{AreTold, HaveTold, TellCosts, numbers_below, row_costs, told_line}
 use Rattle.line_work.specs.Working.{Adds, CanComplete, IsLeft}
 use Rattle.grid_answers.specs.declared.costs.Distances.{Distances}
@@ -137,7 +138,3 @@ one-line ls s text line is are = λ lines status t. (
   t.1,
   subst (λ (l : List (List ℕ)). AreCosts ls s l) (sym (t.0 ∙ ap (λ (l : List ℕ). l ∷ []) is)) are,
 )
-
-pub blocked-at : (ls : Layers) (c s : Cell) → c ≡ s → is_on_map ls c ≡ true → is_free_ground ls c ≡ false
-    → AreCosts ls s (codes "blocked\n" ∷ [])
-blocked-at ls c s e on shut = subst (λ (k : Cell). AreCosts ls k (codes "blocked\n" ∷ [])) e (blocked on shut)

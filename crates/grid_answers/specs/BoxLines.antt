@@ -1,14 +1,15 @@
 -- What `boxes` prints.
-use Rattle.std.specs.Prelude.{◌≡◌, true, false, ℕ, List, ◌++◌, codes, decimal, Option, Some, None, refl}
+use Rattle.std.specs.Prelude.{◌≡◌, ℕ, List, ◌++◌, codes, decimal, Option, Some, None, refl}
 use Rattle.goal_boxes.specs.declared.area.Area.{Area}
 use Rattle.goal_boxes.specs.declared.around.CellBoxes.{CellBoxes}
 use Rattle.goal_boxes.specs.Box.{AreBoxes, box_in}
 use Rattle.grid_moves.specs.declared.Cell.{Cell}
 use Rattle.grid_moves.specs.declared.Dir.{Dir}
 use Rattle.grid_moves.specs.declared.Dir.TheVariants.{SE, NW}
-use Rattle.grid_moves.specs.Layers.{Layers, is_free_ground, is_on_map, query_grid}
+use Rattle.grid_moves.specs.Layers.{Layers}
 use Rattle.grid_moves.specs.Move.{all_dirs}
 use Rattle.cell_lines.specs.Cells.{dir_text, texts_of}
+use Rattle.grid_answers.specs.OfCell.{IsToldOf}
 
 -- a box by its least column and row and its greatest column and row, or that there is none
 abbrev pub area_text : Option Area → List ℕ
@@ -25,11 +26,9 @@ abbrev pub boxes_text : CellBoxes → List ℕ
 boxes_text b = texts_of (box_line b) all_dirs
 
 -- what is printed of the boxes of s: those on the grid of the cell, or why there are none
-pub data IsBoxText (ls : Layers) (s : Cell) : List ℕ → Type 0 where
-  outside : is_on_map ls s ≡ false → IsBoxText ls s (codes "outside\n")
-  blocked : is_on_map ls s ≡ true → is_free_ground ls s ≡ false → IsBoxText ls s (codes "blocked\n")
-  told : (b : CellBoxes) → is_free_ground ls s ≡ true → AreBoxes (query_grid ls s) s b
-      → IsBoxText ls s (boxes_text b)
+abbrev pub IsBoxText : Layers → Cell → List ℕ → Type 0
+IsBoxText ls s text = IsToldOf ls s (λ line. line)
+    (λ g told. (b : CellBoxes) × AreBoxes g s b × (told ≡ boxes_text b)) text
 
 -- the box to the lower right of the upper left cell of an open map of three columns and three rows
 abbrev corner_boxes : CellBoxes

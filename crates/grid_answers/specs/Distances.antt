@@ -1,11 +1,12 @@
 -- What `costs` prints.
-use Rattle.std.specs.Prelude.{◌≡◌, ℕ, zero, suc, ◌-◌, ◌<◌, true, false, List, [], ◌∷◌, ◌++◌, codes, decimal}
+use Rattle.std.specs.Prelude.{◌≡◌, ℕ, zero, suc, ◌-◌, ◌<◌, List, [], ◌∷◌, ◌++◌, codes, decimal}
 use Rattle.std.specs.Prelude.{Option, Some, None, refl}
 use Rattle.root2_cost.specs.declared.Cost.{Cost}
 use Rattle.cost_waves.specs.Begin.{IsCostTo}
 use Rattle.grid_moves.specs.declared.Cell.{Cell}
 use Rattle.grid_moves.specs.Grid.{GridData}
-use Rattle.grid_moves.specs.Layers.{Layers, is_free_ground, is_on_map, query_grid}
+use Rattle.grid_moves.specs.Layers.{Layers}
+use Rattle.grid_answers.specs.OfCell.{IsToldOf}
 
 -- `A,B`, or `-` where there is no cost
 abbrev pub cost_field : Option Cost → List ℕ
@@ -35,11 +36,8 @@ pub data AreCostLines (g : GridData) (s : Cell) : ℕ → List (List ℕ) → Ty
       → AreCostLines g s (suc n) (lines ++ line ∷ [])
 
 -- what is printed of the costs from s: the lines of all rows, on the grid of the cell, or why there are none
-pub data AreCosts (ls : Layers) (s : Cell) : List (List ℕ) → Type 0 where
-  outside : is_on_map ls s ≡ false → AreCosts ls s (codes "outside\n" ∷ [])
-  blocked : is_on_map ls s ≡ true → is_free_ground ls s ≡ false → AreCosts ls s (codes "blocked\n" ∷ [])
-  told : (lines : List (List ℕ)) → is_free_ground ls s ≡ true
-      → AreCostLines (query_grid ls s) s (query_grid ls s).height lines → AreCosts ls s lines
+abbrev pub AreCosts : Layers → Cell → List (List ℕ) → Type 0
+AreCosts ls s lines = IsToldOf ls s (λ line. line ∷ []) (λ g told. AreCostLines g s g.height told) lines
 
 -- a row of two cells: its own, and one to which no walk leads
 abbrev two_costs : ℕ → Option Cost

@@ -1,3 +1,4 @@
+pub mod OfCell
 pub mod BoxLines
 pub mod RunLines
 pub mod Distances

@@ -1,14 +1,14 @@
 -- What `moves` prints.
-use Rattle.std.specs.Prelude.{◌≡◌, ◌%◌, ◌/◌, true, false, ℕ, List, ◌++◌, codes, decimal, Option, Some, None}
+use Rattle.std.specs.Prelude.{◌≡◌, ◌%◌, ◌/◌, ℕ, List, ◌++◌, codes, decimal, Option, Some, None}
 use Rattle.std.specs.Prelude.{refl}
 use Rattle.first_moves.specs.declared.row.Run.{Run}
 use Rattle.first_moves.specs.Row.{IsRow}
 use Rattle.grid_moves.specs.declared.Cell.{Cell}
 use Rattle.grid_moves.specs.declared.Dir.{Dir}
 use Rattle.grid_moves.specs.declared.Dir.TheVariants.{E}
-use Rattle.grid_moves.specs.Layers.{Layers, is_free_ground, is_on_map, query_grid}
-use Rattle.cell_lines.specs.Cells.{dir_text}
-use Rattle.cell_lines.specs.Cells.{texts_of}
+use Rattle.grid_moves.specs.Layers.{Layers}
+use Rattle.cell_lines.specs.Cells.{dir_text, texts_of}
+use Rattle.grid_answers.specs.OfCell.{IsToldOf}
 
 -- the direction of a first move, or that there is none
 abbrev pub first_text : Option Dir → List ℕ
@@ -27,11 +27,9 @@ runs_text width runs = texts_of (run_line width) runs
 
 -- what is printed of the first moves from s: the runs of its row on the grid of the cell, or why there are
 -- none
-pub data IsRunText (ls : Layers) (s : Cell) : List ℕ → Type 0 where
-  outside : is_on_map ls s ≡ false → IsRunText ls s (codes "outside\n")
-  blocked : is_on_map ls s ≡ true → is_free_ground ls s ≡ false → IsRunText ls s (codes "blocked\n")
-  told : (runs : List Run) → is_free_ground ls s ≡ true → IsRow (query_grid ls s) s runs
-      → IsRunText ls s (runs_text (query_grid ls s).width runs)
+abbrev pub IsRunText : Layers → Cell → List ℕ → Type 0
+IsRunText ls s text = IsToldOf ls s (λ line. line)
+    (λ g told. (runs : List Run) × IsRow g s runs × (told ≡ runs_text g.width runs)) text
 
 -- on a map of three columns, the runs that begin at the cells with the numbers 0 and 5
 pub nothing_leads : run_line 3 (record { start = 0; first = None })

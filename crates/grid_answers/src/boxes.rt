@@ -7,6 +7,7 @@ ghost use Rattle.grid_answers.specs.BoxLines as spec;
 ghost use Rattle.cell_lines.specs.Cells.{texts_of};
 
 use crate::NoMemory;
+use crate::cell::free_cell;
 use cell_lines::dir_text;
 use goal_boxes::{Area, CellBoxes, boxes_of};
 use grid_moves::{ALL_DIRS, Cell, Dir, Layers};
@@ -74,11 +75,8 @@ fn boxes_from(alloc: Global, layers: &Layers, from: Cell) -> Result<Vec<u8>, NoM
 pub fn boxes_at(alloc: Global, layers: &Layers, x: u32, y: u32) -> Result<Vec<u8>, NoMemory>
     ensures { IfOk result (λ text. spec.IsBoxText layers.now (record { x = x; y = y }) text.items) }
 {
-    let Some(from) = layers.cell_at(x, y) else {
-        return Vec::from_slice(alloc, b"outside\n");
-    };
-    if !layers.is_free_ground(from) {
-        return Vec::from_slice(alloc, b"blocked\n");
+    match free_cell(layers, x, y) {
+        Ok(from) => boxes_from(alloc, layers, from),
+        Err(line) => Vec::from_slice(alloc, line),
     }
-    boxes_from(alloc, layers, from)
 }

@@ -7,6 +7,7 @@ ghost use Rattle.line_work.specs.Sending.{SendsWhole};
 ghost use Rattle.grid_answers.specs.Telling as telling;
 
 use crate::NoMemory;
+use crate::cell::free_cell;
 use cost_waves::CostWaves;
 use grid_moves::{Cell, Layers, Terrain};
 use io_edge::Sink;
@@ -154,13 +155,11 @@ fn costs_from(alloc: Global, layers: &Layers, from: Cell) -> Result<CostLines, N
 pub fn costs_at(alloc: Global, layers: &Layers, x: u32, y: u32) -> Result<CostLines, NoMemory>
     ensures { IfOk result (telling.TellCosts layers.now (record { x = x; y = y })) }
 {
-    let Some(from) = layers.cell_at(x, y) else {
-        let line = Vec::from_slice(alloc, b"outside\n")?;
-        return Ok(CostLines::Line(line));
-    };
-    if !layers.is_free_ground(from) {
-        let line = Vec::from_slice(alloc, b"blocked\n")?;
-        return Ok(CostLines::Line(line));
+    match free_cell(layers, x, y) {
+        Ok(from) => costs_from(alloc, layers, from),
+        Err(line) => {
+            let text = Vec::from_slice(alloc, line)?;
+            Ok(CostLines::Line(text))
+        }
     }
-    costs_from(alloc, layers, from)
 }

@@ -3,6 +3,7 @@
 #![tactic(auto)]
 
 mod boxes;
+mod cell;
 mod check;
 mod costs;
 mod encoded;

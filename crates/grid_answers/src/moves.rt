@@ -5,6 +5,7 @@ ghost use Rattle.grid_moves.specs.Layers.{is_free_ground, query_grid};
 ghost use Rattle.grid_answers.specs.RunLines as spec;
 
 use crate::NoMemory;
+use crate::cell::free_cell;
 use cell_lines::dir_text;
 use cost_waves::CostWaves;
 use first_moves::Row;
@@ -80,11 +81,8 @@ pub fn moves_at(alloc: Global, layers: &Layers, x: u32, y: u32) -> Result<Vec<u8
     requires water { layers.now.water.height * layers.now.water.width ≤ 16384 }
     ensures { IfOk result (λ text. spec.IsRunText layers.now (record { x = x; y = y }) text.items) }
 {
-    let Some(from) = layers.cell_at(x, y) else {
-        return Vec::from_slice(alloc, b"outside\n");
-    };
-    if !layers.is_free_ground(from) {
-        return Vec::from_slice(alloc, b"blocked\n");
+    match free_cell(layers, x, y) {
+        Ok(from) => moves_from(alloc, layers, from),
+        Err(line) => Vec::from_slice(alloc, line),
     }
-    moves_from(alloc, layers, from)
 }

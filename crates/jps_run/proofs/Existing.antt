@@ -80,14 +80,21 @@ moves_on ls land water on off s = by_test (is_free ls.water s)
     by_test true = (water, off)
     by_test false = (land, on)
 
+-- a query on the grids of a small map, by boxes and by first moves
+module _ (ls : Layers) (s t : Cell) where
+  pub boxed_exists : (reply : Reply) × IsReplyBy (record { layers = ls; by = by_boxes }) s t reply
+  boxed_exists = exists ls by_boxes s t (unsearched-boxed ls s t) (λ one. boxed_reply (query_grid ls s) s t one)
+
+  pub led_exists : (m : MovesData) → AreMoves (query_grid ls s) m
+      → (reply : Reply) × IsReplyBy (record { layers = ls; by = by_moves }) s t reply
+  led_exists m moves =
+      exists ls by_moves s t (unsearched-led ls s t) (λ one. led_reply (query_grid ls s) s t one m moves)
+
 -- whoever is ready has a reply
 pub answer_exists : (a : Answerer) → CanAnswer a → (s t : Cell) → (reply : Reply)
     × IsReplyBy (who_of a) s t reply
 answer_exists (answerer.Session d) ready s t = reply_exists d s t
-answer_exists (answerer.Boxes library) ready s t =
-    let ls = library.layers in
-    exists ls by_boxes s t (unsearched-boxed ls s t) (λ one. boxed_reply (query_grid ls s) s t one)
+answer_exists (answerer.Boxes library) ready s t = boxed_exists library.layers s t
 answer_exists (answerer.Moves library) ready s t =
-    let ls = library.layers in
-    let m = moves_on ls library.land library.water ready.1 ready.2 s in
-    exists ls by_moves s t (unsearched-led ls s t) (λ one. led_reply (query_grid ls s) s t one m.0 m.1)
+    let m = moves_on library.layers library.land library.water ready.1 ready.2 s in
+    led_exists library.layers s t m.0 m.1

@@ -15,29 +15,17 @@ use Rattle.jps_run.specs.declared.replies.answerer.Basis.TheVariants as basis
 
 -- the engine that searches by tables
 pub by-tables : (pick : Pick) → has_tables pick ≡ true → by_session engine.Plus ≡ by_of pick
-by-tables Plain is = absurd (cc)
-by-tables Jps is = absurd (cc)
-by-tables Block is = absurd (cc)
 by-tables Plus is = refl
-by-tables Boxes is = absurd (cc)
-by-tables Moves is = absurd (cc)
+by-tables pick is = absurd (cc)
 
 -- an engine of small maps
 small-boxes : (pick : Pick) → by_boxes ≡ by_of pick → is_for_small_maps pick ≡ true
-small-boxes Plain is = absurd (cc)
-small-boxes Jps is = absurd (cc)
-small-boxes Block is = absurd (cc)
-small-boxes Plus is = absurd (cc)
 small-boxes Boxes is = refl
-small-boxes Moves is = absurd (cc)
+small-boxes pick is = absurd (cc)
 
 small-moves : (pick : Pick) → by_moves ≡ by_of pick → is_for_small_maps pick ≡ true
-small-moves Plain is = absurd (cc)
-small-moves Jps is = absurd (cc)
-small-moves Block is = absurd (cc)
-small-moves Plus is = absurd (cc)
-small-moves Boxes is = absurd (cc)
 small-moves Moves is = refl
+small-moves pick is = absurd (cc)
 
 -- a session was made where no engine of small maps is picked
 pub session-made : (set : Settings) (m : Map) (made : Basis) → PicksSession set → IsBasisOn set m made

@@ -8,7 +8,7 @@ use Rattle.std.proofs.lemmas.List.Elements.{All-cons, All-head, All-tail}
 use Rattle.std.proofs.lemmas.List.Sorted.{All-permutation, length_permutation}
 use Rattle.std.proofs.lemmas.List.Sums.{sum_by-cons}
 use Rattle.root2_cost.specs.declared.Cost.{Cost}
-use Rattle.root2_cost.specs.declared.lengths.Verdict.TheVariants.{Agree, Near, Off}
+use Rattle.root2_cost.specs.declared.lengths.Verdict.TheVariants.{Agree}
 use Rattle.root2_cost.specs.Length.{eight_places}
 use Rattle.root2_cost.specs.Verdict.{verdict_of}
 use Rattle.root2_cost.proofs.Rounding.{nearest_agrees}
@@ -88,12 +88,7 @@ agree_all (row.Judged Agree cost taken ∷ rows) h =
       counts_none is_other r rows 0 refl t.3,
       t.4,
     )
-agree_all (row.Judged Near cost taken ∷ rows) h = absurd (cc)
-agree_all (row.Judged Off cost taken ∷ rows) h = absurd (cc)
-agree_all (row.Scale ∷ rows) h = absurd (cc)
-agree_all (row.Outside ∷ rows) h = absurd (cc)
-agree_all (row.Blocked ∷ rows) h = absurd (cc)
-agree_all (row.None taken ∷ rows) h = absurd (cc)
+agree_all (other ∷ rows) h = absurd (cc)
 
 all_agree : (many : ℕ) (rows : List Row) → length rows ≡ many → list_all is_agree rows ≡ true
     → AllAgree many rows

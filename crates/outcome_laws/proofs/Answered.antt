@@ -1,8 +1,7 @@
 -- On the layers of a map what is asked for has an answer.
-use Rattle.std.proofs.Common.{◌≡◌, refl, ℕ, zero, suc, Bool, true, false, inl, inr}
-use Rattle.std.proofs.Common.{List, [], ◌∷◌, ◌++◌, ◌&&◌}
-use Rattle.std.specs.Prelude.{Option, Some, None, codes, MatchOption}
-use Rattle.std.proofs.lemmas.Bool.{and_parts}
+use Rattle.std.proofs.Common.{◌≡◌, refl, ℕ, zero, suc, Bool, true, false}
+use Rattle.std.proofs.Common.{List, [], ◌∷◌, ◌++◌}
+use Rattle.std.specs.Prelude.{Option, Some, None}
 use Rattle.root2_cost.specs.declared.Cost.{Cost}
 use Rattle.root2_cost.proofs.Rounding.{bucket_exists, nearest_exists}
 use Rattle.grid_moves.specs.declared.Cell.{Cell}
@@ -10,21 +9,14 @@ use Rattle.grid_moves.specs.declared.Dir.{Dir}
 use Rattle.grid_moves.specs.declared.Dir.TheVariants as dir
 use Rattle.grid_moves.specs.declared.Ground.TheVariants.{Blocked, Land, Water}
 use Rattle.grid_moves.specs.Grid.{GridData, is_free}
-use Rattle.grid_moves.specs.Layers.{Layers, in_one_layer, is_free_ground, is_on_map, query_grid}
-use Rattle.grid_moves.specs.Reply.{are_free_ends}
-use Rattle.path_points.specs.declared.points.Walk as points
-use Rattle.path_points.specs.Least.{IsLeastOrNone}
+use Rattle.grid_moves.specs.Layers.{Layers, query_grid}
 use Rattle.walk_judge.specs.declared.telling.Told.{Told}
 use Rattle.goal_boxes.specs.declared.around.CellBoxes.{CellBoxes}
-use Rattle.goal_boxes.specs.Answer.{IsBoxedRunOn}
 use Rattle.goal_boxes.specs.Box.{IsBox, box_in}
-use Rattle.goal_boxes.proofs.Answering as boxed
 use Rattle.goal_boxes.proofs.Existing.{all_boxes, all_told}
 use Rattle.edit_replay.specs.Edited.{Edit, edit_at}
-use Rattle.edit_replay.specs.Replies.{IsRightOn}
 use Rattle.edit_replay.specs.Session.{SessionData}
 use Rattle.edit_replay.specs.declared.reply.Reply.{Reply}
-use Rattle.edit_replay.specs.declared.reply.Reply.TheVariants as reply
 use Rattle.script_text.specs.declared.command.Command.{Command}
 use Rattle.script_text.specs.declared.command.Command.TheVariants.{Block, Free, Flood, Query}
 use Rattle.scen_text.specs.declared.entry.Entry.{Entry}
@@ -35,32 +27,25 @@ use Rattle.scen_lines.specs.Line.{entry_line, version_line}
 use Rattle.word_list.specs.declared.request.Show.{Show}
 use Rattle.line_work.proofs.Turns.{turns-all}
 use Rattle.grid_answers.specs.BoxLines.{IsBoxText, boxes_text}
-use Rattle.grid_answers.specs.BoxLines as boxes
-use Rattle.grid_answers.specs.Distances.{AreCostLines, AreCosts, IsCostLine, costs_line, none, more, outside}
-use Rattle.grid_answers.specs.Distances.{blocked, told}
+use Rattle.grid_answers.specs.Distances.{AreCostLines, AreCosts, IsCostLine, costs_line, none, more}
+use Rattle.outcome_laws.proofs.OfCell.{told_exists}
 use Rattle.scen_maker.specs.Lengths.{AreLengths, IsLengthLine, IsLineAt, IsProblemLine, lengths_status}
 use Rattle.scen_maker.specs.Lengths.{problem_of}
 use Rattle.scen_maker.specs.Settling.{has_sides, least_in}
 use Rattle.scen_maker.proofs.Searching.{settled_exists}
-use Rattle.jps_run.specs.Answerers.{IsUnsearched}
 use Rattle.jps_run.specs.Answers.{AnswersAfter, AreAnswers, edits_with}
 use Rattle.jps_run.specs.Drill.{AreFindings, FindsAfter, finding_of, finding_of_edit}
 use Rattle.jps_run.specs.Lines.{edit_line, reply_line}
 use Rattle.jps_run.specs.Rows.{AreRows, IsRow, row_of, scale, replied}
 use Rattle.jps_run.specs.Rulings.{AreRulings, IsRuling, with_told}
 use Rattle.jps_run.specs.Session.{reply_to_edit, session_after, width_of}
-use Rattle.jps_run.specs.Who.{By, IsReplyBy, IsReplyOn, Who, by_boxes, by_moves}
+use Rattle.jps_run.specs.Who.{IsReplyBy, Who}
 use Rattle.jps_run.specs.declared.replies.findings.Finding.{Finding}
 use Rattle.jps_run.specs.declared.replies.row.Row.{Row}
 use Rattle.jps_run.specs.declared.replies.row.Row.TheVariants as row
 use Rattle.jps_run.specs.declared.replies.ruling.Ruling.{Ruling}
 use Rattle.jps_run.proofs.Refereed.{settled-ruled}
-use Rattle.jps_run.proofs.Replying.{reply-on-map, unsearched-boxed, unsearched-led}
 use Rattle.jps_run.proofs.SessionReply.{reply_exists}
-use Rattle.first_moves.specs.Follow.{IsFollowed}
-use Rattle.first_moves.proofs.Following.{stands}
-use Rattle.grid_moves.specs.Walk.{NoWalk}
-use Rattle.outcome_laws.proofs.Moved.{followed_exists}
 use Rattle.outcome_laws.proofs.Reached.{cost_exists, on_grid}
 
 -- the lines of least costs
@@ -86,18 +71,8 @@ module _ (g : GridData) (s : Cell) (free : is_free g s ≡ true) where
       let line = line_at n in (rest.0 ++ line.0 ∷ [], more n rest.0 line.0 rest.1 line.1)
 
 pub costs_exist : (ls : Layers) (s : Cell) → (lines : List (List ℕ)) × AreCosts ls s lines
-costs_exist ls s = by_map (is_on_map ls s) refl
-  where
-    by_ground : is_on_map ls s ≡ true → (b : Bool) → is_free_ground ls s ≡ b
-        → (lines : List (List ℕ)) × AreCosts ls s lines
-    by_ground on false e = (codes "blocked\n" ∷ [], blocked on e)
-    by_ground on true e =
-        let all = lines_to (query_grid ls s) s (on_grid ls s e) (query_grid ls s).height in
-        (all.0, told all.0 e all.1)
-
-    by_map : (b : Bool) → is_on_map ls s ≡ b → (lines : List (List ℕ)) × AreCosts ls s lines
-    by_map false e = (codes "outside\n" ∷ [], outside e)
-    by_map true e = by_ground e (is_free_ground ls s) refl
+costs_exist ls s = told_exists ls s (λ line. line ∷ [])
+    (λ free. lines_to (query_grid ls s) s (on_grid ls s free) (query_grid ls s).height)
 
 -- the boxes of a free cell
 module _ (g : GridData) (u : Cell) (free : is_free g u ≡ true) where
@@ -124,18 +99,9 @@ module _ (g : GridData) (u : Cell) (free : is_free g u ≡ true) where
   boxes_are dir.NW = (all_told g).boxes u free dir.NW
 
 pub boxes_exist : (ls : Layers) (s : Cell) → (text : List ℕ) × IsBoxText ls s text
-boxes_exist ls s = by_map (is_on_map ls s) refl
-  where
-    by_ground : is_on_map ls s ≡ true → (b : Bool) → is_free_ground ls s ≡ b
-        → (text : List ℕ) × IsBoxText ls s text
-    by_ground on false e = (codes "blocked\n", boxes.blocked on e)
-    by_ground on true e =
-        let b : CellBoxes = cell_boxes (query_grid ls s) s (on_grid ls s e) in
-        (boxes_text b, boxes.told b e (boxes_are (query_grid ls s) s (on_grid ls s e)))
-
-    by_map : (b : Bool) → is_on_map ls s ≡ b → (text : List ℕ) × IsBoxText ls s text
-    by_map false e = (codes "outside\n", boxes.outside e)
-    by_map true e = by_ground e (is_free_ground ls s) refl
+boxes_exist ls s = told_exists ls s (λ line. line) (λ free.
+    let b : CellBoxes = cell_boxes (query_grid ls s) s (on_grid ls s free) in
+    (boxes_text b, (b, boxes_are (query_grid ls s) s (on_grid ls s free), refl)))
 
 -- the line of a cost
 pub problem_line : (name : List ℕ) (problem : Problem) (cost : Cost) → (line : List ℕ)
@@ -220,61 +186,3 @@ finding_exists d edits (Query sx sy gx gy) =
 pub findings_exist : (d : SessionData) (commands : List Command)
     → (found : List Finding) × AreFindings d commands found
 findings_exist d commands = turns-all (FindsAfter d) edits_with (finding_exists d) [] [] commands [] tt
-
--- a boxed search has a reply to each query
-module _ (g : GridData) (s t : Cell) (free : (is_free g s && is_free g t) ≡ true) where
-  boxed_told : (walk : Option points.Walk) (taken : List ℕ)
-      → IsBoxedRunOn g s t (record { walk = walk; taken = taken }) → IsLeastOrNone g s t walk
-      → (r : Reply) × (IsRightOn g s t r × IsReplyOn by_boxes g s t r)
-  boxed_told (Some w) taken run least = (reply.Walk w.points w.cost taken, ((free, least), run))
-  boxed_told None taken run least = (reply.None taken, (inr least, rw free run))
-
-  boxed_on : (r : Reply) × (IsRightOn g s t r × IsReplyOn by_boxes g s t r)
-  boxed_on = let h = boxed.has_answer g s t (and_parts (is_free g s) (is_free g t) free).0 in
-      boxed_told h.answer.walk h.answer.taken h.run h.least
-
--- and first moves have
-module _ (g : GridData) (s t : Cell) (free : (is_free g s && is_free g t) ≡ true) where
-  led_told : (walk : Option points.Walk)
-      → MatchOption walk (NoWalk g s t) (λ w. IsFollowed g s t w.points w.cost)
-      → (r : Reply) × (IsRightOn g s t r × IsReplyOn by_moves g s t r)
-  led_told (Some w) f = (reply.Walk w.points w.cost [], ((free, stands g s t w.points w.cost f), (f, refl)))
-  led_told None nothing = (reply.None [], (inr nothing, refl))
-
-  led_on : (r : Reply) × (IsRightOn g s t r × IsReplyOn by_moves g s t r)
-  led_on =
-      let ends = and_parts (is_free g s) (is_free g t) free in
-      let h = followed_exists g s t ends.0 ends.1 in led_told h.answer h.is
-
--- a reply on the map, where there is one between free cells of one grid
-module _ (ls : Layers) (by : By) (s t : Cell)
-    (apart : (r : Reply) → IsUnsearched ls s t r → IsReplyBy (record { layers = ls; by = by }) s t r)
-    (search : in_one_layer ls s t ≡ true
-    → (r : Reply) × (IsRightOn (query_grid ls s) s t r × IsReplyOn by (query_grid ls s) s t r)) where
-  abbrev HasReply : Type 0
-  HasReply = (r : Reply) × IsReplyBy (record { layers = ls; by = by }) s t r
-
-  by_layer : are_free_ends ls s t ≡ true → (b : Bool) → in_one_layer ls s t ≡ b → HasReply
-  by_layer free true one =
-      let h = search one in (h.0, reply-on-map ls by s t h.0 free h.1.0 h.1.1)
-  by_layer free false two =
-      (reply.None [], apart (reply.None []) (record { right = (free, inl two); none = (two, refl) }))
-
-  by_ends : (is_on_map ls s && is_on_map ls t) ≡ true → (b : Bool) → are_free_ends ls s t ≡ b → HasReply
-  by_ends on true free = by_layer free (in_one_layer ls s t) refl
-  by_ends on false free = (reply.Blocked, apart reply.Blocked (record { right = (on, free); none = tt }))
-
-  by_map : (b : Bool) → (is_on_map ls s && is_on_map ls t) ≡ b → HasReply
-  by_map true on = by_ends on (are_free_ends ls s t) refl
-  by_map false off = (reply.Outside, apart reply.Outside (record { right = off; none = tt }))
-
-  has_reply : HasReply
-  has_reply = by_map (is_on_map ls s && is_on_map ls t) refl
-
-pub boxed_exists : (ls : Layers) (s t : Cell)
-    → (r : Reply) × IsReplyBy (record { layers = ls; by = by_boxes }) s t r
-boxed_exists ls s t = has_reply ls by_boxes s t (unsearched-boxed ls s t) (boxed_on (query_grid ls s) s t)
-
-pub led_exists : (ls : Layers) (s t : Cell)
-    → (r : Reply) × IsReplyBy (record { layers = ls; by = by_moves }) s t r
-led_exists ls s t = has_reply ls by_moves s t (unsearched-led ls s t) (led_on (query_grid ls s) s t)

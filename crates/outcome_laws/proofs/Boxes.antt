@@ -1,5 +1,5 @@
 -- The text of a cell's boxes is one.
-use Rattle.std.proofs.Common.{◌≡◌, ℕ, refl, ap, ◌∙◌, List, [], ◌∷◌, ◌++◌}
+use Rattle.std.proofs.Common.{◌≡◌, ℕ, refl, ap, sym, ◌∙◌, List, [], ◌∷◌, ◌++◌}
 use Rattle.std.specs.Prelude.{Option, codes}
 use Rattle.cost_waves.specs.Begin.{Begins}
 use Rattle.goal_boxes.specs.declared.area.Area.{Area}
@@ -8,11 +8,11 @@ use Rattle.goal_boxes.specs.Box.{AreBoxes, box_in}
 use Rattle.goal_boxes.proofs.Existing.{one_box}
 use Rattle.grid_moves.specs.declared.Cell.{Cell}
 use Rattle.grid_moves.specs.Grid.{GridData}
-use Rattle.grid_moves.specs.Layers.{AreLayers, Layers, is_free_ground, is_on_map, query_grid}
+use Rattle.grid_moves.specs.Layers.{AreLayers, Layers, query_grid}
 use Rattle.grid_moves.specs.Move.{all_dirs}
 use Rattle.cell_lines.specs.Cells.{dir_text, texts_of}
-use Rattle.grid_answers.specs.BoxLines.{IsBoxText, area_text, blocked, box_line, boxes_text, outside, told}
-use Rattle.outcome_laws.proofs.Ground.{ground_on, not_both}
+use Rattle.grid_answers.specs.BoxLines.{IsBoxText, area_text, box_line, boxes_text}
+use Rattle.outcome_laws.proofs.OfCell.{one_told}
 
 -- texts of each member are those of the list
 pub texts_same : {X : Type 0} (p q : X → List ℕ) (xs : List X) → ((x : X) → p x ≡ q x)
@@ -29,12 +29,5 @@ same_boxes g s b c are also = texts_same (box_line b) (box_line c) all_dirs (λ 
 
 pub one_text : (ls : Layers) (s : Cell) (one other : List ℕ) → AreLayers ls
     → IsBoxText ls s one → IsBoxText ls s other → one ≡ other
-one_text ls s _ _ are (outside off) (outside away) = refl
-one_text ls s _ _ are (outside off) (blocked on shut) = not_both (is_on_map ls s) on off
-one_text ls s _ _ are (outside off) (told b free is) = not_both (is_on_map ls s) (ground_on ls are s free) off
-one_text ls s _ _ are (blocked on shut) (outside off) = not_both (is_on_map ls s) on off
-one_text ls s _ _ are (blocked on shut) (blocked too bare) = refl
-one_text ls s _ _ are (blocked on shut) (told b free is) = not_both (is_free_ground ls s) free shut
-one_text ls s _ _ are (told b free is) (outside off) = not_both (is_on_map ls s) (ground_on ls are s free) off
-one_text ls s _ _ are (told b free is) (blocked on shut) = not_both (is_free_ground ls s) free shut
-one_text ls s _ _ are (told b free is) (told c too also) = same_boxes (query_grid ls s) s b c is also
+one_text ls s one other are = one_told ls s (λ line. line) one other are (λ x y free p q.
+    p.2 ∙ same_boxes (query_grid ls s) s p.0 q.0 p.1 q.1 ∙ sym q.2)

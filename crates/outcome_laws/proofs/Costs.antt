@@ -5,10 +5,11 @@ use Rattle.std.specs.Prelude.{Option, codes}
 use Rattle.root2_cost.specs.declared.Cost.{Cost}
 use Rattle.grid_moves.specs.declared.Cell.{Cell}
 use Rattle.grid_moves.specs.Grid.{GridData}
-use Rattle.grid_moves.specs.Layers.{AreLayers, Layers, is_free_ground, is_on_map, query_grid}
-use Rattle.grid_answers.specs.Distances.{AreCostLines, AreCosts, IsCostLine, blocked, cost_field, fields_to}
-use Rattle.grid_answers.specs.Distances.{more, none, outside, told}
-use Rattle.outcome_laws.proofs.Ground.{ground_on, not_both, query_whole}
+use Rattle.grid_moves.specs.Layers.{AreLayers, Layers, query_grid}
+use Rattle.grid_answers.specs.Distances.{AreCostLines, AreCosts, IsCostLine, cost_field, fields_to}
+use Rattle.grid_answers.specs.Distances.{more, none}
+use Rattle.outcome_laws.proofs.OfCell.{one_told}
+use Rattle.outcome_laws.proofs.Ground.{query_whole}
 use Rattle.outcome_laws.proofs.Least.{one_cost}
 
 fields_same : (p q : ℕ → Option Cost) (n : ℕ) → ((x : ℕ) → x ≤ n → p x ≡ q x) → fields_to p n ≡ fields_to q n
@@ -65,16 +66,5 @@ module _ (g : GridData) (s : Cell) where
 
 pub one_costs : (ls : Layers) (s : Cell) (one other : List (List ℕ)) → AreLayers ls
     → AreCosts ls s one → AreCosts ls s other → one ≡ other
-one_costs ls s _ _ are (outside off) (outside away) = refl
-one_costs ls s _ _ are (outside off) (blocked on shut) = not_both (is_on_map ls s) on off
-one_costs ls s _ _ are (outside off) (told lines free is) =
-    not_both (is_on_map ls s) (ground_on ls are s free) off
-one_costs ls s _ _ are (blocked on shut) (outside off) = not_both (is_on_map ls s) on off
-one_costs ls s _ _ are (blocked on shut) (blocked too bare) = refl
-one_costs ls s _ _ are (blocked on shut) (told lines free is) = not_both (is_free_ground ls s) free shut
-one_costs ls s _ _ are (told lines free is) (outside off) =
-    not_both (is_on_map ls s) (ground_on ls are s free) off
-one_costs ls s _ _ are (told lines free is) (blocked on shut) = not_both (is_free_ground ls s) free shut
-one_costs ls s _ _ are (told lines free is) (told others too also) =
-    one_list (query_grid ls s) s (query_whole ls are s).sides.wide (query_grid ls s).height lines
-    others is also
+one_costs ls s one other are = one_told ls s (λ line. line ∷ []) one other are (λ x y free p q.
+    one_list (query_grid ls s) s (query_whole ls are s).sides.wide (query_grid ls s).height x y p q)

@@ -54,13 +54,14 @@ use Rattle.jps_run.specs.Session.{IsSessionOn, by_of, who_on}
 use Rattle.jps_run.specs.Tabled.{tables_text}
 use Rattle.jps_run.specs.Texts.{help_text, version_text}
 use Rattle.jps_run.specs.Who.{By, IsReplyBy, Who, by_session}
+use Rattle.jps_run.proofs.Existing.{boxed_exists, led_exists}
 use Rattle.jps_run.proofs.SessionReply.{reply_exists}
 use Rattle.outcome_laws.specs.Existing.{ArePresent}
 use Rattle.outcome_laws.proofs.Checked.{verdict_exists}
-use Rattle.outcome_laws.proofs.Answered.{answers_exist, boxed_exists, boxes_exist, costs_exist}
-use Rattle.outcome_laws.proofs.Answered.{findings_exist, led_exists, lengths_exist, rows_exist, rulings_exist}
+use Rattle.outcome_laws.proofs.Answered.{answers_exist, boxes_exist, costs_exist}
+use Rattle.outcome_laws.proofs.Answered.{findings_exist, lengths_exist, rows_exist, rulings_exist}
 use Rattle.outcome_laws.proofs.Kept.{are_layers-text}
-use Rattle.outcome_laws.proofs.Moved.{runs_exist}
+use Rattle.outcome_laws.proofs.Moved.{moves_exist, runs_exist}
 use Rattle.outcome_laws.proofs.Posing.{problems_exist}
 use Rattle.outcome_laws.proofs.Proved.{proof_exists}
 use Rattle.outcome_laws.proofs.Readable.{certificate_read}
@@ -151,7 +152,7 @@ module _ (ls : Layers) (s t : Cell) where
   reply_by pick.Block = reply_exists (record { engine = engine.Block; layers = ls }) s t
   reply_by pick.Plus = reply_exists (record { engine = engine.Plus; layers = ls }) s t
   reply_by pick.Boxes = boxed_exists ls s t
-  reply_by pick.Moves = led_exists ls s t
+  reply_by pick.Moves = let m = moves_exist (query_grid ls s) in led_exists ls s t m.0 m.1
 
 who_replies : (set : Settings) (m : Map) (s t : Cell)
     → (reply : Reply) × IsReplyBy (who_on set m) s t reply

@@ -4,9 +4,9 @@ use Rattle.std.specs.Prelude.{◌≢◌, codes, decimal, cond, if◌then◌else�
 use Rattle.std.specs.List.{count_by, list_all, sum_by}
 use Rattle.std.proofs.lemmas.List.{length-map}
 use Rattle.std.proofs.lemmas.List.Sums.{sum_by-cons}
-use Rattle.root2_cost.specs.declared.lengths.Verdict.TheVariants.{Agree, Near, Off}
+use Rattle.root2_cost.specs.declared.lengths.Verdict.TheVariants.{Agree, Near}
 use Rattle.word_list.specs.declared.request.Show.{Show}
-use Rattle.word_list.specs.declared.request.Show.TheVariants.{Points, Cells, Trace, Taken}
+use Rattle.word_list.specs.declared.request.Show.TheVariants.{Taken}
 use Rattle.jps_run.specs.Rows.{count_text, is_agree, is_near, is_off, is_other, row_line, row_lines, row_text}
 use Rattle.jps_run.specs.Rows.{scen_lines, scen_status, states_in, sum_line, verdict_text}
 use Rattle.jps_run.specs.declared.replies.row.Row.{Row}
@@ -28,38 +28,20 @@ module _ (p : Row → Bool) (same : (r : Row) → p r ≡ p (without_taken r)) w
       ∙ sym (sum_by-cons (λ x. cond (p x) 1 0) (without_taken r) (bare rows))
 
 agree-bare : (r : Row) → is_agree r ≡ is_agree (without_taken r)
-agree-bare row.Scale = refl
-agree-bare row.Outside = refl
-agree-bare row.Blocked = refl
-agree-bare (row.None taken) = refl
 agree-bare (row.Judged Agree cost taken) = refl
-agree-bare (row.Judged Near cost taken) = refl
-agree-bare (row.Judged Off cost taken) = refl
+agree-bare r = refl
 
 near-bare : (r : Row) → is_near r ≡ is_near (without_taken r)
-near-bare row.Scale = refl
-near-bare row.Outside = refl
-near-bare row.Blocked = refl
-near-bare (row.None taken) = refl
 near-bare (row.Judged Agree cost taken) = refl
-near-bare (row.Judged Near cost taken) = refl
-near-bare (row.Judged Off cost taken) = refl
+near-bare r = refl
 
 off-bare : (r : Row) → is_off r ≡ is_off (without_taken r)
-off-bare row.Scale = refl
-off-bare row.Outside = refl
-off-bare row.Blocked = refl
-off-bare (row.None taken) = refl
 off-bare (row.Judged Agree cost taken) = refl
-off-bare (row.Judged Near cost taken) = refl
-off-bare (row.Judged Off cost taken) = refl
+off-bare r = refl
 
 other-bare : (r : Row) → is_other r ≡ is_other (without_taken r)
 other-bare row.Scale = refl
-other-bare row.Outside = refl
-other-bare row.Blocked = refl
-other-bare (row.None taken) = refl
-other-bare (row.Judged verdict cost taken) = refl
+other-bare r = refl
 
 -- the row is agree or near
 abbrev is_right : Row → Bool
@@ -67,13 +49,9 @@ is_right r = is_agree r || is_near r
 
 all-bare : (rows : List Row) → list_all is_right rows ≡ list_all is_right (bare rows)
 all-bare [] = refl
-all-bare (row.Scale ∷ rows) = refl
-all-bare (row.Outside ∷ rows) = refl
-all-bare (row.Blocked ∷ rows) = refl
-all-bare (row.None taken ∷ rows) = refl
 all-bare (row.Judged Agree cost taken ∷ rows) = all-bare rows
 all-bare (row.Judged Near cost taken ∷ rows) = all-bare rows
-all-bare (row.Judged Off cost taken ∷ rows) = refl
+all-bare (r ∷ rows) = refl
 
 -- the status is that of the bare rows
 status-bare : (rows : List Row) → scen_status rows ≡ scen_status (bare rows)
@@ -107,21 +85,17 @@ module _ (show : Show) (hidden : show ≢ Taken) where
   no_count = by_show show hidden
     where
       by_show : (s : Show) → s ≢ Taken → (n : ℕ) → count_text s n ≡ []
-      by_show Points h n = refl
-      by_show Cells h n = refl
-      by_show Trace h n = refl
       by_show Taken h n = absurd (h refl)
+      by_show s h n = refl
 
   text-bare : (r : Row) → row_text show r ≡ row_text show (without_taken r)
-  text-bare row.Scale = refl
-  text-bare row.Outside = refl
-  text-bare row.Blocked = refl
   text-bare (row.None taken) =
       ap (λ (end : List ℕ). codes "none" ++ end) (no_count taken ∙ sym (no_count 0))
   text-bare (row.Judged verdict cost taken) =
       ap (λ (end : List ℕ). verdict_text verdict ++ codes " " ++ decimal cost.a ++ codes " "
       ++ decimal cost.b ++ end)
       (no_count taken ∙ sym (no_count 0))
+  text-bare r = refl
 
   lines-bare : (number : ℕ) (rows : List Row) → row_lines show number rows ≡ row_lines show number (bare rows)
   lines-bare number [] = refl

@@ -43,11 +43,6 @@ if_of : {A : Type 0} (b : Bool) (x y : A) → (if b then Some x else None) ≡ S
 if_of true x y e = (refl, same_value x y e)
 if_of false x y e = absurd (cc)
 
-when_of : {A : Type 0} (b : Bool) (o : Option A) (y : A) → (if b then o else None) ≡ Some y
-    → (b ≡ true) × (o ≡ Some y)
-when_of true o y e = (refl, e)
-when_of false o y e = absurd (cc)
-
 lt_true : (m n : ℕ) → m < n → nat_lt m n ≡ true
 lt_true m n h = grind (arith, nat_tests)
 

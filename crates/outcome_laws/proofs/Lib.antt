@@ -7,6 +7,7 @@ pub mod Words
 pub mod Files
 pub mod Ground
 pub mod Least
+pub mod OfCell
 pub mod Costs
 pub mod Boxes
 pub mod Runs

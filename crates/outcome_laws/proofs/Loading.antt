@@ -81,12 +81,8 @@ plus_picked : (set : Settings) → has_tables set.pick ≡ true → set.pick ≡
 plus_picked set has = by_pick set.pick has
   where
     by_pick : (p : Pick) → has_tables p ≡ true → p ≡ pick.Plus
-    by_pick pick.Plain h = absurd (cc)
-    by_pick pick.Jps h = absurd (cc)
-    by_pick pick.Block h = absurd (cc)
     by_pick pick.Plus h = refl
-    by_pick pick.Boxes h = absurd (cc)
-    by_pick pick.Moves h = absurd (cc)
+    by_pick p h = absurd (cc)
 
 pub picked : (words : List (List ℕ)) (call like : Call) (map tables : List ℕ) → Spell words call
     → DifferInTables map tables call like → call.settings.pick ≡ pick.Plus

@@ -1,7 +1,7 @@
 -- From each free cell there are first moves, and walks of them.
 use Rattle.std.proofs.Common.{◌≡◌, ◌⊎◌, inl, inr, refl, sym, ap, ◌∙◌, subst, ℕ, zero, suc, ◌*◌, ◌/◌, ◌%◌}
 use Rattle.std.proofs.Common.{◌<◌, arith, Bool, true, false, List, [], ◌∷◌, length}
-use Rattle.std.specs.Prelude.{Option, Some, None, IsTrue, ◌↔◌, slice_index_or, codes}
+use Rattle.std.specs.Prelude.{Option, Some, None, IsTrue, ◌↔◌, slice_index_or}
 use Rattle.std.proofs.lemmas.Bool.Decides.{nat_tests}
 use Rattle.std.proofs.lemmas.Nat.{div-mul-add, mod-mul-add}
 use Rattle.root2_cost.specs.declared.Cost.{Cost}
@@ -9,7 +9,7 @@ use Rattle.root2_cost.proofs.AtMost.{IsAtMost-not_more, IsAtMost-or_more}
 use Rattle.grid_moves.specs.declared.Cell.{Cell}
 use Rattle.grid_moves.specs.declared.Dir.{Dir}
 use Rattle.grid_moves.specs.Grid.{GridData, cell_number, is_free, is_inside}
-use Rattle.grid_moves.specs.Layers.{Layers, is_free_ground, is_on_map, query_grid}
+use Rattle.grid_moves.specs.Layers.{Layers, query_grid}
 use Rattle.grid_moves.specs.Move.{all_dirs, legal_ahead}
 use Rattle.grid_moves.specs.Walk.{cost_of}
 use Rattle.grid_moves.proofs.Ahead.{legal_ahead-is}
@@ -17,15 +17,14 @@ use Rattle.grid_moves.proofs.Legal.{legal_is, same_cell}
 use Rattle.grid_moves.proofs.Short.{least_rest}
 use Rattle.cost_waves.specs.Begin.{Begins, IsCostTo}
 use Rattle.cost_waves.proofs.Falling.{goes_over, least_by_move, least_on}
-use Rattle.first_moves.specs.Existence.{HasFollowed}
 use Rattle.first_moves.specs.First.{IsFirstMove, first_where}
 use Rattle.first_moves.specs.Row.{AreMoves, IsRow, MovesData}
 use Rattle.first_moves.specs.Runs.{runs_of}
 use Rattle.first_moves.specs.declared.row.Run.{Run}
-use Rattle.first_moves.proofs.Leading.{has_followed}
 use Rattle.first_moves.proofs.Picking.{below_all, first_is}
 use Rattle.first_moves.proofs.Rows.{without_moves}
-use Rattle.grid_answers.specs.RunLines.{IsRunText, blocked, outside, runs_text, told}
+use Rattle.grid_answers.specs.RunLines.{IsRunText, runs_text}
+use Rattle.outcome_laws.proofs.OfCell.{told_exists}
 use Rattle.outcome_laws.proofs.Reached.{cost_exists, on_grid}
 
 -- a move begins a least walk, or it does not
@@ -140,18 +139,9 @@ module _ (g : GridData) (s : Cell) (free : is_free g s ≡ true) where
   )
 
 pub runs_exist : (ls : Layers) (s : Cell) → (text : List ℕ) × IsRunText ls s text
-runs_exist ls s = by_map (is_on_map ls s) refl
-  where
-    by_ground : is_on_map ls s ≡ true → (b : Bool) → is_free_ground ls s ≡ b
-        → (text : List ℕ) × IsRunText ls s text
-    by_ground on false e = (codes "blocked\n", blocked on e)
-    by_ground on true e =
-        let row = row_exists (query_grid ls s) s (on_grid ls s e) in
-        (runs_text (query_grid ls s).width row.0, told row.0 e row.1)
-
-    by_map : (b : Bool) → is_on_map ls s ≡ b → (text : List ℕ) × IsRunText ls s text
-    by_map false e = (codes "outside\n", outside e)
-    by_map true e = by_ground e (is_free_ground ls s) refl
+runs_exist ls s = told_exists ls s (λ line. line) (λ free.
+    let row = row_exists (query_grid ls s) s (on_grid ls s free) in
+    (runs_text (query_grid ls s).width row.0, (row.0, row.1, refl)))
 
 -- all rows of a grid
 module _ (g : GridData) where
@@ -184,8 +174,3 @@ module _ (g : GridData) where
     record { width = g.width; height = g.height; rows = rows },
     record { width = refl; height = refl; rows = row_at_cell },
   )
-
-pub followed_exists : (g : GridData) (s t : Cell) → is_free g s ≡ true → is_free g t ≡ true
-    → HasFollowed g s t
-followed_exists g s t from to =
-    let m = moves_exist g in has_followed g m.0 m.1 t to s from

@@ -179,23 +179,17 @@ is_small by_moves = true
 small_by : (p : Pick) → is_for_small_maps p ≡ is_small (way_of (by_of p))
 unfolding is_small
 small_by pick.Plain = refl
-small_by pick.Jps = refl
-small_by pick.Block = refl
-small_by pick.Plus = refl
-small_by pick.Boxes = refl
-small_by pick.Moves = refl
+small_by p = refl
 
 same_small : (p q : Pick) → way_of (by_of p) ≡ way_of (by_of q) → is_for_small_maps p ≡ is_for_small_maps q
 same_small p q way = small_by p ∙ ap is_small way ∙ sym (small_by q)
 
 -- those that jump do
 jump_way : (p : Pick) → is_jump p ≡ true → way_of (by_of p) ≡ by_session engine.Jps
-jump_way pick.Plain e = absurd (cc)
 jump_way pick.Jps e = refl
 jump_way pick.Block e = refl
 jump_way pick.Plus e = refl
-jump_way pick.Boxes e = absurd (cc)
-jump_way pick.Moves e = absurd (cc)
+jump_way p e = absurd (cc)
 
 module _ (holds : List ℕ → Held) (script : List ℕ) (call like : Call) (alike : DifferInEngine call like)
     (told : AreTold holds (files_of call)) where

@@ -199,14 +199,8 @@ unfolding plain_in
 same_plain p q e = ap (plain_in p) e
 
 closed_whole : (state : State) (n : ℕ) (p : Plain) → May state → closed state n ≡ Ok p → is_whole p ≡ true
-closed_whole at_version n p m e = absurd (cc)
-closed_whole at_size n p m e = absurd (cc)
-closed_whole (at_ends width height) n p m e = absurd (cc)
-closed_whole (at_claim head) n p m e = absurd (cc)
-closed_whole (at_points head cost) n p m e = absurd (cc)
-closed_whole (in_values head cost points least values) n p m e = absurd (cc)
-closed_whole (in_cells head least cells) n p m e = absurd (cc)
 closed_whole (ended q) n p m e = subst (λ (r : Plain). is_whole r ≡ true) (same_plain q p e) m
+closed_whole state n p m e = absurd (cc)
 
 read_whole : (lines : List (List ℕ)) (n : ℕ) (state : State) (p : Plain)
     → list_all (λ line. nat_le (length line) (2 ^ 30)) lines ≡ true → May state

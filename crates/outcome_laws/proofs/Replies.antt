@@ -106,10 +106,7 @@ module _ (ls : Layers) (are : AreLayers ls) (s t : Cell) (one other : Reply)
   jumped_is_one : (by other_by : By) → is_by_jumps by ≡ true → is_by_jumps other_by ≡ true
       → IsReplyOn by (query_grid ls s) s t one → IsReplyOn other_by (query_grid ls s) s t other → one ≡ other
   jumped_is_one (by_session d) (by_session e) f h is also = searched_is_one d e (plainness d e f h) is also
-  jumped_is_one (by_session d) by_boxes f h is also = absurd (cc)
-  jumped_is_one (by_session d) by_moves f h is also = absurd (cc)
-  jumped_is_one by_boxes by f h is also = absurd (cc)
-  jumped_is_one by_moves by f h is also = absurd (cc)
+  jumped_is_one by other_by f h is also = absurd (cc)
 
 -- replies of one kind that cost the same come to the same
 same_gist : (one other : Reply) → AreAlike one other → gist_of one ≡ gist_of other

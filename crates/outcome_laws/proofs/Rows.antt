@@ -29,9 +29,7 @@ row_found listed finding.Same = row.Scale
 row-found : (listed : Decimal) (r : Reply) → without_taken (row_of listed r) ≡ row_found listed (finding_of r)
 unfolding row_found
 row-found listed reply.Outside = refl
-row-found listed reply.Blocked = refl
-row-found listed (reply.None taken) = refl
-row-found listed (reply.Walk points cost taken) = refl
+row-found listed r = refl
 
 not_both : {A : Type 0} (a b : Bool) → a ≡ b → a ≡ true → b ≡ false → A
 not_both a b same e f = let h : true ≡ false = sym e ∙ same ∙ f in absurd (cc)

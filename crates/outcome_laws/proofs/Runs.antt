@@ -18,11 +18,12 @@ use Rattle.first_moves.proofs.Picking.{same_dir}
 use Rattle.grid_moves.specs.declared.Cell.{Cell}
 use Rattle.grid_moves.specs.declared.Dir.{Dir}
 use Rattle.grid_moves.specs.Grid.{GridData, IsGrid, cell_number, is_free, is_inside}
-use Rattle.grid_moves.specs.Layers.{AreLayers, Layers, is_free_ground, is_on_map, query_grid}
+use Rattle.grid_moves.specs.Layers.{AreLayers, Layers, query_grid}
 use Rattle.grid_moves.specs.Walk.{cost_of}
 use Rattle.path_points.proofs.Joined.{cost_counts}
-use Rattle.grid_answers.specs.RunLines.{IsRunText, blocked, outside, runs_text, told}
-use Rattle.outcome_laws.proofs.Ground.{and_true, ground_on, not_both, query_free, query_whole}
+use Rattle.grid_answers.specs.RunLines.{IsRunText, runs_text}
+use Rattle.outcome_laws.proofs.OfCell.{one_told}
+use Rattle.outcome_laws.proofs.Ground.{and_true, query_free, query_whole}
 
 lt_true : (m n : ℕ) → m < n → nat_lt m n ≡ true
 lt_true m n h = grind (arith, nat_tests)
@@ -99,16 +100,6 @@ module _ (g : GridData) (s : Cell) (free : is_free g s ≡ true) where
 
 pub one_text : (ls : Layers) (s : Cell) (one other : List ℕ) → AreLayers ls
     → IsRunText ls s one → IsRunText ls s other → one ≡ other
-one_text ls s _ _ are (outside off) (outside away) = refl
-one_text ls s _ _ are (outside off) (blocked on shut) = not_both (is_on_map ls s) on off
-one_text ls s _ _ are (outside off) (told runs free is) =
-    not_both (is_on_map ls s) (ground_on ls are s free) off
-one_text ls s _ _ are (blocked on shut) (outside off) = not_both (is_on_map ls s) on off
-one_text ls s _ _ are (blocked on shut) (blocked too bare) = refl
-one_text ls s _ _ are (blocked on shut) (told runs free is) = not_both (is_free_ground ls s) free shut
-one_text ls s _ _ are (told runs free is) (outside off) =
-    not_both (is_on_map ls s) (ground_on ls are s free) off
-one_text ls s _ _ are (told runs free is) (blocked on shut) = not_both (is_free_ground ls s) free shut
-one_text ls s _ _ are (told runs free is) (told others too also) =
-    ap (λ (r : List Run). runs_text (query_grid ls s).width r)
-    (one_row (query_grid ls s) s (query_free ls are s free) (query_whole ls are s) runs others is also)
+one_text ls s one other are = one_told ls s (λ line. line) one other are (λ x y free p q.
+    p.2 ∙ ap (λ (r : List Run). runs_text (query_grid ls s).width r)
+    (one_row (query_grid ls s) s (query_free ls are s free) (query_whole ls are s) p.0 q.0 p.1 q.1) ∙ sym q.2)

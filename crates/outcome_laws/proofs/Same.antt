@@ -8,7 +8,7 @@ use Rattle.edit_replay.specs.declared.engine.Engine.TheVariants as engine
 use Rattle.edit_replay.specs.declared.reply.Reply.{Reply}
 use Rattle.edit_replay.specs.declared.reply.Reply.TheVariants as reply
 use Rattle.jps_run.specs.Session.{session_after}
-use Rattle.jps_run.specs.Who.{By, Who, by_session, by_boxes, by_moves, who_is, IsReplyBy}
+use Rattle.jps_run.specs.Who.{By, Who, by_session, who_is, IsReplyBy}
 use Rattle.jps_run.specs.Drill.{finding_of}
 use Rattle.jps_run.specs.declared.replies.findings.Finding.{Finding}
 use Rattle.jps_run.specs.declared.replies.findings.Finding.TheVariants as finding
@@ -31,20 +31,13 @@ FindTheSame who other =
 -- one way of all engines that jump
 way-jumps : (by : By) → is_by_jumps (way_of by) ≡ is_by_jumps by
 way-jumps (by_session engine.Plain) = refl
-way-jumps (by_session engine.Jps) = refl
-way-jumps (by_session engine.Block) = refl
-way-jumps (by_session engine.Plus) = refl
-way-jumps by_boxes = refl
-way-jumps by_moves = refl
+way-jumps by = refl
 
 -- and each of the others has its own
 way-itself : (by : By) → is_by_jumps by ≡ false → way_of by ≡ by
 way-itself (by_session engine.Plain) e = refl
-way-itself (by_session engine.Jps) e = absurd (cc)
-way-itself (by_session engine.Block) e = absurd (cc)
-way-itself (by_session engine.Plus) e = absurd (cc)
-way-itself by_boxes e = refl
-way-itself by_moves e = refl
+way-itself (by_session jumps) e = absurd (cc)
+way-itself by e = refl
 
 same_who : (who other : Who) → who.layers ≡ other.layers → who.by ≡ other.by → who ≡ other
 same_who who other e f =
@@ -76,9 +69,7 @@ found (gist.walk cost) = finding.Walk cost
 found-gist : (r : Reply) → found (gist_of r) ≡ finding_of r
 unfolding found
 found-gist reply.Outside = refl
-found-gist reply.Blocked = refl
-found-gist (reply.None taken) = refl
-found-gist (reply.Walk points cost taken) = refl
+found-gist r = refl
 
 pub find_same : (who other : Who) → AreLayers who.layers → who.layers ≡ other.layers → FindTheSame who other
 find_same who other are layers s t a b p q =

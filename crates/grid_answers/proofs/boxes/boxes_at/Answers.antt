@@ -1,23 +1,14 @@
-use Rattle.std.proofs.Common.{sym}
-use Rattle.grid_moves.specs.declared.Cell.{Cell}
-use Rattle.grid_answers.specs.BoxLines.{IsBoxText, outside}
-use Rattle.grid_answers.proofs.Cells.{blocked-boxes, if_line, if_same}
+use Rattle.grid_answers.specs.BoxLines.{IsBoxText}
+use Rattle.grid_answers.specs.OfCell.{untold}
+use Rattle.grid_answers.proofs.Cells.{if_line, if_same}
 use Rattle.grid_answers.proofs.boxes.boxes_at.Goals as goal
 
-pub returns-in_default : goal.returns-in_default
-returns-in_default c =
-    if_line c.from_slice.result (IsBoxText c.args.layers.now (record { x = c.args.x; y = c.args.y })) _
-    c.from_slice.ensures.items (outside c.in_default.ensures)
+pub returns-in-Ok : goal.returns-in-Ok
+returns-in-Ok c =
+    if_same c.boxes_from.result (IsBoxText c.args.layers.now) c.in-Ok.from (record { x = c.args.x; y = c.args.y })
+    c.in-Ok.ensures.0 c.boxes_from.ensures
 
-pub returns-then-not-is_free_ground : goal.returns-then-not-is_free_ground
-returns-then-not-is_free_ground c =
-    let s : Cell = record { x = c.args.x; y = c.args.y } in
-    if_line c.from_slice-then-not-is_free_ground.result (IsBoxText c.args.layers.now s) _
-    c.from_slice-then-not-is_free_ground.ensures.items
-    (blocked-boxes c.args.layers.now c.in-Some.from s c.in-Some.ensures.0 c.in-Some.ensures.1
-    (sym c.if-not-is_free_ground.ensures))
-
-pub returns : goal.returns
-returns c =
-    if_same c.boxes_from.result (IsBoxText c.args.layers.now) c.in-Some.from
-    (record { x = c.args.x; y = c.args.y }) c.in-Some.ensures.0 c.boxes_from.ensures
+pub returns-in-Err : goal.returns-in-Err
+returns-in-Err c =
+    if_line c.from_slice.result (IsBoxText c.args.layers.now (record { x = c.args.x; y = c.args.y })) c.in-Err.line.now
+    c.from_slice.ensures.items (untold c.in-Err.line.now c.in-Err.ensures)
