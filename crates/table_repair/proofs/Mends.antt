@@ -13,9 +13,6 @@ pub on_inside : (t : TablesData) (h : GridData) → AreSized t h → (u : Cell) 
 on_inside t h s u i = rw (s.width, s.height) i
 
 module _ {h : GridData} {d : Dir} {starts : Cell → Bool} where
-  pub mends_none : (t : TablesData) → Mends h d starts t t 0
-  mends_none t = grind (arith, nat_tests)
-
   -- what was right stays right
   pub right_stays : {old new : TablesData} {n : ℕ} → Mends h d starts old new n → (u : Cell) (e : Dir)
       → is_inside h u ≡ true → IsRight h old u e → IsRight h new u e

@@ -113,14 +113,7 @@ rear_behind d rows columns wide by side diagonal v w k here r =
     beyond : (d : Dir) → is_diagonal d ≡ true → AreMoved d (suc k) v w → (rows.first ≤ v.y) × (v.y < rows.end)
         → ((span_next (goes_down d) rows by side).first ≤ w.y)
         × (w.y < (span_next (goes_down d) rows by side).end) → ⊥
-    beyond NE q m a b = let e = m.1 in omega arith
-    beyond SE q m a b = let e = m.1 in omega arith
-    beyond SW q m a b = let e = m.1 in omega arith
-    beyond NW q m a b = let e = m.1 in omega arith
-    beyond N q m a b = absurd (cc)
-    beyond E q m a b = absurd (cc)
-    beyond S q m a b = absurd (cc)
-    beyond W q m a b = absurd (cc)
+    beyond d h i j k = grind (arith, nat_tests)
 
 -- the block lies on the map
 pub block_inside : (h : GridData) (c : Cell) (rows columns : Span) → rows ≡ span_beside c.y h.height
