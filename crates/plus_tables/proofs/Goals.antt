@@ -221,7 +221,7 @@ module _ (g : GridData) (goal x : Cell) (d : Dir) (f : is_free g x ≡ true) (h 
   -- so what it sees tells of the goal
   seen : (v : Cell) (k m : ℕ) (e : Dir) → 1 ≤ m → Sighted d k m x goal e
       → is_clear (table_entry g v e) m ≡ true → (k ≡ near) × (sees_from v ≡ true)
-  seen v k m e h i j = grind (arith, nat_tests)
+  seen v k m e p i j = grind (arith, nat_tests)
 
   come : (v : Cell) (k : ℕ) → columns ≡ k → rows ≡ k → (k ≡ near) × (sees_from v ≡ true)
   come v k p q = let there = met columns rows k p q in (there.0, rw there.1 refl)

@@ -224,7 +224,7 @@ module _ (g : GridData) (h : Heading) (y start k : ℕ) (all row : List ℤ) (be
       → ((c : Cell) (e : Dir) → after c e ≡ true → c.y ≢ y → before c e ≡ true)
       → AreRight (as_tables g (put_mid start k all row)) g after
   unfolding final place
-  right_swept before after h i j =
+  right_swept before after p i j =
       grind (arith, nat_tests, elsewhere, final, place, kept_above, kept_below, told_here, kept_here)
 
 -- one more row is swept: what was right stays so, and lies in rows that are there

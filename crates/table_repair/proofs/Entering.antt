@@ -104,7 +104,7 @@ module _ {h : GridData} {d : Dir} (rows columns : Span) {left rest : Span} {y : 
 
       split : (w : Cell) → (is_at_one walks w || is_in_row y columns w) ≡ false
           → is_in rest columns w ≡ false → (is_at_one walks w || is_in left columns w) ≡ false
-      split w k r = grind (arith, nat_tests)
+      split w p r = grind (arith, nat_tests)
 
 -- no row is left, and the walks are led out
 pub enter_ends : {h : GridData} {d : Dir} {all left : Cell → Bool} {old now new : TablesData}

@@ -54,7 +54,7 @@ module _ (h : GridData) (rows columns : Span) (by : ℕ) (d : Dir) (v : Cell) (i
   in_column : is_among columns v.x ≡ true
       → (is_among rows v.y ≡ true) ⊎ (is_among (span_next (goes_down d) rows by h.height) v.y ≡ true)
       → is_in_reach h rows columns by d v ≡ true
-  in_column h i = grind (arith, nat_tests, block_reached, and_true, or_right)
+  in_column p q = grind (arith, nat_tests, block_reached, and_true, or_right)
 
 -- and so is what lies that far behind it in a component
 pub line_reached : (h : GridData) (rows columns : Span) (by : ℕ) (d : Dir) (s : Side) → is_diagonal d ≡ true
@@ -113,7 +113,7 @@ rear_behind d rows columns wide by side diagonal v w k here r =
     beyond : (d : Dir) → is_diagonal d ≡ true → AreMoved d (suc k) v w → (rows.first ≤ v.y) × (v.y < rows.end)
         → ((span_next (goes_down d) rows by side).first ≤ w.y)
         × (w.y < (span_next (goes_down d) rows by side).end) → ⊥
-    beyond d h i j k = grind (arith, nat_tests)
+    beyond d p q j k = grind (arith, nat_tests)
 
 -- the block lies on the map
 pub block_inside : (h : GridData) (c : Cell) (rows columns : Span) → rows ≡ span_beside c.y h.height

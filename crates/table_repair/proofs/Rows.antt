@@ -101,7 +101,7 @@ module _ {h : GridData} {d : Dir} (rows columns : Span) {left rest : Span} {y : 
 
       wider : (w : Cell) → (is_in_row y columns w || (is_in rest columns w || can.later w)) ≡ false
           → (is_in left columns w || can.later w) ≡ false
-      wider w k = grind (arith, nat_tests, or_false, false_or, split)
+      wider w p = grind (arith, nat_tests, or_false, false_or, split)
 
       at_row : (v : Cell) → is_in_row y columns v ≡ true → IsTaken (goes_down d) left v.y rest
       at_row v here = grind (arith, nat_tests)

@@ -96,7 +96,7 @@ module _ {h : GridData} {d : Dir} {v : Cell} {old now : TablesData} {at_cell : C
     stays w f j other = grind (arith, nat_tests, entry-with_other, whole, on, on_inside)
 
     right_kept : (w : Cell) → is_inside h w ≡ true → IsRight h now w d → IsRight h new w d
-    right_kept w h i = grind (arith, nat_tests, cases_Bool, is_same-cell, set_right, stays, apart)
+    right_kept w p q = grind (arith, nat_tests, cases_Bool, is_same-cell, set_right, stays, apart)
 
     pub walk_goes_on : AreReady h old d → entry_at now u d ≢ table_entry h u d
         → Walked h d v old new u (n + 1)
@@ -178,7 +178,7 @@ walk_short h d v u n grid i j r =
   where
     by_dir : (d : Dir) → IsMoved (column_trend d) n u.x v.x → IsMoved (row_trend d) n u.y v.y
         → u.x < 4096 → v.x < 4096 → u.y < 4096 → v.y < 4096 → n < 4096
-    by_dir d h i j k l m = grind (arith, nat_tests)
+    by_dir d p q j k l m = grind (arith, nat_tests)
 
 -- a refresh of a right entry leaves the tables as they are
 pub nothing_set : (h : GridData) (t new : TablesData) (u : Cell) (d : Dir) → AreReady h t d
