@@ -1,10 +1,12 @@
 -- A call picks an engine of small maps only where its command's row allows one.
+use Rattle.std.proofs.Common.{arith}
+use Rattle.std.proofs.lemmas.Bool.Decides.{nat_tests}
 use Rattle.std.proofs.Common.{◌≡◌, ℕ, Bool, true, false, List, [], ◌∷◌, ◌++◌, length, drop, refl, ap, subst}
 use Rattle.std.specs.Prelude.{Option, Some, None, unwrap_or, option_and_then, bytes_eq, codes, if◌then◌else◌}
 use Rattle.std.specs.List.{fold}
 use Rattle.std.proofs.lemmas.Bool.{and_parts}
 use Rattle.word_list.specs.declared.request.Pick.{Pick}
-use Rattle.word_list.specs.declared.request.Pick.TheVariants.{Plain, Jps, Block, Plus, Boxes, Moves}
+use Rattle.word_list.specs.declared.request.Pick.TheVariants.{Boxes, Moves}
 use Rattle.word_list.specs.declared.request.Settings.{Settings}
 use Rattle.word_list.specs.declared.rows.Kind.{Kind}
 use Rattle.word_list.specs.declared.settings.Family.{Family}
@@ -24,22 +26,13 @@ BarSmall allows = (pick : Pick) → is_allowed allows (Some (setting.Engine pick
 
 bars : (allows : List Family) → is_allowed allows (Some (setting.Engine Boxes)) ≡ false
     → is_allowed allows (Some (setting.Engine Moves)) ≡ false → BarSmall allows
-bars allows boxes moves Plain may = refl
-bars allows boxes moves Jps may = refl
-bars allows boxes moves Block may = refl
-bars allows boxes moves Plus may = refl
-bars allows boxes moves Boxes may = absurd (cc)
-bars allows boxes moves Moves may = absurd (cc)
+bars allows h i = grind (arith, nat_tests)
 
 module _ (allows : List Family) (bar : BarSmall allows) where
   with_one : (set : Settings) (s : Option Setting) → is_allowed allows s ≡ true
       → is_for_small_maps set.pick ≡ false
       → is_for_small_maps (settings_with set s).pick ≡ false
-  with_one set None may large = large
-  with_one set (Some (setting.Engine pick)) may large = bar pick may
-  with_one set (Some (setting.Show show)) may large = large
-  with_one set (Some (setting.Rule rule)) may large = large
-  with_one set (Some setting.TableFile) may large = large
+  with_one set s h i = grind (arith, nat_tests)
 
   -- no word of such settings picks one
   with_all : (before words : List (List ℕ)) (set : Settings) → all_follow allows before words ≡ true
@@ -70,9 +63,7 @@ record IsServing (row : Row) : Type 0 where
 -- the row of a name is this one, or one behind it
 either : (b : Bool) (row : Row) (others : Option Row) (one : Row) → IsServing row
     → (others ≡ Some one → IsServing one) → (if b then Some row else others) ≡ Some one → IsServing one
-either true row others one here behind e =
-    subst (λ (r : Row). IsServing r) (ap (λ (o : Option Row). unwrap_or o row) e) here
-either false row others one here behind e = behind e
+either b row others one h i j = grind (arith, nat_tests)
 
 barred : (row : Row) → is_allowed row.allows (Some (setting.Engine Boxes)) ≡ false
     → is_allowed row.allows (Some (setting.Engine Moves)) ≡ false → IsServing row
