@@ -1,8 +1,8 @@
 -- The work on items, one after the other.
+use Rattle.std.proofs.lemmas.Bool.Decides.{nat_tests}
 use Rattle.std.proofs.Common.{◌≡◌, sym, ap, ◌∙◌, subst, List, [], ◌∷◌, ◌++◌, append_assoc, ℕ, zero, suc, ◌+◌}
 use Rattle.std.proofs.Common.{◌<◌, ◌≤◌, ◌⊎◌, inl, inr, Bool, true, length, take, drop, get_or, arith}
 use Rattle.std.specs.Prelude.{◌≢◌, Result, IsErrAnd}
-use Rattle.std.specs.List.{concat}
 use Rattle.std.proofs.Math.Seq.{take-suc}
 use Rattle.std.proofs.lemmas.List.{take_all, take-append-drop, append-nil}
 use Rattle.io_edge.specs.Told.{Outflow}
@@ -18,16 +18,13 @@ use Rattle.line_work.proofs.Stopping.{passed, ends-on, no_stops, only_memory, on
 -- one more element
 take-more : {X : Type 0} (xs : List X) (i : ℕ) (x : X) → i < length xs → x ≡ get_or xs i x
     → take (i + 1) xs ≡ take i xs ++ x ∷ []
-take-more {X} xs i x h e =
-    ap (λ n. take n xs) (let s : i + 1 ≡ suc i = omega arith in s) ∙ take-suc xs i x h
-    ∙ ap (λ (y : X). take i xs ++ y ∷ []) (sym e)
+take-more xs i x h j = grind (arith, nat_tests, take-suc)
 
 -- one item more behind the earlier ones
 one-more : {Item : Type 0} (earlier more : List Item) (place : ℕ) (item : Item) → place < length more
     → item ≡ get_or more place item
     → (earlier ++ take place more) ++ item ∷ [] ≡ earlier ++ take (place + 1) more
-one-more {Item} earlier more place item h e = append_assoc earlier (take place more) (item ∷ [])
-    ∙ ap (λ (l : List Item). earlier ++ l) (sym (take-more more place item h e))
+one-more earlier more place item h i = grind (arith, nat_tests, append_assoc, take-more)
 
 -- with those that are left they are all
 rejoined : {Item : Type 0} (earlier more others : List Item) (place : ℕ)
@@ -47,8 +44,7 @@ some-left (x ∷ more) others (suc place) h = some-left more others place (omega
 -- nothing was counted for no items
 pub counts-none : {Job Item : Type 0} (Counted : Job → Job → List Item → ℕ → ℕ → Type 0) (job : Job) (at : ℕ)
     → CountsMore Counted job job [] at at
-counts-none {Item = Item} Counted job at = λ first earlier start h.
-    subst (λ (some : List Item). Counted first job some start at) (sym (append-nil earlier)) h
+counts-none Counted job at = grind (arith, nat_tests, append-nil)
 
 -- what is counted holds with one item more
 pub counts-more : {Job Item : Type 0} (Counted : Job → Job → List Item → ℕ → ℕ → Type 0) (old mid new : Job)
@@ -57,17 +53,13 @@ pub counts-more : {Job Item : Type 0} (Counted : Job → Job → List Item → �
     → ((first : Job) (some : List Item) (start : ℕ) → Counted first mid some start between
     → Counted first new (some ++ item ∷ []) start now)
     → CountsMore Counted old new (take (place + 1) items) at now
-counts-more {Item = Item} Counted old mid new items place item at between now h e counts one =
-    λ first earlier start c.
-    subst (λ (some : List Item). Counted first new some start now) (one-more earlier items place item h e)
-    (one first (earlier ++ take place items) start (counts first earlier start c))
+counts-more Counted old mid new items place item at between now h i j k = grind (arith, nat_tests, one-more)
 
 -- and with all
 pub counts-all : {Job Item : Type 0} (Counted : Job → Job → List Item → ℕ → ℕ → Type 0) (old new : Job)
     (items : List Item) (place at now : ℕ) → length items ≤ place
     → CountsMore Counted old new (take place items) at now → CountsMore Counted old new items at now
-counts-all {Item = Item} Counted old new items place at now h counts =
-    subst (λ (some : List Item). CountsMore Counted old new some at now) (take_all place items h) counts
+counts-all Counted old new items place at now h i = grind (arith, nat_tests, take_all)
 
 module _ {Job Item : Type 0} (Worked : Job → Job → List Item → List (List ℕ) → Type 0)
     (Whole : Job → List Item → List (List ℕ) → ℕ → Type 0) (closes : Bool)
@@ -77,12 +69,7 @@ module _ {Job Item : Type 0} (Worked : Job → Job → List Item → List (List 
   pub working-begun : (job : Job) (at : Outflow) (waiting : List ℕ) → waiting ≡ []
       → HaveWorked Worked first job earlier before at
       → IsWorking (Worked first job) (earlier ++ take 0 more) before at waiting
-  working-begun job at waiting e w = record {
-    lines = w.lines;
-    worked = subst (λ (some : List Item). Worked first job some w.lines) (sym (append-nil earlier)) w.worked;
-    sent = subst (λ (b : List ℕ). AreSent before at b w.lines) (sym e)
-        (all-sent before at w.lines w.wrote w.later);
-  }
+  working-begun job at waiting h i = grind (arith, nat_tests, append-nil, all-sent)
 
   -- one item more was worked
   pub working-more : (job job_now : Job) (place : ℕ) (item : Item) (at : Outflow)
@@ -93,35 +80,21 @@ module _ {Job Item : Type 0} (Worked : Job → Job → List Item → List (List 
       → Adds (Worked first job_now (some ++ item ∷ [])) lines waiting waiting_now)
       → IsWorking (Worked first job_now) (earlier ++ take (place + 1) more) before at waiting_now
   working-more job job_now place item at waiting waiting_now h e w adds =
-      let a = adds first (earlier ++ take place more) w.lines w.worked in
-      record {
-        lines = w.lines ++ a.more;
-        worked = subst (λ (some : List Item). Worked first job_now some (w.lines ++ a.more))
-            (one-more earlier more place item h e) a.stand;
-        sent = sent-more before at waiting waiting_now w.lines a.more w.sent a.appended;
-      }
+      grind (arith, nat_tests, one-more, sent-more)
 
   -- what waited was sent, or waits on
   pub working-on : (job : Job) (items : List Item) (mid now : Outflow) (waiting waiting_now : List ℕ)
       → IsWorking (Worked first job) items before mid waiting → mid.faults ≤ now.faults
       → (Wrote mid now waiting × (waiting_now ≡ [])) ⊎ (Wrote mid now [] × (waiting_now ≡ waiting))
       → IsWorking (Worked first job) items before now waiting_now
-  working-on job items mid now waiting waiting_now w l s = record {
-    lines = w.lines;
-    worked = w.worked;
-    sent = sent-on before mid now waiting waiting_now w.lines w.sent l s;
-  }
+  working-on job items mid now waiting waiting_now h i j = grind (arith, nat_tests, sent-on)
 
   -- the lines so far can be completed
   completed : (job : Job) (place : ℕ) (at : Outflow) (waiting : List ℕ)
       → (w : IsWorking (Worked first job) (earlier ++ take place more) before at waiting)
       → Completes (Whole first (earlier ++ (more ++ others))) (IsLeft closes (drop place more ++ others))
       w.lines
-  completed job place at waiting w =
-      subst (λ (all : List Item).
-      Completes (Whole first all) (IsLeft closes (drop place more ++ others)) w.lines)
-      (rejoined earlier more others place)
-      (can first job (earlier ++ take place more) (drop place more ++ others) w.lines w.worked)
+  completed job place at waiting w = grind (arith, nat_tests, rejoined)
 
   -- memory was refused while an item was left
   pub working-starved : {X : Type 0} (Done : X → Type 0) (job : Job) (place : ℕ) (now : Outflow)
@@ -176,8 +149,7 @@ module _ {Job Item : Type 0} (Worked : Job → Job → List Item → List (List 
     (can : CanComplete Worked Whole closes) (first job : Job) (items : List Item) (before at : Outflow) where
   -- before any item is worked
   pub worked-none : Worked first first [] [] → HaveWorked Worked first first [] before before
-  worked-none begins =
-      record { lines = []; worked = begins; wrote = nothing before.written; later = omega arith }
+  worked-none begins = grind (arith, nat_tests, nothing)
 
   -- the work on all items stopped
   pub worked-stops : {X : Type 0} (Done : X → Type 0) (now : Outflow) (result : Result X Stop)
@@ -209,15 +181,7 @@ module _ {Job Item : Type 0} (Worked : Job → Job → List Item → List (List 
       → ((first : Job) (some : List Item) (lines : List (List ℕ)) → Worked first job some lines
       → Adds (λ all. Whole first some all status) lines fresh bytes) → (sent : List ℕ) → sent ≡ bytes
       → IsClosed status sent
-  closed w status fresh bytes none adds sent e =
-      let a = adds first items w.lines w.worked in
-      record {
-        lines = w.lines ++ a.more;
-        whole = a.stand;
-        sent = subst (λ (b : List ℕ). AreSent before at b (w.lines ++ a.more)) (sym e)
-            (sent-more before at [] bytes w.lines a.more (all-sent before at w.lines w.wrote w.later)
-            (a.appended ∙ ap (λ (b : List ℕ). b ++ concat a.more) none));
-      }
+  closed w status fresh bytes none adds sent e = grind (arith, nat_tests)
 
   pub closing-stops : (status : ℕ) (bytes : List ℕ) → IsClosed status bytes → (now : Outflow)
       (result : Result ℕ Stop) (stop : Stop) → StopsSo (write_stops (WroteSome at now bytes)) stop

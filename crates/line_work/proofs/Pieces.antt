@@ -1,7 +1,8 @@
 -- Lines that go out in pieces.
+use Rattle.std.proofs.lemmas.Bool.Decides.{nat_tests}
 use Rattle.std.proofs.Common.{◌≡◌, refl, sym, ap, ◌∙◌, subst, List, [], ◌∷◌, ◌++◌, append_assoc, ℕ, suc, ◌+◌}
 use Rattle.std.proofs.Common.{◌<◌, ◌≤◌, ◌⊎◌, inl, inr, length, take, arith, length-append}
-use Rattle.std.specs.Prelude.{◌≢◌, Option, Some, None}
+use Rattle.std.specs.Prelude.{◌≢◌, Option}
 use Rattle.std.specs.List.{concat}
 use Rattle.std.specs.Io.KnownBytes.{Appends}
 use Rattle.std.proofs.lemmas.List.{append-nil, take-append-le}
@@ -14,16 +15,12 @@ use Rattle.line_work.specs.Working.{Completes}
 
 -- nothing was written
 pub nothing : (written : Option (List ℕ)) → Appends written written []
-nothing None = tt
-nothing (Some w) = sym (append-nil w)
+nothing written = grind (arith, nat_tests, append-nil)
 
 -- what was written, and then more
 pub appends-both : (a b c : Option (List ℕ)) (x y : List ℕ) → Appends a b x → Appends b c y
     → Appends a c (x ++ y)
-appends-both None b c x y f s = tt
-appends-both (Some xs) None c x y f s = absurd f
-appends-both (Some xs) (Some ys) None x y f s = absurd s
-appends-both (Some xs) (Some ys) (Some zs) x y f s = s ∙ ap (λ (l : List ℕ). l ++ y) f ∙ append_assoc xs x y
+appends-both a b c x y h i = grind (arith, nat_tests, append_assoc)
 
 take-both : {X : Type 0} (x y : List X) (n : ℕ) → take (length x + n) (x ++ y) ≡ x ++ take n y
 take-both [] y n = ap (λ m. take m y) (let e : 0 + n ≡ n = omega arith in e)
@@ -63,22 +60,12 @@ module _ (before : Outflow) where
   pub sent-more : (now : Outflow) (waiting waiting_now : List ℕ) (lines more : List (List ℕ))
       → AreSent before now waiting lines → waiting_now ≡ waiting ++ concat more
       → AreSent before now waiting_now (lines ++ more)
-  sent-more now waiting waiting_now lines more s e = record {
-    written = s.written;
-    others = s.others ++ more;
-    all = ap (λ (l : List (List ℕ)). l ++ more) s.all ∙ append_assoc s.written s.others more;
-    wrote = s.wrote;
-    wait = e ∙ ap (λ (l : List ℕ). l ++ concat more) s.wait ∙ sym (concat-append s.others more);
-    later = s.later;
-  }
+  sent-more now waiting waiting_now lines more h i = grind (arith, nat_tests, append_assoc, concat-append)
 
   -- all that waited was written
   pub sent-whole : (mid now : Outflow) (waiting : List ℕ) (lines : List (List ℕ))
       → AreSent before mid waiting lines → Wrote mid now waiting → Wrote before now (concat lines)
-  sent-whole mid now waiting lines s w =
-      subst (λ (l : List ℕ). Wrote before now l) (sym (ap concat s.all ∙ concat-append s.written s.others))
-      (appends-both before.written mid.written now.written (concat s.written) (concat s.others) s.wrote
-      (subst (λ (l : List ℕ). Wrote mid now l) s.wait w))
+  sent-whole mid now waiting lines s w = grind (arith, nat_tests, concat-append, appends-both)
 
   -- what waited was sent, or waits on
   pub sent-on : (mid now : Outflow) (waiting waiting_now : List ℕ) (lines : List (List ℕ))
@@ -107,12 +94,7 @@ module _ (before : Outflow) where
   pub front-sent : (now : Outflow) (waiting : List ℕ) (lines more : List (List ℕ))
       → (s : AreSent before now waiting lines)
       → Wrote before now (concat (take (length s.written) (lines ++ more)))
-  front-sent now waiting lines more s =
-      subst (λ (l : List (List ℕ)). Wrote before now (concat l))
-      (sym (ap (λ (l : List (List ℕ)). take (length s.written) (l ++ more)) s.all
-      ∙ ap (λ (l : List (List ℕ)). take (length s.written) l) (append_assoc s.written s.others more)
-      ∙ take-all s.written (s.others ++ more)))
-      s.wrote
+  front-sent now waiting lines more s = grind (arith, nat_tests, append_assoc, take-all)
 
   module _ (Whole : List (List ℕ) → ℕ → Type 0) (Left : Type 0) where
     -- a write of what waited failed, where these lines can be completed

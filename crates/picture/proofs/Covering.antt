@@ -1,8 +1,8 @@
 -- The runs of a row have its marked cells, are apart, and are the only ones.
-use Rattle.std.proofs.Common.{◌≡◌, ℕ, zero, suc, ◌+◌, ◌<◌, ◌≤◌, Bool, true, false, ◌||◌, eqb, ltb, List, []}
+use Rattle.std.proofs.Common.{◌≡◌, ℕ, zero, suc, ◌+◌, ◌<◌, ◌≤◌, Bool, true, false, ltb, List, []}
 use Rattle.std.proofs.Common.{◌∷◌, get_or, refl, sym, ap, subst, ◌∙◌, inl, inr, arith}
 use Rattle.std.specs.List.{list_any}
-use Rattle.std.proofs.lemmas.Bool.{cases_Bool, eqb-true}
+use Rattle.std.proofs.lemmas.Bool.{cases_Bool}
 use Rattle.std.proofs.lemmas.Bool.Decides.{nat_tests}
 use Rattle.picture.specs.Runs.{Run, with_cell, runs_from, has_cell, AreApart, AreRunsOf}
 
@@ -20,9 +20,6 @@ apart_earlier : (x y : ℕ) (runs : List Run) → x ≤ y → AreApart y runs �
 apart_earlier x y [] le apart = tt
 apart_earlier x y (run ∷ runs) le apart = (omega (arith, apart.0), apart.1, apart.2)
 
-apart_at : (x y : ℕ) (runs : List Run) → x ≡ y → AreApart x runs → AreApart y runs
-apart_at x y runs same apart = subst (λ (n : ℕ). AreApart n runs) same apart
-
 -- no run has a cell before where they begin
 none_before : (x k : ℕ) (runs : List Run) → AreApart x runs → k < x → list_any (has_cell k) runs ≡ false
 none_before x k [] apart lt = refl
@@ -31,20 +28,7 @@ none_before x k (run ∷ runs) apart lt =
     (none_before (run.from + run.long + 1) k runs apart.2 (omega (arith, apart.0)))
 
 with_cell_apart : (x : ℕ) (runs : List Run) → AreApart (x + 1) runs → AreApart x (with_cell x runs)
-with_cell_apart x [] apart = (omega arith, omega arith, tt)
-with_cell_apart x (run ∷ runs) apart = elim (cases_Bool (eqb run.from (x + 1))) [
-  | inl joins ↦
-      let at : run.from ≡ x + 1 = eqb-true run.from (x + 1) joins in
-      let rest = apart_at (run.from + run.long + 1) (x + (run.long + 1) + 1) runs (omega arith) apart.2 in
-      let first : x ≤ x = omega arith in
-      let some : 1 ≤ run.long + 1 = omega arith in
-      rw joins (first, some, rest)
-  | inr other ↦
-      let later : x + 1 + 1 ≤ run.from = grind (arith, nat_tests, apart.0) in
-      let first : x ≤ x = omega arith in
-      let some : 1 ≤ 1 = omega arith in
-      rw other (first, some, (later, apart.1, apart.2))
-]
+with_cell_apart x runs h = grind (arith, nat_tests)
 
 pub apart_from : (x : ℕ) (marks : List Bool) → AreApart x (runs_from x marks)
 apart_from x [] = tt
@@ -54,28 +38,11 @@ apart_from x (false ∷ marks) =
 
 -- a cell more is had where it lies, and no other is
 with_cell_here : (x : ℕ) (runs : List Run) → list_any (has_cell x) (with_cell x runs) ≡ true
-with_cell_here x [] = rw (in_run x (record { from = x; long = 1 }) (omega arith) (omega arith)) refl
-with_cell_here x (run ∷ runs) = elim (cases_Bool (eqb run.from (x + 1))) [
-  | inl joins ↦ rw joins
-      (rw (in_run x (record { from = x; long = run.long + 1 }) (omega arith) (omega arith)) refl)
-  | inr other ↦ rw other (rw (in_run x (record { from = x; long = 1 }) (omega arith) (omega arith)) refl)
-]
-
-joined_later : (x k n : ℕ) → x < k
-    → has_cell k (record { from = x; long = n + 1 }) ≡ has_cell k (record { from = x + 1; long = n })
-joined_later x k n lt = grind (arith, nat_tests)
+with_cell_here x runs = grind (arith, nat_tests)
 
 with_cell_later : (x k : ℕ) (runs : List Run) → x < k
     → list_any (has_cell k) (with_cell x runs) ≡ list_any (has_cell k) runs
-with_cell_later x k [] lt = rw (behind_run k (record { from = x; long = 1 }) (omega arith)) refl
-with_cell_later x k (run ∷ runs) lt = elim (cases_Bool (eqb run.from (x + 1))) [
-  | inl joins ↦
-      let at : run.from ≡ x + 1 = eqb-true run.from (x + 1) joins in
-      rw joins (ap (λ (b : Bool). b || list_any (has_cell k) runs)
-      (joined_later x k run.long lt
-      ∙ ap (λ (n : ℕ). has_cell k (record { from = n; long = run.long })) (sym at)))
-  | inr other ↦ rw other (rw (behind_run k (record { from = x; long = 1 }) (omega arith)) refl)
-]
+with_cell_later x k runs h = grind (arith, nat_tests)
 
 -- the cells of the runs are the marked ones
 pub cells_from : (x k : ℕ) (marks : List Bool)
@@ -109,8 +76,7 @@ HaveSame runs others = (k : ℕ) → list_any (has_cell k) runs ≡ list_any (ha
 
 first_cell : (x : ℕ) (run : Run) (runs : List Run) → AreApart x (run ∷ runs)
     → list_any (has_cell run.from) (run ∷ runs) ≡ true
-first_cell x run runs apart =
-    rw (in_run run.from run (omega arith) (omega (arith, apart.1))) refl
+first_cell x run runs apart = grind (arith, nat_tests)
 
 -- the first run of one begins no earlier than that of the other
 begins_no_earlier : (x y : ℕ) (run other : Run) (runs others : List Run) → AreApart x (run ∷ runs)
@@ -128,9 +94,7 @@ begins_no_earlier x y run other runs others apart apart_other same =
 -- the cell behind the first run is in none
 cell_behind : (x : ℕ) (run : Run) (runs : List Run) → AreApart x (run ∷ runs)
     → list_any (has_cell (run.from + run.long)) (run ∷ runs) ≡ false
-cell_behind x run runs apart =
-    rw (behind_run (run.from + run.long) run (omega arith))
-    (none_before (run.from + run.long + 1) (run.from + run.long) runs apart.2 (omega arith))
+cell_behind x run runs apart = grind (arith, nat_tests, behind_run, none_before)
 
 ends_no_later : (x y : ℕ) (run other : Run) (runs others : List Run) → run.from ≡ other.from
     → AreApart x (run ∷ runs) → AreApart y (other ∷ others) → HaveSame (run ∷ runs) (other ∷ others)
@@ -146,28 +110,14 @@ ends_no_later x y run other runs others begin apart apart_other same =
     ]
 
 same_run : (run other : Run) → run.from ≡ other.from → run.long ≡ other.long → run ≡ other
-same_run run other begin long =
-    ap (λ (n : ℕ). let one : Run = record { from = n; long = run.long } in one) begin
-    ∙ ap (λ (n : ℕ). let one : Run = record { from = other.from; long = n } in one) long
+same_run run other begin long = grind (arith, nat_tests)
 
 -- behind the first run they have the same cells too
 same_behind : (x y : ℕ) (run other : Run) (runs others : List Run) → run.from ≡ other.from
     → run.long ≡ other.long → AreApart x (run ∷ runs) → AreApart y (other ∷ others)
     → HaveSame (run ∷ runs) (other ∷ others) → HaveSame runs others
 same_behind x y run other runs others begin long apart apart_other same k =
-    elim (cases_Bool (ltb k (run.from + run.long + 1))) [
-      | inl within ↦
-          let lt : k < run.from + run.long + 1 = grind (arith, nat_tests) in
-          none_before (run.from + run.long + 1) k runs apart.2 lt
-          ∙ sym (none_before (other.from + other.long + 1) k others apart_other.2 (omega arith))
-      | inr not ↦
-          let le : run.from + run.long + 1 ≤ k = grind (arith, nat_tests) in
-          let mine : list_any (has_cell k) (run ∷ runs) ≡ list_any (has_cell k) runs =
-          ap (λ (b : Bool). b || list_any (has_cell k) runs) (behind_run k run (omega arith)) in
-          let its : list_any (has_cell k) (other ∷ others) ≡ list_any (has_cell k) others =
-          ap (λ (b : Bool). b || list_any (has_cell k) others) (behind_run k other (omega arith)) in
-          sym mine ∙ same k ∙ its
-    ]
+    grind (arith, nat_tests, cases_Bool, none_before, behind_run)
 
 same_runs : (x y : ℕ) (runs others : List Run) → AreApart x runs → AreApart y others → HaveSame runs others
     → runs ≡ others

@@ -7,16 +7,12 @@ use Rattle.std.proofs.lemmas.Bool.Decides.{nat_tests}
 use Rattle.std.proofs.lemmas.List.Sums.{AllPass-from_list_all}
 use Rattle.map_text.specs.Map.{is_terrain}
 use Rattle.picture.specs.declared.kinds.Ground.{Ground}
-use Rattle.picture.specs.declared.kinds.Ground.TheVariants.{Swamp, Trees, Wall, Water}
 use Rattle.picture.specs.Grounds.{is_of, is_background, ground_of}
 use Rattle.picture.specs.Laws.{IsDrawnOnce}
 use Rattle.picture.proofs.Covering.{cells_of}
 
 own_ground : (kind : Ground) (byte : ℕ) → (is_of kind byte ≡ true) ↔ (ground_of byte ≡ Some kind)
-own_ground Swamp byte = (λ is. grind (arith, nat_tests), λ is. grind (arith, nat_tests))
-own_ground Trees byte = (λ is. grind (arith, nat_tests), λ is. grind (arith, nat_tests))
-own_ground Wall byte = (λ is. grind (arith, nat_tests), λ is. grind (arith, nat_tests))
-own_ground Water byte = (λ is. grind (arith, nat_tests), λ is. grind (arith, nat_tests))
+own_ground kind byte = grind (arith, nat_tests)
 
 background : (byte : ℕ) → is_terrain byte ≡ true → (is_background byte ≡ true) ↔ (ground_of byte ≡ None)
 background byte terrain = (λ is. grind (arith, nat_tests), λ is. grind (arith, nat_tests))

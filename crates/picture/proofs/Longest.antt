@@ -1,9 +1,9 @@
 -- Longest runs from the left: where the first one begins and ends.
-use Rattle.std.proofs.Common.{◌≡◌, ℕ, zero, suc, ◌+◌, ◌<◌, ◌≤◌, Bool, true, false, eqb, List, [], ◌∷◌, map}
-use Rattle.std.proofs.Common.{refl, ap, ◌∙◌, inl, inr, arith}
+use Rattle.std.proofs.Common.{◌≡◌, ℕ, zero, suc, ◌+◌, ◌<◌, ◌≤◌, Bool, true, false, List, [], ◌∷◌, map}
+use Rattle.std.proofs.Common.{refl, ap, ◌∙◌, arith}
 use Rattle.std.specs.Prelude.{⊤}
 use Rattle.std.specs.List.{list_any}
-use Rattle.std.proofs.lemmas.Bool.{cases_Bool, eq-eqb, or_parts}
+use Rattle.std.proofs.lemmas.Bool.{eq-eqb, or_parts}
 use Rattle.std.proofs.lemmas.Bool.Decides.{nat_tests}
 use Rattle.picture.specs.Runs.{Run, with_cell, runs_from}
 
@@ -22,15 +22,10 @@ Begins x [] = ⊤
 Begins x (run ∷ runs) = x ≤ run.from
 
 begins_earlier : (x y : ℕ) (runs : List Run) → x ≤ y → Begins y runs → Begins x runs
-begins_earlier x y [] le begins = tt
-begins_earlier x y (run ∷ runs) le begins = omega (arith, begins)
+begins_earlier x y runs h i = grind (arith, nat_tests)
 
 begins_with_cell : (x : ℕ) (runs : List Run) → Begins x (with_cell x runs)
-begins_with_cell x [] = omega arith
-begins_with_cell x (run ∷ runs) = elim (cases_Bool (eqb run.from (x + 1))) [
-  | inl joins ↦ rw joins (let le : x ≤ x = omega arith in le)
-  | inr apart ↦ rw apart (let le : x ≤ x = omega arith in le)
-]
+begins_with_cell x runs = grind (arith, nat_tests)
 
 pub begins_from : (x : ℕ) (marks : List Bool) → Begins x (runs_from x marks)
 begins_from x [] = tt
@@ -41,10 +36,7 @@ begins_from x (false ∷ marks) =
 -- a cell before a gap is a run of its own
 pub cell_apart : (x y : ℕ) (runs : List Run) → x + 1 < y → Begins y runs
     → with_cell x runs ≡ record { from = x; long = 1 } ∷ runs
-cell_apart x y [] lt begins = refl
-cell_apart x y (run ∷ runs) lt begins =
-    let other : eqb run.from (x + 1) ≡ false = grind (arith, nat_tests) in
-    rw other refl
+cell_apart x y runs h i = grind (arith, nat_tests)
 
 -- a cell before a run that begins in the next column joins it
 pub cell_joined : (x n : ℕ) (runs : List Run) → with_cell x (record { from = x + 1; long = n } ∷ runs)
@@ -58,16 +50,13 @@ Halts (true ∷ marks) = ⊥
 Halts (false ∷ marks) = ⊤
 
 begins_after : (x : ℕ) (marks : List Bool) → Halts marks → Begins (x + 1) (runs_from x marks)
-begins_after x [] halts = tt
-begins_after x (true ∷ marks) halts = absurd halts
-begins_after x (false ∷ marks) halts = begins_from (x + 1) marks
+begins_after x marks h = grind (arith, nat_tests, begins_from)
 
 same_run : (x n m : ℕ) (runs more : List Run) → n ≡ m → runs ≡ more
     → let one : Run = record { from = x; long = n } in
     let other : Run = record { from = x; long = m } in
     one ∷ runs ≡ other ∷ more
-same_run x n m runs more e f = ap (λ (k : ℕ). let run : Run = record { from = x; long = k } in run ∷ runs) e
-    ∙ ap (λ (rest : List Run). let run : Run = record { from = x; long = m } in run ∷ rest) f
+same_run x n m runs more e f = grind (arith, nat_tests)
 
 -- the first run ends where its marked cells do
 pub run_then : (x n : ℕ) (marks : List Bool) → Halts marks → runs_from x (marked (suc n) marks)

@@ -1,12 +1,13 @@
 -- A row that is passed over from the left.
-use Rattle.std.proofs.Common.{◌≡◌, ℕ, zero, suc, ◌+◌, ◌-◌, ◌<◌, ◌≤◌, Bool, true, false, List, [], ◌∷◌, ◌++◌}
+use Rattle.std.proofs.lemmas.Bool.Decides.{nat_tests}
+use Rattle.std.proofs.Common.{◌≡◌, ℕ, ◌+◌, ◌-◌, ◌<◌, ◌≤◌, Bool, true, false, List, [], ◌∷◌, ◌++◌}
 use Rattle.std.proofs.Common.{length, map, get_or, drop, Result, Ok, Err, sym, ap, ◌∙◌, append_assoc}
 use Rattle.std.proofs.Common.{drop-cons, arith}
 use Rattle.std.specs.Prelude.{OnOk}
 use Rattle.std.specs.List.{list_any}
 use Rattle.std.proofs.lemmas.List.{append-nil, drop_all}
 use Rattle.picture.specs.declared.kinds.Ground.{Ground}
-use Rattle.picture.specs.Runs.{Run, runs_from}
+use Rattle.picture.specs.Runs.{runs_from}
 use Rattle.picture.specs.Grounds.{is_of, runs_of}
 use Rattle.picture.specs.Picture.{texts_of, stroke_over}
 use Rattle.picture.specs.Strokes.{run_before}
@@ -31,46 +32,23 @@ pub record HasPassed (kind : Ground) (number old row : List ℕ) (x long : ℕ) 
 run_written : (number : List ℕ) (x long : ℕ) (marks : List Bool) → Halts marks → long ≤ x
     → run_before number x long ++ texts_of (stroke_over number) (runs_from x marks)
     ≡ texts_of (stroke_over number) (runs_from (x - long) (marked long marks))
-run_written number x zero marks halts short =
-    ap (λ (n : ℕ). texts_of (stroke_over number) (runs_from n marks)) (let e : x ≡ x - 0 = omega arith in e)
-run_written number x (suc n) marks halts short =
-    let back : x - suc n + suc n ≡ x = omega arith in
-    sym (ap (texts_of (stroke_over number)) (run_then (x - suc n) n marks halts)
-    ∙ ap (λ (k : ℕ). run_before number x (suc n) ++ texts_of (stroke_over number) (runs_from k marks)) back)
+run_written number x long marks h i = grind (arith, nat_tests, run_then)
 
 module _ (kind : Ground) (number old row : List ℕ) where
   -- a row without a cell of the ground
   pub nothing_drawn : list_any (is_of kind) row ≡ false → old ≡ old ++ strokes_of_row kind number row
-  nothing_drawn none = sym (append-nil old)
-      ∙ ap (λ (runs : List Run). old ++ texts_of (stroke_over number) runs)
-      (sym (no_run (is_of kind) row 0 none))
+  nothing_drawn none = grind (arith, nat_tests, append-nil, no_run)
 
   module _ (x long : ℕ) (new : List ℕ) (passed : HasPassed kind number old row x long new) where
     -- the cells that are left, of which one is the first
     first_left : x < length row
         → map (is_of kind) (drop x row) ≡ is_of kind (get_or row x 0) ∷ map (is_of kind) (drop (x + 1) row)
-    first_left more = ap (map (is_of kind)) (drop-cons row x 0 more
-        ∙ ap (λ (n : ℕ). get_or row x 0 ∷ drop n row) (let e : suc x ≡ x + 1 = omega arith in e))
+    first_left more = grind (arith, nat_tests, drop-cons, get_or)
 
     -- one cell more of the run
     pub cell_passed : (more : ℕ) (now : List ℕ) → x < length row → is_of kind (get_or row x 0) ≡ true
         → more ≡ long + 1 → now ≡ new → HasPassed kind number old row (x + 1) more now
-    cell_passed more now below is counts same =
-        let marks = map (is_of kind) (drop (x + 1) row) in
-        let place : (x + 1) - more ≡ x - long = omega arith in
-        let one : more ≡ suc long = omega arith in
-        record {
-          short = omega (arith, passed.short);
-          text = ap (λ (t : List ℕ). t ++ left_of_row kind number row (x + 1) more) same
-              ∙ ap (λ (n : ℕ). new ++ texts_of (stroke_over number) (runs_from n (marked more marks))) place
-              ∙ ap (λ (n : ℕ). new ++ texts_of (stroke_over number)
-              (runs_from (x - long) (marked n marks))) one
-              ∙ ap (λ (all : List Bool). new ++ texts_of (stroke_over number) (runs_from (x - long) all))
-              (sym (marked_more long marks)
-              ∙ ap (λ (b : Bool). marked long (b ∷ marks)) (sym is)
-              ∙ ap (marked long) (sym (first_left below)))
-              ∙ passed.text;
-        }
+    cell_passed more now below is counts same = grind (arith, nat_tests, marked, marked_more, first_left)
 
     -- a cell that ends the run, if one is under way
     pub gap_passed : (none : ℕ) (now : List ℕ) → x < length row → is_of kind (get_or row x 0) ≡ false

@@ -116,7 +116,6 @@ is_move-is g x d f = by_entry (table_entry g x d) (entry_tells g x d f)
     some_run n h (Some v) e = refl
 
     by_entry : (z : ℤ) → Tells g x d z → is_move z ≡ can_move g x d
-    by_entry _ (marked k m first) =
-        some_run k (run_within g x m.cell d (suc k) m.reached) (legal_ahead g x d) refl
+    by_entry _ (marked k m first) = grind (arith, nat_tests)
     by_entry _ (unmarked zero is none) = from_run is (legal_ahead g x d) refl
     by_entry _ (unmarked (suc n) is none) = some_run n (omega arith) (legal_ahead g x d) refl

@@ -178,9 +178,7 @@ module _ (g : GridData) (goal x : Cell) (d : Dir) (f : is_free g x ≡ true) (h 
           on_run v near r (row_part d) (row_part-side d h) (columns - rows) split.2 c
           (λ w n. row_leads d near (columns - rows) x v w goal h i split.2 split.0 split.1 m n)
       by_rows v r m i false e other c =
-          let split = more_rows columns rows e other in
-          on_run v near r (column_part d) (column_part-side d h) (rows - columns) split.2 c
-          (λ w n. column_leads d near (rows - columns) x v w goal h i split.2 split.0 split.1 m n)
+          grind (arith, nat_tests, more_rows, on_run, near, column_part-side, column_leads)
 
       by_columns : (v : Cell) → run_end g d near x ≡ Some v → AreMoved d near x v → 1 ≤ near
           → sees_from v ≡ true → StopsAfter g goal x d near
@@ -221,7 +219,7 @@ module _ (g : GridData) (goal x : Cell) (d : Dir) (f : is_free g x ≡ true) (h 
   -- so what it sees tells of the goal
   seen : (v : Cell) (k m : ℕ) (e : Dir) → 1 ≤ m → Sighted d k m x goal e
       → is_clear (table_entry g v e) m ≡ true → (k ≡ near) × (sees_from v ≡ true)
-  seen v k m e h i j = grind (arith, nat_tests)
+  seen v k m e p i j = grind (arith, nat_tests)
 
   come : (v : Cell) (k : ℕ) → columns ≡ k → rows ≡ k → (k ≡ near) × (sees_from v ≡ true)
   come v k p q = let there = met columns rows k p q in (there.0, rw there.1 refl)

@@ -17,7 +17,7 @@ use Rattle.plus_tables.specs.declared.heading.Heading.TheVariants.{Upwards, Down
 use Rattle.plus_tables.specs.declared.lines.Line.{Line}
 use Rattle.plus_tables.specs.Tables.{IsShort, entry_place}
 use Rattle.plus_tables.specs.Sweep.{AreRight, is_upward, is_swept, nth_row, swept}
-use Rattle.plus_tables.specs.Rows.{number, is_along, IsEntryRow}
+use Rattle.plus_tables.specs.Rows.{number, IsEntryRow}
 use Rattle.plus_tables.specs.Lines.{AreAhead, AreAlong}
 use Rattle.plus_tables.specs.Laid.{with_entry, with_cell, part, as_tables, rows_there, AreLaid}
 use Rattle.plus_tables.specs.Laid.{AreSwept, IsAlongRight, IsRowSwept}
@@ -225,7 +225,7 @@ module _ (g : GridData) (h : Heading) (y start k : ℕ) (all row : List ℤ) (be
       → ((c : Cell) (e : Dir) → after c e ≡ true → c.y ≢ y → before c e ≡ true)
       → AreRight (as_tables g (put_mid start k all row)) g after
   unfolding final place
-  right_swept before after h i j =
+  right_swept before after p i j =
       grind (arith, nat_tests, elsewhere, final, place, kept_above, kept_below, told_here, kept_here)
 
 -- one more row is swept: what was right stays so, and lies in rows that are there
@@ -245,9 +245,7 @@ long_on : (h : Heading) (height w n y start k old all : ℕ) → n < height → 
     → start ≡ y * w * 8 → k ≡ w * 8 → old ≡ rows_there h height n * w * 8
     → (old ≤ start + k → all ≡ start + k)
     → (start + k ≤ old → all ≡ old) → all ≡ rows_there h height (n + 1) * w * 8
-long_on Upwards height w n y start k old all below at begins wide long grown stays =
-    let same : start ≡ old = begins ∙ ap (λ (r : ℕ). r * w * 8) at ∙ sym long in
-    grown (omega (arith, same)) ∙ omega (arith, same, long, wide)
+long_on Upwards height w n y start k old all below at begins wide long grown stays = grind (arith, nat_tests)
 long_on Downwards height w n y start k old all below at begins wide long grown stays =
     stays (let ends = row_ends y height w old (omega (arith, at, below)) long in
     let from = row_begins y w w refl in omega (arith, ends, from, begins, wide)) ∙ long
@@ -284,11 +282,7 @@ pub along_right : (g : GridData) (h : Heading) (n y start k : ℕ) (old all : Li
     → y ≡ nth_row h g.height n → AreSwept g h n old → ((i : ℕ) → i < length old → number all i ≡ number old i)
     → start ≡ y * g.width * 8 → k ≡ g.width * 8 → IsAlongRight g h y (mid_of start k all)
 along_right g Upwards n y start k old all below at known same begins wide x e column along is =
-    absurd (let up = if_so _ _ (at_dir (λ e. not (is_along e) || is_upward e) refl e) along in cc)
-  where
-    if_so : (a b : Bool) → (not a || b) ≡ true → a ≡ true → b ≡ true
-    if_so true b h is = h
-    if_so false b h is = absurd (cc)
+    grind (arith, nat_tests)
 along_right g Downwards n y start k old all below at known same begins wide x e column along is =
     let few = dir_number-few e in
     let on : is_inside g (record { x = x; y = y }) ≡ true =

@@ -216,8 +216,7 @@ module _ (g : GridData) (whole : IsGrid g) (rows begun : Rows) (blank : IsBlank 
   -- the first row of a sweep
   pub begun_by : (h : Heading) → 0 < g.height → IsFlagRow g (nth_row h g.height 0) begun.band.here.items
       → IsKept g h (nth_row h g.height 0) begun
-  begun_by Upwards some is = begun_at Upwards 0 4096 4096 low low
-      (record { some = λ k e. absurd (cc); none = λ e. omega arith }) is (λ on. absurd (omega (arith, on)))
+  begun_by Upwards some is = grind (arith, nat_tests, begun_at, low)
   begun_by Downwards some is = begun_down (g.height - 1) (omega arith) is
     where
       begun_down : (y : ℕ) → y + 1 ≡ g.height → IsFlagRow g y begun.band.here.items

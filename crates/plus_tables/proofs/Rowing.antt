@@ -224,13 +224,11 @@ along_each W along n P each = to_left
   where
     to_left : (x : ℕ) → x < n → P x
     to_left zero within = each zero within (λ k e _. absurd (cc))
-    to_left (suc m) within =
-        each (suc m) within (λ k e _. subst P (value_is m k e) (to_left m (omega arith)))
+    to_left (suc m) within = grind (arith, nat_tests, value_is, to_left m (omega arith))
 along_each E along n P each = λ x within. to_right (n - suc x) x (omega arith)
   where
     to_right : (m x : ℕ) → x + suc m ≡ n → P x
-    to_right zero x e = each x (omega arith)
-        (λ k next within. absurd (let there = value_is (x + 1) k next in omega arith))
+    to_right zero x e = grind (arith, nat_tests)
     to_right (suc m) x e =
         each x (omega arith)
         (λ k next _. subst P (value_is (x + 1) k next) (to_right m (x + 1) (omega arith)))

@@ -1,7 +1,7 @@
 -- Entries are short: no run is longer than the sides together.
 use Rattle.std.proofs.lemmas.Bool.Decides.{nat_tests}
-use Rattle.std.proofs.Common.{◌≡◌, ℕ, ◌+◌, ◌≤◌, arith, ap, w16, to_z, of_z}
-use Rattle.std.specs.Prelude.{ℤ, pos, neg_ℤ, Option, Some, None, unwrap_or}
+use Rattle.std.proofs.Common.{◌≡◌, ℕ, ◌+◌, ◌≤◌, arith, w16, to_z, of_z}
+use Rattle.std.specs.Prelude.{ℤ, pos, neg_ℤ, Option, Some, None}
 use Rattle.std.proofs.lemmas.Int.{ints}
 use Rattle.grid_moves.specs.declared.Cell.{Cell}
 use Rattle.grid_moves.specs.declared.Dir.{Dir}
@@ -22,10 +22,7 @@ first_mark-few g x d k e = by_answer (first_mark g x d) (first_on_run-finds g d 
     by_answer : (o : Option ℕ) → FindsLeast (HoldsAfter g d (λ v. is_marked g v d) x) 1 o → o ≡ Some k
         → k ≤ g.width + g.height
     by_answer None f h = absurd (cc)
-    by_answer (Some m) f h =
-        let same : m ≡ k = ap (λ (o : Option ℕ). unwrap_or o 0) h in
-        let few = run_short g d m x f.holds.cell f.holds.reached in
-        omega arith
+    by_answer (Some m) f h = grind (arith, nat_tests, run_short)
 
 short_mark : (k : ℕ) → k ≤ 8192 → IsShort (pos k)
 short_mark k h = record { low = omega (arith, ints); high = omega (arith, ints) }

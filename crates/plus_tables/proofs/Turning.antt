@@ -46,6 +46,7 @@ kept_alike r p q d behind rears quarters e = by_parity d
     (λ u. rw (u, h, behind Right u h, behind Left u h) refl)
     (λ u. rw (u, h, quarters Right h, quarters Left h) refl))
 
+-- the two directions behind are not kept
 rear_not_kept : (r : Corner) (blocked : Dir → Bool) (s : Side) (d : Dir)
     → is_kept r blocked (By d) (rear s d) ≡ false
 rear_not_kept r blocked s d = grind (arith, nat_tests)
@@ -67,6 +68,7 @@ told_kept : (r : Corner) (blocked : Dir → Bool) (by : Arrival) (e : Dir)
     → is_kept (told_rule r) blocked by e ≡ is_kept r blocked by e
 told_kept r blocked by e = grind (arith, nat_tests)
 
+-- the cell before
 pub cell_before : (g : GridData) (u at : Cell) (d : Dir) → legal_ahead g u d ≡ Some at
     → u ≡ cell_after (opposite d) 1 at
 cell_before g u at d e =

@@ -1,4 +1,5 @@
 -- Texts that are cut behind each line feed, byte by byte.
+use Rattle.std.proofs.lemmas.Bool.Decides.{nat_tests}
 use Rattle.std.proofs.Common.{◌≡◌, ℕ, ◌+◌, List, [], ◌∷◌, ◌++◌, length, Option, Some, None, Result, Ok, Err}
 use Rattle.std.proofs.Common.{refl, ap, ◌∙◌, inl, inr, arith}
 use Rattle.std.specs.Prelude.{if◌then◌else◌}
@@ -24,8 +25,7 @@ with_last c byte = if is_line_feed byte then record { lines = c.lines ++ c.rest 
 apart : (x y : ℕ) (lines : List (List ℕ)) (rest : List ℕ)
     → with_first x (with_last (record { lines = lines; rest = rest }) y)
     ≡ with_last (with_first x (record { lines = lines; rest = rest })) y
-apart x y [] rest = grind (arith, cases_Bool)
-apart x y (line ∷ lines) rest = grind (arith, cases_Bool)
+apart x y lines rest = grind (arith, nat_tests)
 
 -- a text is cut byte by byte from its front, too
 pub cut-more : (text : List ℕ) (byte : ℕ) → cut (text ++ byte ∷ []) ≡ with_last (cut text) byte
@@ -42,9 +42,7 @@ last_line (byte ∷ bytes) = (byte ∷ bytes) ∷ []
 onto : (x : ℕ) (lines : List (List ℕ)) (rest : List ℕ)
     → onto_first x (lines ++ last_line rest)
     ≡ (within_line x lines rest).lines ++ last_line (within_line x lines rest).rest
-onto x [] [] = refl
-onto x [] (b ∷ bytes) = refl
-onto x (line ∷ lines) rest = refl
+onto x lines rest = grind (arith, nat_tests)
 
 -- the lines of a text are those with line feed, and the last one
 pub pieces-cut : (text : List ℕ) → pieces_of text ≡ (cut text).lines ++ last_line (cut text).rest
@@ -70,8 +68,7 @@ fault-append [] ys = refl
 fault-append (x ∷ xs) ys = grind (arith, fault-append xs ys)
 
 pub or-none : (a b : Option ScriptFault) → option_or a b ≡ None → (a ≡ None) × (b ≡ None)
-or-none None b none = (refl, none)
-or-none (Some f) b none = absurd cc
+or-none a b h = grind (arith, nat_tests)
 
 -- the commands of lines without fault and of later lines
 pub commands-append : (xs ys : List Numbered) → first_fault piece_read xs ≡ None

@@ -1,4 +1,5 @@
 -- What is known of a script by its first bytes, and what a feeder keeps of it.
+use Rattle.std.proofs.lemmas.Bool.Decides.{nat_tests}
 use Rattle.std.proofs.Common.{take, drop, get_or, ◌≡◌, ◌≢◌, ℕ, ◌+◌, ◌<◌, ◌≤◌, true, false, List, [], ◌∷◌}
 use Rattle.std.proofs.Common.{◌++◌, append_assoc, length, length-append, refl, sym, ap, ◌∙◌, subst, inl, inr}
 use Rattle.std.proofs.Common.{arith, rules}
@@ -25,13 +26,11 @@ abbrev pub next_line : Cut → Numbered
 next_line c = record { number = length c.lines + 1; bytes = c.rest }
 
 numbered-next : (c : Cut) → numbered_from (1 + length c.lines) (c.rest ∷ []) ≡ next_line c ∷ []
-numbered-next c = ap (λ n. record { number = n; bytes = c.rest } ∷ [])
-    (let e : 1 + length c.lines ≡ length c.lines + 1 = omega arith in e)
+numbered-next c = grind (arith, nat_tests)
 
 -- its line feed completes it
 lines-more : (c : Cut) → numbered_from 1 (c.lines ++ c.rest ∷ []) ≡ whole_lines c ++ next_line c ∷ []
-lines-more c = numbered-more 1 c.lines (c.rest ∷ [])
-    ∙ ap (λ (l : List Numbered). whole_lines c ++ l) (numbered-next c)
+lines-more c = grind (arith, nat_tests, numbered-more, numbered-next)
 
 -- all lines, the last one among them, where no fault is known
 fault-next : (c : Cut) → first_fault piece_read (whole_lines c) ≡ None
@@ -44,8 +43,7 @@ commands-next : (c : Cut) → first_fault piece_read (whole_lines c) ≡ None
 commands-next c clean = grind (arith, lines-more, commands-append, commands-one)
 
 or-nothing : (f : Option ScriptFault) → option_or f None ≡ f
-or-nothing None = refl
-or-nothing (Some fault) = refl
+or-nothing f = grind (arith, nat_tests)
 
 -- a line feed comes, where no fault is known
 fault-fed : (c : Cut) → known_fault c ≡ None
@@ -120,9 +118,7 @@ commands-known text = refl
 next-same : (feeder : LineFeeder) (text : List ℕ) → IsNext text feeder.number feeder.line.items
     → piece_read (record { number = feeder.number; bytes = feeder.line.items })
     ≡ piece_read (next_line (cut text))
-next-same feeder text n =
-    ap (λ k. piece_read (record { number = k; bytes = feeder.line.items })) n.counted
-    ∙ ap (λ (l : List ℕ). piece_read (record { number = length (cut text).lines + 1; bytes = l })) n.bytes
+next-same feeder text n = grind (arith, nat_tests)
 
 -- a line feed came, and the line was judged
 pub line-taken : (feeder now : LineFeeder) (text : List ℕ) (result : Result (Option Command) ScriptFault)
@@ -174,8 +170,7 @@ short-fault : (number : ℕ) (rest : List ℕ) → length rest ≤ 128 → lengt
 short-fault number rest short = rw (le-ltb 128 (length rest) short) refl
 
 long-fault : (number : ℕ) (rest : List ℕ) → 128 < length rest → length_fault number rest ≡ Some (Long number)
-long-fault number rest long =
-    let t : nat_lt 128 (length rest) ≡ true = search (rules, long) in rw t refl
+long-fault number rest long = grind (arith, nat_tests)
 
 -- a byte came that ends no line
 module _ (feeder : LineFeeder) (text : List ℕ) (byte : ℕ) (none : feeder.fault ≡ None)
@@ -189,8 +184,7 @@ module _ (feeder : LineFeeder) (text : List ℕ) (byte : ℕ) (none : feeder.fau
   extended = cut-more text byte ∙ rw other refl
 
   same-commands : commands_so_far (text ++ byte ∷ []) ≡ commands_so_far text ++ []
-  same-commands = commands-after text byte ∙ rw other (sym (commands-known text))
-      ∙ sym (append-nil (commands_so_far text))
+  same-commands = grind (arith, nat_tests, commands-after, commands-known, append-nil)
 
   by-length : fault_so_far (text ++ byte ∷ [])
       ≡ length_fault (length (cut text).lines + 1) ((cut text).rest ++ byte ∷ [])
@@ -200,11 +194,7 @@ module _ (feeder : LineFeeder) (text : List ℕ) (byte : ℕ) (none : feeder.fau
   ) refl
 
   length-more : length ((cut text).rest ++ byte ∷ []) ≡ length feeder.line.items + 1
-  length-more =
-      let e : length feeder.line.items ≡ length (cut text).rest =
-      ap (λ (l : List ℕ). length l) (h.next pending).bytes in
-      let l : length ((cut text).rest ++ byte ∷ []) ≡ length (cut text).rest + 1
-      = length-append (cut text).rest (byte ∷ []) in omega arith
+  length-more = grind (arith, nat_tests, pending, length-append)
 
   pub byte-taken : (now : LineFeeder) → length feeder.line.items < 128 → now.number ≡ feeder.number
       → now.line.items ≡ feeder.line.items ++ byte ∷ [] → now.fault ≡ None
@@ -259,15 +249,12 @@ whole-next text byte bytes clean some =
 pub begun-taken : (now : LineFeeder) → now.fault ≡ None → now.number ≡ 1 → now.line.items ≡ []
     → HasTaken now []
 unfolding cut fault_so_far
-begun-taken now clean number line =
-    record { kept = clean; next = λ no. record { counted = number; bytes = line } }
+begun-taken now clean number line = grind (arith, nat_tests)
 
 -- an error that is passed on is the answer
 pub answers-err : (result : Result (Unit {0}) ScriptFault) (fault : ScriptFault) (known : Option ScriptFault)
     → IsErrAnd result (λ e. e ≡ fault) → result ≢ Err NoMemory → known ≡ Some fault → Answers result known
-answers-err (Ok done) fault known is other same = absurd is
-answers-err (Err e) fault known is other same =
-    (same ∙ ap (λ (f : ScriptFault). Some f) (sym is), λ memory. other (ap Err memory))
+answers-err result fault known h i j = grind (arith, nat_tests)
 
 -- a fault that was kept is answered again
 pub fed-again : (feeder : LineFeeder) (text piece : List ℕ) (got : List Command) (fault : ScriptFault)

@@ -1,4 +1,5 @@
 -- A script in a list of pieces.
+use Rattle.std.proofs.lemmas.Bool.Decides.{nat_tests}
 use Rattle.std.proofs.Common.{◌≡◌, ◌≢◌, ℕ, ◌+◌, ◌<◌, ◌≤◌, List, [], ◌∷◌, ◌++◌, append_assoc, length}
 use Rattle.std.proofs.Common.{length-append, take, drop, get_or, sym, ap, ◌∙◌, subst, arith}
 use Rattle.std.specs.Prelude.{◌^◌, Result, Ok, Err, IsErrAnd}
@@ -9,7 +10,7 @@ use Rattle.script_text.specs.declared.command.Command.{Command}
 use Rattle.script_text.specs.declared.fault.ScriptFault.{ScriptFault}
 use Rattle.script_text.specs.declared.fault.ScriptFault.TheVariants.{NoMemory}
 use Rattle.script_text.specs.declared.feeder.LineFeeder.{LineFeeder}
-use Rattle.script_text.specs.Feeding.{commands_so_far, fault_so_far, commands_of, fault_of, text_of, Answers}
+use Rattle.script_text.specs.Feeding.{fault_so_far, commands_of, fault_of, text_of, Answers}
 use Rattle.script_text.specs.Fed.{HasTaken, HasFed, HasEnded, IsReading}
 use Rattle.script_text.proofs.Feeding.{answers-err, begun-known, fault-stays, whole-refused}
 
@@ -88,29 +89,8 @@ pub reading-ended : (pieces : List (Vec ℕ)) (count : ℕ) (feeder now : LineFe
     → ((text : List ℕ) → HasTaken feeder text → HasEnded text now got after result)
     → (after ≡ before ++ commands_of (text_of pieces)) × Answers result (fault_of (text_of pieces))
 reading-ended pieces count feeder now before got after result all r ended =
-    let f = subst (λ (l : List (Vec ℕ)). HasFed [] (text_of l) feeder before got (Ok tt))
-    (take_all count pieces all)
-    r.fed in
-    let e = ended (text_of pieces) f.taken in (
-      e.commands.appended ∙ ap (λ (l : List Command). l ++ e.commands.more) f.commands.appended
-          ∙ append_assoc before f.commands.more e.commands.more
-          ∙ ap (λ (l : List Command). before ++ l)
-          (sym (e.commands.known ∙ ap (λ (l : List Command). l ++ e.commands.more)
-          (f.commands.known ∙ ap (λ (l : List Command). l ++ f.commands.more) begun-known.1))),
-      e.answer,
-    )
+    grind (arith, nat_tests, take_all, append_assoc, begun-known)
 
 pub reading-begun : (pieces : List (Vec ℕ)) (feeder : LineFeeder) (got : List Command) → HasTaken feeder []
     → feeder.taken ≡ 0 → IsReading feeder pieces 0 got got
-reading-begun pieces feeder got begun none = record {
-  counted = none;
-  fed = record {
-    taken = begun;
-    commands = record {
-      more = [];
-      known = sym (append-nil (commands_so_far []));
-      appended = sym (append-nil got);
-    };
-    answer = begun-known.0;
-  };
-}
+reading-begun pieces feeder got h i = grind (arith, nat_tests, append-nil, begun-known)

@@ -1,6 +1,6 @@
 -- Walks back that keep abreast: one of them goes on or ends, and what they change adds up.
 use Rattle.std.proofs.lemmas.Bool.Decides.{nat_tests}
-use Rattle.std.proofs.Common.{◌≡◌, ℕ, zero, suc, ◌+◌, ◌⊎◌, inl, inr, arith, Bool, true, false, refl, sym, ◌∙◌}
+use Rattle.std.proofs.Common.{◌≡◌, ℕ, zero, suc, ◌+◌, ◌⊎◌, inl, inr, arith, Bool, true, false, refl}
 use Rattle.std.proofs.Common.{◌||◌, List, [], ◌∷◌, ◌++◌, length}
 use Rattle.std.specs.Prelude.{Option, Some, None, option_and_then}
 use Rattle.std.specs.Option.{option_to_list}
@@ -17,7 +17,7 @@ use Rattle.table_repair.specs.Mending.{cell_after}
 use Rattle.table_repair.proofs.Lines.{after_before}
 use Rattle.table_repair.proofs.Mends.{mends_wider, mends_then, still_mended, right_stays}
 use Rattle.table_repair.proofs.Mends.{ready_stays, follow_more}
-use Rattle.table_repair.proofs.Walking.{or_false, false_or, or_left, or_right}
+use Rattle.table_repair.proofs.Walking.{or_left, or_right}
 
 -- `||` of three, none of which holds
 or_joined : (a b c : Bool) → (a || (b || c)) ≡ false → ((a || b) || c) ≡ false
@@ -36,14 +36,10 @@ after_further d zero k u v w e f = grind arith
 after_further d (suc j) k u v w e f = by_cell (ahead d u) refl e
     (λ p g. after_further d j k p v w g f)
   where
-    one_more : cell_after d (suc (j + k)) u ≡ Some w → cell_after d (suc j + k) u ≡ Some w
-    one_more h = let s : suc j + k ≡ suc (j + k) = omega arith in rw s h
-
     by_cell : (o : Option Cell) → ahead d u ≡ o → option_and_then (λ p. cell_after d j p) o ≡ Some v
         → ((p : Cell) → cell_after d j p ≡ Some v → cell_after d (j + k) p ≡ Some w)
         → cell_after d (suc j + k) u ≡ Some w
-    by_cell None l g next = absurd (cc)
-    by_cell (Some p) l g next = one_more (after_before d (j + k) u p w l (next p g))
+    by_cell o h i j = grind (arith, nat_tests)
 
 -- the first walk, and those after it
 pub at_first : (v : Walk) (vs : List Walk) → is_at_one (v ∷ vs) v.at ≡ true
@@ -125,8 +121,7 @@ module _ {h : GridData} {d : Dir} {starts : Cell → Bool} {old now : TablesData
     where
       either_one : (w : Cell) → is_at_one (rest ++ option_to_list on) w ≡ true
           → (is_at_one rest w ≡ true) ⊎ (is_at_one (option_to_list on) w ≡ true)
-      either_one w k = or_either (is_at_one rest w) (is_at_one (option_to_list on) w)
-          (sym (at_both rest (option_to_list on) w) ∙ k)
+      either_one w k = grind (arith, nat_tests, or_either, at_both)
 
       narrower : (w : Cell) (later : Cell → Bool)
           → (is_at_one (rest ++ option_to_list on) w || later w) ≡ false
@@ -188,11 +183,7 @@ abreast_then {walks = walks} {left = left} {piece = piece} {rest = rest} first r
   where
     wider : (w : Cell) (later : Cell → Bool) → (piece w || (rest w || later w)) ≡ false
         → (is_at_one walks w || (left w || later w)) ≡ false
-    wider w later k =
-        let p = or_false (piece w) (rest w || later w) k in
-        let q = or_false (rest w) (later w) p.1 in
-        let r = or_false (is_at_one walks w) (left w) (split w p.0 q.0) in
-        false_or (is_at_one walks w) (left w || later w) r.0 (false_or (left w) (later w) r.1 q.1)
+    wider w later k = grind (arith, nat_tests)
 
 -- a stretch beside which other cells wait
 pub abreast_beside : {h : GridData} {d : Dir} {starts : Cell → Bool} (row : Cell → Bool)

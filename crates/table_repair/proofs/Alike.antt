@@ -50,15 +50,13 @@ module _ (g h : GridData) (p : Cell) (a : AreAlike g h p) where
   moves_from d = by_cell (ahead d p) refl
     where
       by_cell : (o : Option Cell) → ahead d p ≡ o → over h p o ≡ over g p o
-      by_cell None e = refl
-      by_cell (Some v) e = over_same p v (near_itself p) (near_back p v (near_ahead d p v e))
+      by_cell o q = grind (arith, nat_tests, over_same, near_itself, near_back, near_ahead)
 
   opens_same : (d : Dir) → is_open h p d ≡ is_open g p d
   opens_same d = by_cell (ahead d p) refl
     where
       by_cell : (o : Option Cell) → ahead d p ≡ o → is_free_cell h o ≡ is_free_cell g o
-      by_cell None e = refl
-      by_cell (Some v) e = a.free v (near_back p v (near_ahead d p v e))
+      by_cell o q = grind (arith, nat_tests)
 
   pub forced_same : (d : Dir) → is_forced h p d ≡ is_forced g p d
   forced_same d = grind (arith, nat_tests, opens_same, moves_from)

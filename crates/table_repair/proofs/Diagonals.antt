@@ -24,7 +24,7 @@ module _ (h : GridData) (rows columns : Span) {wide rear : Span} (by : ℕ) (d :
 
   pub first_waits : {t : TablesData} → FollowBut h t d (is_in_reach h rows columns by d)
       → CanSweep h t d (is_in rows wide)
-  first_waits h = grind (arith, nat_tests, both_parts, rear_behind)
+  first_waits p = grind (arith, nat_tests, both_parts, rear_behind)
 
   pub second_waits : {t now : TablesData} → FollowBut h t d (is_in_reach h rows columns by d)
       → Sweeps h d (is_in rows wide) t now → CanSweep h now d (is_in rear columns)
@@ -47,11 +47,11 @@ module _ (h : GridData) (rows columns : Span) {wide rear : Span} (by : ℕ) (d :
 
   wide_short : (before : Bool) → IsBlock h rows columns
       → span_length (widened before columns by h.width) ≤ h.width
-  wide_short before h = grind (arith, nat_tests)
+  wide_short before p = grind (arith, nat_tests)
 
   rear_short : (before : Bool) → IsBlock h rows columns
       → span_length (span_next before rows by h.height) ≤ h.height
-  rear_short before h = grind (arith, nat_tests)
+  rear_short before p = grind (arith, nat_tests)
 
   -- how many cells that are, at most three of them in each row behind the block
   pub cells_few : IsBlock h rows columns

@@ -3,7 +3,6 @@ use Rattle.std.proofs.Common.{◌≡◌, ℕ, zero, suc, ◌+◌, ◌-◌, ◌<�
 use Rattle.std.specs.Prelude.{Option, Some, None, option_and_then}
 use Rattle.grid_moves.specs.declared.Cell.{Cell}
 use Rattle.grid_moves.specs.declared.Dir.{Dir}
-use Rattle.grid_moves.specs.declared.Dir.TheVariants.{N, NE, E, SE, S, SW, W, NW}
 use Rattle.grid_moves.specs.Grid.{GridData, is_inside}
 use Rattle.grid_moves.specs.Move.{ahead}
 use Rattle.grid_moves.proofs.Places.{inside_is}
@@ -11,21 +10,17 @@ use Rattle.pruning.proofs.Bridging.{one_of}
 use Rattle.pruning.proofs.Running.{Trend, rising, level, falling, column_trend, row_trend, IsMoved, AreMoved}
 use Rattle.plus_tables.specs.Tables.{TablesData}
 use Rattle.table_repair.specs.Mending.{IsRight, cell_after, behind_on, FollowBut}
-use Rattle.table_repair.proofs.Moving.{ahead_moved, ahead_behind, behind_ahead, moved_further, moved_nowhere}
+use Rattle.table_repair.proofs.Moving.{ahead_moved, ahead_behind, behind_ahead, moved_nowhere}
 
 -- so many moves ahead
 pub after_moved : (d : Dir) (k : ℕ) (u w : Cell) → cell_after d k u ≡ Some w → AreMoved d k u w
 after_moved d zero u w e = let s = one_of u w e in rw (← s) (moved_nowhere d u)
 after_moved d (suc k) u w e = by_cell (ahead d u) refl (λ v f. after_moved d k v w f) e
   where
-    one_more : (v : Cell) → AreMoved d (k + 1) u w → AreMoved d (suc k) u w
-    one_more v m = let e : k + 1 ≡ suc k = omega arith in rw (← e) m
-
     by_cell : (o : Option Cell) → ahead d u ≡ o
         → ((v : Cell) → cell_after d k v ≡ Some w → AreMoved d k v w)
         → option_and_then (λ v. cell_after d k v) o ≡ Some w → AreMoved d (suc k) u w
-    by_cell None e next f = absurd (cc)
-    by_cell (Some v) e next f = one_more v (moved_further d k u v w (ahead_moved d u v e) (next v f))
+    by_cell o h i j = grind (arith, nat_tests)
 
 -- one move before that
 pub after_before : (d : Dir) (k : ℕ) (u v w : Cell) → ahead d u ≡ Some v → cell_after d k v ≡ Some w
@@ -56,9 +51,7 @@ room h d u = left_over (column_trend d) h.width u.x + left_over (row_trend d) h.
 
 no_more : (t : Trend) (side a b : ℕ) → IsMoved t 1 a b → left_over t side b ≤ left_over t side a
 unfolding left_over
-no_more rising side a b m = omega arith
-no_more level side a b m = omega arith
-no_more falling side a b m = omega arith
+no_more t side a b h = grind (arith, nat_tests)
 
 less_rising : (side a b : ℕ) → IsMoved rising 1 a b → b < side
     → left_over rising side b < left_over rising side a
@@ -72,18 +65,7 @@ less_falling side a b m = omega arith
 less_room : (h : GridData) (d : Dir) (u v : Cell) → AreMoved d 1 u v → v.x < h.width → v.y < h.height
     → room h d v < room h d u
 unfolding room
-less_room h N u v m i j = omega (arith, no_more level h.width u.x v.x m.0, less_falling h.height u.y v.y m.1)
-less_room h NE u v m i j = omega
-    (arith, no_more rising h.width u.x v.x m.0, less_falling h.height u.y v.y m.1)
-less_room h E u v m i j = omega (arith, less_rising h.width u.x v.x m.0 i, no_more level h.height u.y v.y m.1)
-less_room h SE u v m i j = omega
-    (arith, less_rising h.width u.x v.x m.0 i, no_more rising h.height u.y v.y m.1)
-less_room h S u v m i j = omega (arith, no_more level h.width u.x v.x m.0, less_rising h.height u.y v.y m.1 j)
-less_room h SW u v m i j = omega
-    (arith, less_falling h.width u.x v.x m.0, no_more rising h.height u.y v.y m.1)
-less_room h W u v m i j = omega (arith, less_falling h.width u.x v.x m.0, no_more level h.height u.y v.y m.1)
-less_room h NW u v m i j = omega
-    (arith, less_falling h.width u.x v.x m.0, no_more falling h.height u.y v.y m.1)
+less_room h d u v i j k = grind (arith, nat_tests, no_more, level, less_falling, rising, less_rising, falling)
 
 module _ (h : GridData) (t : TablesData) (d : Dir) where
   -- where no cell ahead waits, the entry is right

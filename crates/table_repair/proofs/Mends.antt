@@ -13,13 +13,10 @@ pub on_inside : (t : TablesData) (h : GridData) → AreSized t h → (u : Cell) 
 on_inside t h s u i = rw (s.width, s.height) i
 
 module _ {h : GridData} {d : Dir} {starts : Cell → Bool} where
-  pub mends_none : (t : TablesData) → Mends h d starts t t 0
-  mends_none t = grind (arith, nat_tests)
-
   -- what was right stays right
   pub right_stays : {old new : TablesData} {n : ℕ} → Mends h d starts old new n → (u : Cell) (e : Dir)
       → is_inside h u ≡ true → IsRight h old u e → IsRight h new u e
-  right_stays h u e i j = grind (arith, nat_tests)
+  right_stays p u e i j = grind (arith, nat_tests)
 
   pub all_stay : {old new : TablesData} {n : ℕ} → Mends h d starts old new n → (e : Dir)
       → AreRight h old e → AreRight h new e
@@ -27,7 +24,7 @@ module _ {h : GridData} {d : Dir} {starts : Cell → Bool} where
 
   pub ready_stays : {old new : TablesData} {n : ℕ} → Mends h d starts old new n → AreReady h old d
       → AreReady h new d
-  ready_stays h i = grind (arith, nat_tests)
+  ready_stays p i = grind (arith, nat_tests)
 
 -- an entry that was made right, and still is, told of more cells to start from and more changes
 pub still_mended : {h : GridData} {d : Dir} {few more : Cell → Bool} {old new : TablesData} {m n : ℕ}

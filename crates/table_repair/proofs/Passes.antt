@@ -62,11 +62,7 @@ listed_take (d ∷ ds) (suc i) x e l k = by_test (is_dir e d) refl (λ r. listed
         → (is_dir e (get_or ds i x) ≡ true) ⊎ (is_listed (take i ds) e ≡ true))
         → (b || is_listed (take (suc i) ds) e) ≡ true
         → (is_dir e (get_or ds i x) ≡ true) ⊎ ((is_dir e d || is_listed (take i ds) e) ≡ true)
-    by_test true s rest k = inr (rw s refl)
-    by_test false s rest k = elim (rest k) [
-      | inl a ↦ inl a
-      | inr a ↦ inr (or_right (is_dir e d) _ a)
-    ]
+    by_test b p i j = grind (arith, nat_tests)
 
 -- what a sweep for a direction asks, and what it gives
 pub straight_ready : {h : GridData} {t : TablesData} {d : Dir} → AreSound h t → is_straight d ≡ true
@@ -96,8 +92,7 @@ listed_all (e ∷ es) (suc i) d l k = by_test (is_dir d e) (λ r. listed_all es 
   where
     by_test : (b : Bool) → (is_listed es d ≡ true → is_listed (take i es) d ≡ true)
         → (b || is_listed es d) ≡ true → (b || is_listed (take i es) d) ≡ true
-    by_test true rest k = refl
-    by_test false rest k = rest k
+    by_test b p i = grind (arith, nat_tests)
 
 pub counted_pass : (start steps now changed one i cells : ℕ) → steps ≤ start + changed + i * cells
     → now ≤ steps + one + cells → now ≤ start + (changed + one) + (i + 1) * cells

@@ -1,6 +1,6 @@
 -- A row is swept piece by piece along a diagonal direction, which leads from no cell of it to another.
 use Rattle.std.proofs.lemmas.Bool.Decides.{nat_tests}
-use Rattle.std.proofs.Common.{◌≡◌, ℕ, suc, ◌+◌, ◌*◌, ◌-◌, ◌<◌, ◌≤◌, ◌⊎◌, inl, inr, arith, Bool, true, false}
+use Rattle.std.proofs.Common.{◌≡◌, ℕ, suc, ◌+◌, ◌*◌, ◌-◌, ◌<◌, ◌≤◌, arith, Bool, true, false}
 use Rattle.std.proofs.Common.{refl, sym, ◌∙◌, ◌||◌, List, [], ◌∷◌, ◌++◌}
 use Rattle.grid_moves.specs.declared.Cell.{Cell}
 use Rattle.grid_moves.specs.declared.Dir.{Dir}
@@ -83,18 +83,10 @@ module _ {h : GridData} {d : Dir} (y : ℕ) (columns : Span) (first : ℕ) {old 
       → Swept h d (is_in_row y columns) (is_in_row y (part end columns.end)) old new (n + m)
   piece_next mends sweeps = swept_more swept split of_row mends sweeps
     where
-      before_or_not : (a b : ℕ) → (a < b) ⊎ (b ≤ a)
-      before_or_not a b = grind arith
-
       split : (w : Cell) → is_in_row y (part first end) w ≡ false
           → is_in_row y (part end columns.end) w ≡ false
           → is_in_row y (part first columns.end) w ≡ false
-      split w s r = not_true (is_in_row y (part first columns.end) w) (λ i.
-          let p = row_parts y (part first columns.end) w i in
-          elim (before_or_not w.x end) [
-            | inl a ↦ let t = row_from y (part first end) w p.0 p.1.0 a in absurd (cc)
-            | inr a ↦ let t = row_from y (part end columns.end) w p.0 a p.1.1 in absurd (cc)
-          ])
+      split w s r = grind (arith, nat_tests)
 
 -- no column is left
 pub pieces_done : {h : GridData} {d : Dir} (y : ℕ) (columns : Span) (first : ℕ) {old now : TablesData} {n : ℕ}

@@ -56,7 +56,7 @@ module _ (h : GridData) (rows columns : Span) (by : ℕ) (d : Dir) (v : Cell) (i
   in_column : is_among columns v.x ≡ true
       → (is_among rows v.y ≡ true) ⊎ (is_among (span_next (goes_down d) rows by h.height) v.y ≡ true)
       → is_in_reach h rows columns by d v ≡ true
-  in_column h i = grind (arith, nat_tests, block_reached, and_true, or_right)
+  in_column p q = grind (arith, nat_tests, block_reached, and_true, or_right)
 
 -- and so is what lies that far behind it in a component
 pub line_reached : (h : GridData) (rows columns : Span) (by : ℕ) (d : Dir) (s : Side) → is_diagonal d ≡ true
@@ -115,14 +115,7 @@ rear_behind d rows columns wide by side diagonal v w k here r =
     beyond : (d : Dir) → is_diagonal d ≡ true → AreMoved d (suc k) v w → (rows.first ≤ v.y) × (v.y < rows.end)
         → ((span_next (goes_down d) rows by side).first ≤ w.y)
         × (w.y < (span_next (goes_down d) rows by side).end) → ⊥
-    beyond NE q m a b = let e = m.1 in omega arith
-    beyond SE q m a b = let e = m.1 in omega arith
-    beyond SW q m a b = let e = m.1 in omega arith
-    beyond NW q m a b = let e = m.1 in omega arith
-    beyond N q m a b = absurd (cc)
-    beyond E q m a b = absurd (cc)
-    beyond S q m a b = absurd (cc)
-    beyond W q m a b = absurd (cc)
+    beyond d p q j k = grind (arith, nat_tests)
 
 -- the block lies on the map
 pub block_inside : (h : GridData) (c : Cell) (rows columns : Span) → rows ≡ span_beside c.y h.height

@@ -52,8 +52,7 @@ room_few h d (v ∷ vs) grid inside =
   where
     row_few : (down : Bool) (w : Cell) → w.y < h.height → h.height ≤ 4096
         → suc (if down then w.y else h.height - suc w.y) ≤ 4096
-    row_few true w l m = omega arith
-    row_few false w l m = omega arith
+    row_few down w h i = grind (arith, nat_tests)
 
 -- each walk has some room
 pub room_some : (h : GridData) (d : Dir) (walks : List Walk) → length walks ≤ room_of h d walks
@@ -147,8 +146,7 @@ module _ {h : GridData} {d : Dir} {old now : TablesData} {first steps : ℕ} {he
       queue_on = rw e (sym (append_assoc (drop (i + 1) here) onward (option_to_list on)))
 
       one_more : (o : Option Walk) → length (option_to_list o) ≤ 1
-      one_more None = omega arith
-      one_more (Some w) = omega arith
+      one_more o = grind (arith, nat_tests)
 
       of_next : (o : Option Walk) → ((next : Walk) → o ≡ Some next → IsOnward h new d its_walk.at next.at)
           → (w : Cell) → is_at_one (option_to_list o) w ≡ true → IsBehindOne d (is_at_one here) w

@@ -1,6 +1,6 @@
 -- A row is swept column by column, and a block row by row.
 use Rattle.std.proofs.lemmas.Bool.Decides.{nat_tests}
-use Rattle.std.proofs.Common.{◌≡◌, ℕ, suc, ◌+◌, ◌<◌, ◌≤◌, inl, inr, arith, Bool, true, false, refl, ◌&&◌}
+use Rattle.std.proofs.Common.{◌≡◌, ℕ, suc, ◌+◌, ◌<◌, ◌≤◌, arith, Bool, true, false, refl, ◌&&◌}
 use Rattle.std.proofs.Common.{◌||◌}
 use Rattle.std.specs.Prelude.{nat_eq}
 use Rattle.grid_moves.specs.declared.Cell.{Cell}
@@ -55,13 +55,7 @@ module _ {h : GridData} {d : Dir} (y : ℕ) (columns : Span) {left rest : Span} 
   row_next mends sweeps = swept_more swept split inner mends sweeps
     where
       split : (w : Cell) → is_same w v ≡ false → is_in_row y rest w ≡ false → is_in_row y left w ≡ false
-      split w s r = not_true (is_in_row y left w) (λ i.
-          let p = and_both (nat_eq w.y y) (is_among left w.x) i in
-          elim (taken.rest w.x p.1) [
-            | inl e ↦ true_false (is_same w v)
-                (let same = same_cell w v e (number_same w.y y p.0) in rw same (is_same-itself v)) s
-            | inr a ↦ true_false (is_in_row y rest w) (and_true (nat_eq w.y y) (is_among rest w.x) p.0 a) r
-          ])
+      split w s r = grind (arith, nat_tests)
 
       inner : (w : Cell) → is_same w v ≡ true → is_in_row y columns w ≡ true
       inner w s = rw (is_same-cell w v s) v_there
@@ -108,15 +102,10 @@ module _ {h : GridData} {d : Dir} (rows columns : Span) {left rest : Span} {y : 
 
       wider : (w : Cell) → (is_in_row y columns w || (is_in rest columns w || can.later w)) ≡ false
           → (is_in left columns w || can.later w) ≡ false
-      wider w k =
-          let p = or_false (is_in_row y columns w) (is_in rest columns w || can.later w) k in
-          let q = or_false (is_in rest columns w) (can.later w) p.1 in
-          false_or (is_in left columns w) (can.later w) (split w p.0 q.0) q.1
+      wider w p = grind (arith, nat_tests, or_false, false_or, split)
 
       at_row : (v : Cell) → is_in_row y columns v ≡ true → IsTaken (goes_down d) left v.y rest
-      at_row v here =
-          let p = and_both (nat_eq v.y y) (is_among columns v.x) here in
-          rw (number_same v.y y p.0) taken
+      at_row v here = grind (arith, nat_tests)
 
   pub block_next : {new : TablesData} {m : ℕ} → Mends h d (is_in_row y columns) now new m
       → Sweeps h d (is_in_row y columns) now new

@@ -1,6 +1,6 @@
 -- One walk back from a cell, as long as entries change.
 use Rattle.std.proofs.lemmas.Bool.Decides.{nat_tests}
-use Rattle.std.proofs.Common.{◌≡◌, ◌≢◌, ℕ, suc, ◌+◌, ◌<◌, ◌⊎◌, inl, inr, arith, Bool, true, false, sym}
+use Rattle.std.proofs.Common.{◌≡◌, ◌≢◌, ℕ, ◌+◌, ◌<◌, ◌⊎◌, inl, inr, arith, Bool, true, false, sym}
 use Rattle.std.proofs.Common.{◌∙◌, ◌||◌, length-set}
 use Rattle.std.specs.Prelude.{Some, None}
 use Rattle.std.proofs.lemmas.Bool.{cases_Bool}
@@ -20,7 +20,7 @@ use Rattle.table_repair.specs.Counted.{places_differing}
 use Rattle.table_repair.specs.Mending.{IsRight, AreBesideRight, AreReady, IsMended, Mends, FollowBut}
 use Rattle.table_repair.specs.Mending.{cell_after, behind_on}
 use Rattle.table_repair.proofs.Counting.{entry-with, entry-with_other, count-with, with_itself}
-use Rattle.table_repair.proofs.Lines.{behind_on-from, one_behind, after_before, after_moved}
+use Rattle.table_repair.proofs.Lines.{behind_on-from, one_behind, after_before, after_moved, inside_parts}
 use Rattle.table_repair.proofs.Mends.{mends_none, still_mended, on_inside, ready_stays}
 
 -- what waits for this cell, and for those that wait later
@@ -98,7 +98,7 @@ module _ {h : GridData} {d : Dir} {v : Cell} {old now : TablesData} {at_cell : C
     stays w f j other = grind (arith, nat_tests, entry-with_other, whole, on, on_inside)
 
     right_kept : (w : Cell) → is_inside h w ≡ true → IsRight h now w d → IsRight h new w d
-    right_kept w h i = grind (arith, nat_tests, cases_Bool, is_same-cell, set_right, stays, apart)
+    right_kept w p q = grind (arith, nat_tests, cases_Bool, is_same-cell, set_right, stays, apart)
 
     pub walk_goes_on : AreReady h old d → entry_at now u d ≢ table_entry h u d
         → Walked h d v old new u (n + 1)
@@ -112,8 +112,7 @@ module _ {h : GridData} {d : Dir} {v : Cell} {old now : TablesData} {at_cell : C
     }
       where
         reaches : cell_after d (n + 1) u ≡ Some v
-        reaches = let one : n + 1 ≡ suc n = omega arith in
-            rw one (after_before d n u at_cell v e walked.reaches)
+        reaches = grind (arith, nat_tests)
 
         along : (w : Cell) → is_inside h w ≡ true
             → (entry_at new w d ≡ entry_at old w d) ⊎ IsMended h new d (λ w. is_same w v) (n + 1) w
@@ -181,14 +180,7 @@ walk_short h d v u n grid i j r =
   where
     by_dir : (d : Dir) → IsMoved (column_trend d) n u.x v.x → IsMoved (row_trend d) n u.y v.y
         → u.x < 4096 → v.x < 4096 → u.y < 4096 → v.y < 4096 → n < 4096
-    by_dir N a b k l p q = omega arith
-    by_dir NE a b k l p q = omega arith
-    by_dir E a b k l p q = omega arith
-    by_dir SE a b k l p q = omega arith
-    by_dir S a b k l p q = omega arith
-    by_dir SW a b k l p q = omega arith
-    by_dir W a b k l p q = omega arith
-    by_dir NW a b k l p q = omega arith
+    by_dir d p q j k l m = grind (arith, nat_tests)
 
 -- a refresh of a right entry leaves the tables as they are
 pub nothing_set : (h : GridData) (t new : TablesData) (u : Cell) (d : Dir) → AreReady h t d

@@ -1,6 +1,7 @@
 -- A call and a bad word, from what the steps of the reading say.
+use Rattle.std.proofs.lemmas.Bool.Decides.{nat_tests}
 use Rattle.std.proofs.Common.{◌≡◌, ℕ, suc, ◌+◌, ◌<◌, ◌≤◌, Bool, true, false, List, [], ◌∷◌, length, drop}
-use Rattle.std.proofs.Common.{refl, sym, ap, ◌∙◌, subst, add-one, ◌⊎◌, inl, inr, arith}
+use Rattle.std.proofs.Common.{refl, ap, ◌∙◌, subst, add-one, ◌⊎◌, inl, inr, arith}
 use Rattle.std.specs.Prelude.{codes, Option, Some, None, Result, Ok, Err, MatchResult, IsOkAnd, IsErrAnd}
 use Rattle.std.proofs.Math.Seq.{take-length}
 use Rattle.std.proofs.lemmas.Bool.{and_right}
@@ -23,20 +24,12 @@ some_call = (codes "--help" ∷ [], refl)
 
 pub names_none : (words : List (List ℕ)) → length words < 1 → IsBadWord is_call words 1
 unfolding is_call
-names_none [] none = record {
-  refused = refl;
-  stops = stops_behind is_call [] 0 (ends_at_once is_call [] some_call (λ inside. absurd (omega arith)));
-}
-names_none (word ∷ words) none = absurd (omega arith)
+names_none words h = grind (arith, nat_tests, stops_behind, ends_at_once, some_call)
 
 pub names_first : (name : List ℕ) (words : List (List ℕ)) → row_of name ≡ None
     → IsBadWord is_call (name ∷ words) 1
 unfolding is_call
-names_first name words none = record {
-  refused = rw none refl;
-  stops = stops_behind is_call (name ∷ words) 0 (ends_at_once is_call (name ∷ words) some_call
-      (λ inside found. let no : is_call (name ∷ found.0) ≡ false = rw none refl in cc (found.1)));
-}
+names_first name words h = grind (arith, nat_tests, stops_behind, ends_at_once, some_call)
 
 abbrev call_with : Asked → Settings → Call
 call_with request settings = record { request = request; settings = settings }
@@ -80,8 +73,7 @@ module _ (name : List ℕ) (words : List (List ℕ)) (row : Row) (is_row : row_o
     rest_settles = settles row.allows [] rest more (nothing_stands row.allows) settled
 
     refuses : fits row.takes row.allows words ≡ are_settings row.allows rest
-    refuses = (taken_whole row.allows row.takes words (subst (AreOf row.takes words) exact are)).0
-        ∙ ap (are_settings row.allows) (sym apart)
+    refuses = grind (arith, nat_tests, taken_whole, exact, apart)
 
     -- one is wrong, or one is missing behind them
     pub names_setting : (more < length rest) ⊎ (is_complete rest ≡ false)
@@ -100,12 +92,7 @@ module _ (name : List ℕ) (words : List (List ℕ)) (row : Row) (is_row : row_o
     pub calls : length rest ≤ more → is_complete rest ≡ true → (request : Asked) (settings : Settings)
         → request ≡ asked_by row.command words (tables_of rest)
         → settings ≡ settings_of rest → call_of (name ∷ words) ≡ Some (call_with request settings)
-    calls all complete request settings is chosen =
-        let right : fits row.takes row.allows words ≡ true = refuses ∙ rest_settles.right all ∙ complete in
-        rw (is_row, right) (ap (λ (call : Call). Some call)
-        (ap (λ (r : Asked). call_with r (settings_of (drop (length row.takes) words)))
-        (ap (λ (rest : List (List ℕ)). asked_by row.command words (tables_of rest)) (sym apart) ∙ sym is)
-        ∙ ap (call_with request) (ap settings_of (sym apart) ∙ sym chosen)))
+    calls all complete request settings is chosen = grind (arith, nat_tests, refuses, rest_settles, apart)
 
 -- all words of a call begin one
 pub stops_at_end : (words : List (List ℕ)) (call : Call) → call_of words ≡ Some call
@@ -126,8 +113,7 @@ module _ (words : List (List ℕ)) {A : Type 0} (view : A → Call) where
   pub only_so : (answer : Result A BadWord) → Tells answer → (call : Call) → call_of words ≡ Some call
       → IsOkAnd answer (λ read. view read ≡ call)
   unfolding is_call
-  only_so (Ok read) tells call is = cc
-  only_so (Err bad) tells call is = let no = rw is at tells.refused in cc (no)
+  only_so answer h call i = grind (arith, nat_tests)
 
   pub named_so : (answer : Result A BadWord) → Tells answer → (number : ℕ) → IsBadWord is_call words number
       → IsErrAnd answer (λ bad. bad.0 ≡ number)

@@ -1,6 +1,7 @@
 -- Settings of which one is missing: where a table file is named, the engine for it can still be picked.
+use Rattle.std.proofs.lemmas.Bool.Decides.{nat_tests}
 use Rattle.std.proofs.Common.{◌≡◌, ℕ, Bool, true, false, not, ◌&&◌, ◌||◌, List, [], ◌∷◌, ◌++◌, append-nil}
-use Rattle.std.proofs.Common.{⊎_elim, inl, inr, ◌⊎◌, refl, sym, ap, ◌∙◌, arith}
+use Rattle.std.proofs.Common.{⊎_elim, inl, inr, ◌⊎◌, refl, ap, ◌∙◌, arith}
 use Rattle.std.specs.Prelude.{codes, is_none, Option, Some, None}
 use Rattle.std.specs.List.{list_any, fold}
 use Rattle.std.specs.Option.{option_or}
@@ -14,7 +15,6 @@ use Rattle.word_list.specs.declared.request.Settings.{Settings}
 use Rattle.word_list.specs.declared.settings.Setting.{Setting}
 use Rattle.word_list.specs.declared.settings.Setting.TheVariants as setting
 use Rattle.word_list.specs.declared.settings.Family.{Family}
-use Rattle.word_list.specs.declared.settings.Family.TheVariants as family
 use Rattle.word_list.specs.Settings.{setting_of, has, has_tables, excludes, are_clashing, is_allowed}
 use Rattle.word_list.specs.Settings.{may_follow, all_follow, settings_with, default_settings, settings_of}
 use Rattle.word_list.specs.Settings.{tables_in, tables_of, is_complete}
@@ -59,15 +59,11 @@ any_from p q each (x ∷ xs) met = ⊎_elim (λ here. or_left (q x) (list_any q 
 
 none_from : {X : Type 0} (p q : X → Bool) → ((x : X) → p x ≡ true → q x ≡ true) → (xs : List X)
     → list_any q xs ≡ false → list_any p xs ≡ false
-none_from p q each xs none =
-    false_from_ne_true (list_any p xs) (λ met. true≢false (sym (any_from p q each xs met) ∙ none))
+none_from p q each xs none = grind (arith, nat_tests, false_from_ne_true, true≢false, any_from)
 
 -- a word that spells another setting tells no table file
 unnamed : (word : List ℕ) → tells (setting_of word) ≡ false → is_none (tables_in word) ≡ true
-unnamed word other = elim (tables_in word) as (λ t. tables_in word ≡ t → is_none t ≡ true) [
-  | None ↦ λ is. refl
-  | Some name ↦ λ is. let no = rw is at other in cc (no)
-] refl
+unnamed word h = grind (arith, nat_tests)
 
 none_named : (before : List (List ℕ)) (word : List ℕ) → is_none (tables_of before) ≡ true
     → is_none (tables_in word) ≡ true → is_none (tables_of (before ++ word ∷ [])) ≡ true
@@ -131,48 +127,28 @@ sole_pick (word ∷ words) set clear some =
 -- what clashes with what
 file_clash : (pick : Pick) → has_tables pick ≡ false → (s : Option Setting) → tells s ≡ true
     → are_clashing s (Some (setting.Engine pick)) ≡ true
-file_clash pick other None is = cc
-file_clash pick other (Some (setting.Engine p)) is = cc
-file_clash pick other (Some (setting.Show show)) is = cc
-file_clash pick other (Some (setting.Rule rule)) is = cc
-file_clash pick other (Some setting.TableFile) is = rw other refl
+file_clash pick h s i = grind (arith, nat_tests)
 
 pick_clash : (pick : Pick) (s : Option Setting) → picks s ≡ true
     → are_clashing s (Some (setting.Engine pick)) ≡ true
-pick_clash pick None is = cc
-pick_clash pick (Some (setting.Engine p)) is = refl
-pick_clash pick (Some (setting.Show show)) is = cc
-pick_clash pick (Some (setting.Rule rule)) is = cc
-pick_clash pick (Some setting.TableFile) is = cc
+pick_clash pick s h = grind (arith, nat_tests)
 
 clash_pick : (s : Option Setting) → are_clashing s (Some (setting.Engine Plus)) ≡ true → picks s ≡ true
-clash_pick None is = is
-clash_pick (Some (setting.Engine p)) is = refl
-clash_pick (Some (setting.Show show)) is = is
-clash_pick (Some (setting.Rule rule)) is = is
-clash_pick (Some setting.TableFile) is = is
+clash_pick s h = grind (arith, nat_tests)
 
 -- a family with the table file has the engine for it
 family_has : (f : Family) → has f setting.TableFile ≡ true → has f (setting.Engine Plus) ≡ true
-family_has family.Engine is = cc
-family_has family.SmallMap is = cc
-family_has family.Show is = cc
-family_has family.Drawing is = cc
-family_has family.Counts is = cc
-family_has family.Rule is = cc
-family_has family.TableFile is = refl
+family_has f h = grind (arith, nat_tests)
 
 module _ (allows : List Family) (before : List (List ℕ)) (word : List ℕ) where
   abbrev now : List (List ℕ)
   now = before ++ word ∷ []
 
   chosen_now : settings_of now ≡ settings_with (settings_of before) (setting_of word)
-  chosen_now = fold-append (λ set word. settings_with set (setting_of word)) default_settings before
-      (word ∷ [])
+  chosen_now = grind (arith, nat_tests, fold-append)
 
   loaded : has_tables (settings_with (settings_of before) (setting_of word)).pick ≡ true → Stand allows now
-  loaded is =
-      whole (or_right (is_none (tables_of now)) (has_tables (settings_of now).pick) (rw chosen_now is))
+  loaded is = grind (arith, nat_tests, or_right, chosen_now)
 
   untold : is_none (tables_of now) ≡ true → Stand allows now
   untold is = whole (or_left (is_none (tables_of now)) (has_tables (settings_of now).pick) is)
@@ -204,10 +180,7 @@ module _ (allows : List Family) (before : List (List ℕ)) (word : List ℕ) whe
   -- an engine behind a table file is the one for it
   loads : (pick : Pick) → any_clash (setting.Engine pick) before ≡ false → any_file before ≡ true
       → has_tables pick ≡ true
-  loads pick clear named = true_from_ne_false (has_tables pick) (λ other. true≢false
-      (sym (any_from (λ w. tells (setting_of w))
-      (λ w. are_clashing (setting_of w) (Some (setting.Engine pick)))
-      (λ w. file_clash pick other (setting_of w)) before named) ∙ clear))
+  loads pick clear named = grind (arith, nat_tests, true_from_ne_false, true≢false, any_from, file_clash)
 
   -- a table file stands behind the engine for it, or waits for it
   file_told : setting_of word ≡ Some setting.TableFile → is_allowed allows (Some setting.TableFile) ≡ true
@@ -224,25 +197,19 @@ module _ (allows : List Family) (before : List (List ℕ)) (word : List ℕ) whe
 
   stands_with : Stand allows before → (s : Setting) → setting_of word ≡ Some s
       → is_allowed allows (Some s) ≡ true → any_clash s before ≡ false → Stand allows now
-  stands_with (whole complete) (setting.Engine pick) is allowed clear = ⊎_elim
-      (λ none. other_word (setting.Engine pick) is allowed clear none refl)
-      (λ has. absurd (picked_twice pick clear has)) (or_cases (is_none (tables_of before)) _ complete)
-  stands_with (whole complete) (setting.Show show) is allowed clear = ⊎_elim
-      (λ none. other_word (setting.Show show) is allowed clear none refl)
-      (λ has. still_loaded (setting.Show show) is allowed clear has refl)
-      (or_cases (is_none (tables_of before)) _ complete)
-  stands_with (whole complete) (setting.Rule rule) is allowed clear = ⊎_elim
-      (λ none. other_word (setting.Rule rule) is allowed clear none refl)
-      (λ has. still_loaded (setting.Rule rule) is allowed clear has refl)
-      (or_cases (is_none (tables_of before)) _ complete)
-  stands_with (whole complete) setting.TableFile is allowed clear = file_told is allowed clear
-  stands_with (waits w) (setting.Engine pick) is allowed clear = loaded (rw is (loads pick clear w.named))
-  stands_with (waits w) (setting.Show show) is allowed clear =
-      still_waits (setting.Show show) is allowed clear w refl
-  stands_with (waits w) (setting.Rule rule) is allowed clear =
-      still_waits (setting.Rule rule) is allowed clear w refl
-  stands_with (waits w) setting.TableFile is allowed clear =
-      still_waits setting.TableFile is allowed clear w refl
+  stands_with h s i j k =
+      grind (
+        arith,
+        nat_tests,
+        other_word,
+        picked_twice,
+        or_cases,
+        still_loaded,
+        file_told,
+        loaded,
+        loads,
+        still_waits,
+      )
 
   -- a word more that may follow
   pub stand_on : Stand allows before → may_follow allows before word ≡ true → Stand allows now

@@ -1,4 +1,5 @@
 -- Where accepted lists stop, and that a list has one bad word.
+use Rattle.std.proofs.lemmas.Bool.Decides.{nat_tests}
 use Rattle.std.proofs.Common.{◌≡◌, ℕ, suc, ◌<◌, ◌≤◌, Bool, List, [], ◌∷◌, ◌++◌, length, take, drop, sym, ap}
 use Rattle.std.proofs.Common.{◌∙◌, append_assoc, arith}
 use Rattle.std.proofs.lemmas.List.{take-append-drop, take-take}
@@ -7,8 +8,7 @@ use Rattle.word_list.specs.Rule.{Begins, EndsAfter, StopsAt}
 -- no other number is smaller
 not_below : (accepts : List (List ℕ) → Bool) (words : List (List ℕ)) (one other : ℕ)
     → StopsAt accepts words one → StopsAt accepts words other → one < other → ⊥
-not_below accepts words one other is also below =
-    is.here (omega (arith, also.within)) (also.least one below)
+not_below accepts words one other is also below = grind (arith, nat_tests)
 
 pub one_stop : (accepts : List (List ℕ) → Bool) (words : List (List ℕ)) (one other : ℕ)
     → StopsAt accepts words one → StopsAt accepts words other → one ≡ other
@@ -44,9 +44,4 @@ module _ (accepts : List (List ℕ) → Bool) where
   pub ends_later : (next : List (List ℕ) → Bool) (word : List ℕ) (words : List (List ℕ)) (count : ℕ)
       → ((more : List (List ℕ)) → accepts (word ∷ more) ≡ next more)
       → EndsAfter next words count → EndsAfter accepts (word ∷ words) (suc count)
-  ends_later next word words count goes_on after = record {
-    begins = (after.begins.0, goes_on (take count words ++ after.begins.0) ∙ after.begins.1);
-    within = omega (arith, after.within);
-    ends = λ inside found. after.ends (omega arith)
-        (found.0, sym (goes_on (take (suc count) words ++ found.0)) ∙ found.1);
-  }
+  ends_later next word words count h i = grind (arith, nat_tests)

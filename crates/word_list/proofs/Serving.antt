@@ -1,11 +1,13 @@
 -- A call picks an engine of small maps only where its command's row allows one.
 use Rattle.std.proofs.Common.{◌≡◌, ◌∙◌, ℕ, Bool, true, false, not, ◌||◌, List, [], ◌∷◌, ◌++◌, length, drop}
-use Rattle.std.proofs.Common.{refl, sym, ap, subst}
+use Rattle.std.proofs.Common.{refl, sym, ap, subst, arith}
 use Rattle.std.specs.Prelude.{Option, Some, None, unwrap_or, option_and_then, bytes_eq, if◌then◌else◌}
+use Rattle.std.specs.Prelude.{codes}
 use Rattle.std.specs.List.{fold, list_all}
 use Rattle.std.proofs.lemmas.Bool.{and_parts, or_parts}
+use Rattle.std.proofs.lemmas.Bool.Decides.{nat_tests}
 use Rattle.word_list.specs.declared.request.Pick.{Pick}
-use Rattle.word_list.specs.declared.request.Pick.TheVariants.{Plain, Jps, Block, Plus, Boxes, Moves}
+use Rattle.word_list.specs.declared.request.Pick.TheVariants.{Boxes, Moves}
 use Rattle.word_list.specs.declared.request.Settings.{Settings}
 use Rattle.word_list.specs.declared.rows.Command.{Command}
 use Rattle.word_list.specs.declared.rows.Command.TheVariants as command
@@ -27,22 +29,13 @@ BarSmall allows = (pick : Pick) → is_allowed allows (Some (setting.Engine pick
 
 bars : (allows : List Family) → is_allowed allows (Some (setting.Engine Boxes)) ≡ false
     → is_allowed allows (Some (setting.Engine Moves)) ≡ false → BarSmall allows
-bars allows boxes moves Plain may = refl
-bars allows boxes moves Jps may = refl
-bars allows boxes moves Block may = refl
-bars allows boxes moves Plus may = refl
-bars allows boxes moves Boxes may = absurd (cc)
-bars allows boxes moves Moves may = absurd (cc)
+bars allows h i = grind (arith, nat_tests)
 
 module _ (allows : List Family) (bar : BarSmall allows) where
   with_one : (set : Settings) (s : Option Setting) → is_allowed allows s ≡ true
       → is_for_small_maps set.pick ≡ false
       → is_for_small_maps (settings_with set s).pick ≡ false
-  with_one set None may large = large
-  with_one set (Some (setting.Engine pick)) may large = bar pick may
-  with_one set (Some (setting.Show show)) may large = large
-  with_one set (Some (setting.Rule rule)) may large = large
-  with_one set (Some setting.TableFile) may large = large
+  with_one set s h i = grind (arith, nat_tests)
 
   -- no word of such settings picks one
   with_all : (before words : List (List ℕ)) (set : Settings) → all_follow allows before words ≡ true
@@ -103,9 +96,7 @@ serving one may = record {
 -- the row of a name is this one, or one behind it
 either : (b : Bool) (row : Row) (others : Option Row) (one : Row) → IsServing row
     → (others ≡ Some one → IsServing one) → (if b then Some row else others) ≡ Some one → IsServing one
-either true row others one here behind e =
-    subst (λ (r : Row). IsServing r) (ap (λ (o : Option Row). unwrap_or o row) e) here
-either false row others one here behind e = behind e
+either b row others one h i j = grind (arith, nat_tests)
 
 serves_in : (all : List Named) (name : List ℕ) (row : Row) → list_all may_allow all ≡ true
     → row_in all name ≡ Some row → IsServing row

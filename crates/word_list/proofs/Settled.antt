@@ -1,5 +1,6 @@
 -- Lists of settings: where they stop, and how many they are at most.
-use Rattle.std.proofs.Common.{◌≡◌, ℕ, zero, suc, ◌+◌, ◌<◌, ◌≤◌, Bool, true, false, not, ◌||◌, List, [], ◌∷◌}
+use Rattle.std.proofs.lemmas.Bool.Decides.{nat_tests}
+use Rattle.std.proofs.Common.{◌≡◌, ℕ, zero, suc, ◌+◌, ◌<◌, ◌≤◌, Bool, true, false, not, List, [], ◌∷◌}
 use Rattle.std.proofs.Common.{◌++◌, refl, sym, ap, ◌∙◌, length, take, drop, get_or, map, append_assoc}
 use Rattle.std.proofs.Common.{append-nil, string_bytes, add-one, arith}
 use Rattle.std.specs.Prelude.{String, Option, Some, None, if◌then◌else◌}
@@ -125,12 +126,7 @@ module _ (allows : List Family) (before : List (List ℕ)) (word : List ℕ) whe
 
   -- what is made stays so
   kept : (choice : Choice) → made choice before ≤ made choice (before ++ word ∷ [])
-  kept choice = rw (list_any-append (λ other. is_made choice (setting_of other)) before (word ∷ []))
-      (more (list_any (λ other. is_made choice (setting_of other)) before) _)
-    where
-      more : (b c : Bool) → (if b then 1 else 0) ≤ (if b || c then 1 else 0)
-      more true c = omega arith
-      more false c = omega arith
+  kept choice = grind (arith, nat_tests, list_any-append)
 
   grown : (s : Setting) → setting_of word ≡ Some s
       → list_any (λ other. are_clashing (setting_of other) (setting_of word)) before ≡ false

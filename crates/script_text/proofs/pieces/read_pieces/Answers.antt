@@ -1,5 +1,6 @@
-use Rattle.std.proofs.Common.{◌+◌, ◌≤◌, ◌++◌, sym, subst, length, List, ℕ}
-use Rattle.std.specs.Prelude.{◌^◌}
+use Rattle.std.proofs.Common.{arith}
+use Rattle.std.proofs.lemmas.Bool.Decides.{nat_tests}
+use Rattle.std.proofs.Common.{◌++◌, subst, List, ℕ}
 use Rattle.script_text.specs.Feeding.{text_of}
 use Rattle.script_text.specs.Fed.{HasFed}
 use Rattle.script_text.proofs.Cuts.{script-by}
@@ -12,11 +13,7 @@ loop-piece-init c =
     c.new-feeder.ensures.nothing
 
 pub feed-requires : goal.feed-requires
-feed-requires c =
-    subst (λ (l : List ℕ). c.loop-piece.feeder.taken + length l ≤ 2 ^ 26) (sym c.as_slice.ensures.value)
-    (piece-fits c.args.pieces.now c.loop-piece.piece-index c.piece-item.result c.loop-piece-test.true
-    c.piece-item.is
-    c.loop-piece.feeder.taken c.loop-piece.invariant.counted c.requires)
+feed-requires c = grind (arith, nat_tests, piece-fits)
 
 pub returns-in_err-feed-clause-commands : goal.returns-in_err-feed-clause-commands
 returns-in_err-feed-clause-commands c = λ other.
