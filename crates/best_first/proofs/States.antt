@@ -48,11 +48,6 @@ pub told-place : (s : State) → s.cell.x < 4096 → state_told (place_of s) ≡
 unfolding place_of state_told arrival_of
 told-place s h = grind (arith, nat_tests, arrival_small, same_state, same_cell, arrival_of, arrival_again)
 
--- what is told has an early column
-pub told_column : (p : Place) → (state_told p).cell.x < 4096
-unfolding state_told
-told_column p = omega arith
-
 -- the number that is told of an arrival, where 8 and more stand for the start
 arrival_told : (n : ℕ) → arrival_number (slice_get all_dirs n) ≡ min n 8
 arrival_told n = grind (arith, nat_tests)

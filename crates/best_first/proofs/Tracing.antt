@@ -39,13 +39,6 @@ module _ (goal : Cell) (nodes : List Node) where
     pub on_the_way : HasBack goal nodes first → IsOnTheWay goal nodes first [] no_cost first
     on_the_way h = grind (arith, same_cost)
 
-    -- one cell more
-    pub one_back : (points : List Cell) (cost : Cost) (id : ℕ) (n : Node)
-        → (w : IsOnTheWay goal nodes first points cost id) → (f : Further id n w.rest w.left)
-        → IsOnTheWay goal nodes first (points ++ node_cell n ∷ [])
-        (add_costs cost (estimate (node_cell f.parent) (node_cell n))) n.parent
-    one_back points cost id n w f = grind (arith, nat_tests, common_steps, same_cost)
-
     -- one cell more, as it is read
     pub step_back : (points later : List Cell) (cost after : Cost) (id : ℕ) (n p : Node) (cell before : Cell)
         → IsOnTheWay goal nodes first points cost id → id ≢ 0 → slice_get nodes id ≡ Some n

@@ -1,7 +1,9 @@
 -- The words around a cell.
+use Rattle.std.proofs.lemmas.Bool.Decides.{nat_tests}
+use Rattle.std.proofs.lemmas.Grind.{common_steps}
 use Rattle.std.proofs.Common.{◌≡◌, ℕ, zero, suc, ◌+◌, ◌-◌, ◌*◌, ◌/◌, ◌%◌, ◌<◌, arith, Bool, true, ◌&&◌, refl}
 use Rattle.std.proofs.Common.{ap, sym, ◌∙◌, subst, bit_and}
-use Rattle.std.specs.Prelude.{Option, Some, None, IfSome, is_some}
+use Rattle.std.specs.Prelude.{Option, IfSome, is_some}
 use Rattle.grid_moves.specs.declared.Cell.{Cell}
 use Rattle.grid_moves.specs.declared.Corner.{Corner}
 use Rattle.grid_moves.specs.declared.Dir.{Dir}
@@ -32,14 +34,7 @@ use Rattle.jump_block.proofs.Rings.{leads_by}
 pub words_trail : (free : ℕ → ℕ → Bool) (way : Way) (line from place : ℕ) (w : ThreeWords)
     → AreNear free line place w
     → AreWordsOf (trail_on free way line from) way from (place / 64 * 64) w
-words_trail free way line from place w is = record {
-  middle = λ j k h m. is.middle j h
-      ∙ ap (λ (p : ℕ). free line p) (meets_along way from (place / 64 * 64 + j) k m);
-  before = λ j k h m. is.before j h
-      ∙ ap (λ (p : ℕ). free (line - 1) p) (meets_along way from (place / 64 * 64 + j) k m);
-  after = λ j k h m. is.after j h
-      ∙ ap (λ (p : ℕ). free (line + 1) p) (meets_along way from (place / 64 * 64 + j) k m);
-}
+words_trail free way line from place w is = grind (arith, nat_tests, common_steps, meets_along)
 
 -- words by their number, and by a place that they have
 pub near_read : (free : ℕ → ℕ → Bool) (line word : ℕ) (w : ThreeWords)
@@ -47,33 +42,19 @@ pub near_read : (free : ℕ → ℕ → Bool) (line word : ℕ) (w : ThreeWords)
     → ((j : ℕ) → j < 64 → is_set w.before j ≡ free (line - 1) (word * 64 + j))
     → ((j : ℕ) → j < 64 → is_set w.after j ≡ free (line + 1) (word * 64 + j))
     → AreNear free line (word * 64) w
-near_read free line word w middle before after =
-    let same : word * 64 ≡ word * 64 / 64 * 64 = omega arith in
-    record {
-      middle = λ j h. middle j h ∙ ap (λ (p : ℕ). free line (p + j)) same;
-      before = λ j h. before j h ∙ ap (λ (p : ℕ). free (line - 1) (p + j)) same;
-      after = λ j h. after j h ∙ ap (λ (p : ℕ). free (line + 1) (p + j)) same;
-    }
+near_read free line word w middle before after = grind (arith, nat_tests, common_steps)
 
 pub near_again : (free : ℕ → ℕ → Bool) (line place : ℕ) (w : ThreeWords)
     → AreNear free line (place / 64 * 64) w → AreNear free line place w
-near_again free line place w is =
-    let same : place / 64 * 64 / 64 * 64 ≡ place / 64 * 64 = omega arith in
-    record {
-      middle = λ j h. is.middle j h ∙ ap (λ (p : ℕ). free line (p + j)) same;
-      before = λ j h. is.before j h ∙ ap (λ (p : ℕ). free (line - 1) (p + j)) same;
-      after = λ j h. is.after j h ∙ ap (λ (p : ℕ). free (line + 1) (p + j)) same;
-    }
+near_again free line place w is = grind (arith, nat_tests, common_steps)
 
 -- from the word of the start the way goes on to the next
 edge_there : (way : Way) (word next per_line : ℕ) → HasNextWord way per_line word → next ≡ next_word way word
     → near way (next * 64) ≡ far way (word * 64)
-edge_there Forward word next per_line more is = omega arith
-edge_there Back word next per_line more is = omega arith
+edge_there way word next per_line h1 h2 = grind (arith, nat_tests, common_steps)
 
 edge_ahead : (way : Way) (from : ℕ) → IsAhead way from (far way (from / 64 * 64))
-edge_ahead Forward from = omega arith
-edge_ahead Back from = omega arith
+edge_ahead way from = grind (arith, nat_tests, common_steps)
 
 later_there : (way : Way) (from next per_line : ℕ) → HasNextWord way per_line (from / 64)
     → next ≡ next_word way (from / 64) → (j k : ℕ) → j < 64 → Meets way from (next * 64 + j) k
@@ -102,18 +83,7 @@ module _ (free : ℕ → ℕ → Bool) (way : Way) (rule : Corner) (line from ne
   edge_is = edge_there way (from / 64) next per_line more follows
 
   next_there : AreWordsOf (begun rule (trail_on free way line from)) way from (next * 64) words
-  next_there =
-      let same : next * 64 / 64 * 64 ≡ next * 64 = omega arith in
-      let there = subst (λ (b : ℕ). AreWordsOf (trail_on free way line from) way from b words) same
-      (words_trail free way line from (next * 64) words are) in
-      let later = later_there way from next per_line more follows in
-      record {
-        middle = there.middle;
-        before = own_later way rule (trail_on free way line from).before from (next * 64) words.before later
-            there.before;
-        after = own_later way rule (trail_on free way line from).after from (next * 64) words.after later
-            there.after;
-      }
+  next_there = grind (arith, nat_tests, common_steps, words_trail, later_there, own_later)
 
   edges_there : AreEdgesOf (begun rule (trail_on free way line from)) way from (near way (next * 64)) first
   edges_there = rw edge_is
@@ -133,22 +103,17 @@ module _ (free : ℕ → ℕ → Bool) (way : Way) (rule : Corner) (line from ne
 -- what was found is where a scan halts
 pub found_some : (rule : Corner) (t : Trail) (found : Option Halt) → is_some found ≡ true
     → IfSome found (λ h. Halts rule t h.passed h.marked) → Finds rule t 0 found
-found_some rule t (Some h) some there = there
-found_some rule t None some there = absurd (cc)
+found_some rule t found h1 h2 = grind (arith, nat_tests, common_steps)
 
 -- bits moved by one against the way
 pub set_lowered-next : (word j : ℕ) → j < 64 → HasNextBit Forward j
     → is_set (word / 2) j ≡ is_set word (next_bit Forward j)
-set_lowered-next word j h more =
-    let next : suc j ≡ j + 1 = omega arith in
-    set_lowered word j ∙ ap (λ (n : ℕ). is_set word n) next
+set_lowered-next word j h more = grind (arith, nat_tests, common_steps, set_lowered)
 
 pub set_raised-next : (word j : ℕ) → j < 64 → HasNextBit Back j
     → is_set (word * 2 % 18446744073709551616) j ≡ is_set word (next_bit Back j)
 set_raised-next word zero h more = absurd (omega arith)
-set_raised-next word (suc j) h more =
-    let next : j ≡ suc j - 1 = omega arith in
-    set_raised word j h ∙ ap (λ (n : ℕ). is_set word n) next
+set_raised-next word (suc j) h more = grind (arith, nat_tests, common_steps, set_raised)
 
 -- a bit of them together
 pub bits_lead : (rule : Corner) (way : Way) (place middle side along passes ahead : ℕ) (b : Bool) → place < 64

@@ -1,6 +1,7 @@
 -- Bits of words: shifted with a carry, the first that is set, and those past a place.
-use Rattle.std.proofs.Common.{◌≡◌, ℕ, suc, ◌+◌, ◌*◌, ◌-◌, ◌/◌, ◌%◌, ◌^◌, ◌<◌, ◌≤◌, ◌⊎◌, inl, inr, arith, Bool}
-use Rattle.std.proofs.Common.{true, false, not, ◌&&◌, refl, ap, sym, ◌∙◌, bit_and, w64}
+use Rattle.std.proofs.lemmas.Grind.{common_steps}
+use Rattle.std.proofs.Common.{◌≡◌, ℕ, suc, ◌+◌, ◌*◌, ◌-◌, ◌/◌, ◌%◌, ◌^◌, ◌<◌, ◌≤◌, ◌⊎◌, arith}
+use Rattle.std.proofs.Common.{true, false, not, ◌&&◌, ap, ◌∙◌, bit_and, w64}
 use Rattle.std.specs.Prelude.{nat_eq, nat_lt}
 use Rattle.std.specs.Int.{bit_at}
 use Rattle.std.specs.Int.Count.{count_leading_zeros, count_trailing_zeros}
@@ -16,25 +17,17 @@ use Rattle.bit_grid.proofs.Words.{set_and, set_not}
 
 -- the highest bit alone
 pub set_top : (a : ℕ) → a < 18446744073709551616 → is_set (a / 9223372036854775808) 0 ≡ is_set a 63
-set_top a h =
-    let low : a / 9223372036854775808 % 2 ≡ a / 9223372036854775808 = omega arith in
-    ap (λ (n : ℕ). nat_eq n 1) (bit_at_lowest (a / 9223372036854775808) ∙ refl)
+set_top a h = grind (arith, nat_tests, common_steps, bit_at_lowest)
 
 pub set_top-above : (a j : ℕ) → a < 18446744073709551616 → is_set (a / 9223372036854775808) (suc j) ≡ false
-set_top-above a j h =
-    let small : a / 9223372036854775808 < 2 = omega arith in
-    ap (λ (n : ℕ). nat_eq n 1) (bit_at_above (a / 9223372036854775808) 1 (suc j) small (omega arith))
+set_top-above a j h = grind (arith, nat_tests, common_steps, bit_at_above)
 
 -- the lowest bit raised to the highest
 parity : (a : ℕ) → a * 9223372036854775808 % 18446744073709551616 ≡ a % 2 * 9223372036854775808 + 0
 parity a = omega arith
 
 pub set_bottom : (a : ℕ) → is_set (a * 9223372036854775808 % 18446744073709551616) 63 ≡ is_set a 0
-set_bottom a =
-    let high = bit_at_cat_high (a % 2) 63 0 63 (omega arith) (omega arith) in
-    let same : a % 2 % 2 ≡ a % 2 = omega arith in
-    ap (λ (n : ℕ). nat_eq n 1) (ap (λ (n : ℕ). bit_at n 63) (parity a) ∙ high
-    ∙ bit_at_lowest (a % 2) ∙ same ∙ sym (bit_at_lowest a))
+set_bottom a = grind (arith, nat_tests, common_steps, bit_at_cat_high, parity, bit_at_lowest)
 
 pub set_bottom-below : (a j : ℕ) → j < 63
     → is_set (a * 9223372036854775808 % 18446744073709551616) j ≡ false
@@ -48,8 +41,7 @@ set_past a h = ap (λ (n : ℕ). nat_eq n 1) (bit_at_above a 64 64 h (omega arit
 -- a side's bits that are not set in what was shifted
 pub set_apart : (word shifted j : ℕ) → shifted < 18446744073709551616 → j < 64
     → is_set (bit_and word (18446744073709551615 - shifted)) j ≡ (is_set word j && not (is_set shifted j))
-set_apart word shifted j h k = set_and word (18446744073709551615 - shifted) j
-    ∙ ap (λ (b : Bool). is_set word j && b) (set_not shifted j h k)
+set_apart word shifted j h k = grind (arith, nat_tests, common_steps, set_and, set_not)
 
 -- a bit of a word that is set is its lowest or its highest, or none of those below or above it is
 pub lowest_set : (word : ℕ) → 0 < word → word < 18446744073709551616
@@ -72,12 +64,7 @@ highest_set word h k =
     )
   where
     one_bit : (n i : ℕ) → 2 ^ i ≤ n → n < 2 ^ suc i → bit_at n i ≡ 1
-    one_bit n i a b =
-        let double : 2 ^ suc i ≡ 2 * 2 ^ i = pow-succ' 2 i in
-        let low : 1 ≤ n / 2 ^ i = le-div 1 n (2 ^ i) (pow_pos i) (omega arith) in
-        let high : n / 2 ^ i < 2 = div_below n (2 ^ i) 2 (pow_pos i) (omega arith) in
-        let one : n / 2 ^ i ≡ 1 = omega (arith, low, high) in
-        ap (λ (m : ℕ). m % 2) one
+    one_bit n i a b = grind (arith, nat_tests, common_steps, pow-succ', le-div, pow_pos, div_below)
 
 -- the bits above a place, and those below
 pub set_above : (place j : ℕ) → place < 64 → j < 64
@@ -92,27 +79,12 @@ set_above place j h k =
     ∙ ap (λ (n : ℕ). not (is_set n j)) ones ∙ by_place (cases_lt j (place + 1))
   where
     by_place : (j < place + 1) ⊎ (place + 1 ≤ j) → not (is_set (2 ^ (place + 1) - 1) j) ≡ nat_lt place j
-    by_place (inl l) = ap (λ (n : ℕ). not (nat_eq n 1)) (bit_at_ones (place + 1) j l)
-        ∙ grind (arith, nat_tests)
-    by_place (inr l) =
-        ap (λ (n : ℕ). not (nat_eq n 1)) (bit_at_ones_above (place + 1) j l) ∙ grind (arith, nat_tests)
+    by_place h1 = grind (arith, nat_tests, common_steps, bit_at_ones, bit_at_ones_above)
 
 pub set_below : (place j : ℕ) → place < 64 → j < 64
     → is_set (1 * 2 ^ place % 18446744073709551616 - 1) j ≡ nat_lt j place
-set_below place j h k =
-    rw (one_shl place 64 h) (by_place (cases_lt j place))
-  where
-    by_place : (j < place) ⊎ (place ≤ j) → is_set (2 ^ place - 1) j ≡ nat_lt j place
-    by_place (inl l) = ap (λ (n : ℕ). nat_eq n 1) (bit_at_ones place j l) ∙ grind (arith, nat_tests)
-    by_place (inr l) = ap (λ (n : ℕ). nat_eq n 1) (bit_at_ones_above place j l) ∙ grind (arith, nat_tests)
+set_below place j h k = grind (arith, nat_tests, common_steps, one_shl, bit_at_ones, bit_at_ones_above)
 
 -- one bit
 pub set_one : (place j : ℕ) → place < 64 → is_set (1 * 2 ^ place % 18446744073709551616) j ≡ nat_eq j place
-set_one place j h = rw (one_shl place 64 h) (by_test (nat_eq j place) refl)
-  where
-    by_test : (b : Bool) → nat_eq j place ≡ b → is_set (2 ^ place) j ≡ b
-    by_test true e =
-        let same : j ≡ place = grind (arith, nat_tests) in
-        rw same (ap (λ (n : ℕ). nat_eq n 1) (bit_at-pow_same place))
-    by_test false e =
-        ap (λ (n : ℕ). nat_eq n 1) (bit_at-pow_other place j (λ f. grind (arith, nat_tests)))
+set_one place j h = grind (arith, nat_tests, common_steps, one_shl, bit_at-pow_same, bit_at-pow_other)

@@ -1,4 +1,5 @@
 -- The search of a block, word by word.
+use Rattle.std.proofs.lemmas.Grind.{common_steps}
 use Rattle.std.proofs.Common.{◌≡◌, ℕ, zero, suc, ◌+◌, ◌*◌, ◌-◌, ◌/◌, ◌^◌, ◌<◌, ◌≤◌, ◌⊎◌, inl, inr, arith}
 use Rattle.std.proofs.Common.{Bool, true, false, not, ◌&&◌, refl, ap, sym, ◌∙◌, subst, bit_and}
 use Rattle.std.proofs.Common.{slice_index_or}
@@ -30,38 +31,25 @@ edge_of side Back from base word here = λ k m. here 0 k (omega arith) (omega ar
 
 pub edges_of : (t : Trail) (way : Way) (from base : ℕ) (w : ThreeWords) → AreWordsOf t way from base w
     → AreEdgesOf t way from (far way base) w
-edges_of t way from base w are = record {
-  before = edge_of t.before way from base w.before are.before;
-  after = edge_of t.after way from base w.after are.after;
-}
+edges_of t way from base w are = grind (arith, nat_tests, common_steps, edge_of)
 
 -- before the way leaves the first word it has no edge behind it
 pub no_edges : (t : Trail) (way : Way) (from base : ℕ) (w : ThreeWords) → base ≤ from → from < base + 64
     → AreEdgesOf t way from (near way base) w
-no_edges t Forward from base w a b = record {
-  before = λ k m. absurd (omega arith);
-  after = λ k m. absurd (omega arith);
-}
-no_edges t Back from base w a b = record {
-  before = λ k m. absurd (omega arith);
-  after = λ k m. absurd (omega arith);
-}
+no_edges t way from base w h1 h2 = grind (arith, nat_tests, common_steps)
 
 -- a number of moves is told by where they lead
 short_of : (way : Way) (from place k : ℕ) → Meets way from place (suc k) → moves_short_of way from place ≡ k
-short_of Forward from place k m = omega arith
-short_of Back from place k m = omega arith
+short_of way from place k h1 = grind (arith, nat_tests, common_steps)
 
 -- earlier moves lead to earlier places
 earlier : (way : Way) (from base i j k m : ℕ) → Meets way from (base + i) (suc k)
     → Meets way from (base + j) (suc m) → m < k → is_past way j i ≡ true
-earlier Forward from base i j k m a b h = grind (arith, nat_tests)
-earlier Back from base i j k m a b h = grind (arith, nat_tests)
+earlier way from base i j k m h1 h2 h3 = grind (arith, nat_tests, common_steps)
 
 within : (way : Way) (from base i k m : ℕ) → i < 64 → Meets way from (base + i) (suc k) → m < k
     → m < moves_before way from (far way base)
-within Forward from base i k m l a h = omega arith
-within Back from base i k m l a h = omega arith
+within way from base i k m h1 h2 h3 = grind (arith, nat_tests, common_steps)
 
 module _ (t : Trail) (way : Way) (from base n found : ℕ) (is : IsFound t way from base n found) where
   -- none of the bits is set
@@ -98,18 +86,15 @@ module _ (t : Trail) (way : Way) (from base n found : ℕ) (is : IsFound t way f
 
 -- where the i-th word begins and ends
 begins : (way : Way) (start i : ℕ) → i < 8 → near way (start + nth_word way i * 64) ≡ edge_before way start i
-begins Forward start i h = refl
-begins Back start i h = omega arith
+begins way start i h1 = grind (arith, nat_tests, common_steps)
 
 pub ends : (way : Way) (start i : ℕ) → i < 8
     → far way (start + nth_word way i * 64) ≡ edge_before way start (i + 1)
-ends Forward start i h = omega arith
-ends Back start i h = omega arith
+ends way start i h1 = grind (arith, nat_tests, common_steps)
 
 pub ahead_later : (way : Way) (from start i n : ℕ) → i ≤ n → IsAhead way from (edge_before way start i)
     → IsAhead way from (edge_before way start n)
-ahead_later Forward from start i n h a = omega arith
-ahead_later Back from start i n h a = omega arith
+ahead_later way from start i n h1 h2 = grind (arith, nat_tests, common_steps)
 
 -- past an edge, a word's bits are those of moves
 moves_there : (way : Way) (from base : ℕ) → IsAhead way from (near way base) → (j : ℕ) → j < 64
@@ -129,12 +114,8 @@ pub found_further : (t : Trail) (way : Way) (from base found : ℕ) (w last : Th
     → IsAhead way from (near way base) → HasPassed t way from (near way base) last
     → TellTrails halts way w last found
     → IsFound t way from base (moves_before way from (near way base)) found
-found_further t way from base found w last are ahead passed told = record {
-  clear = passed.clear;
-  bits = told t from base are passed.edges;
-  past = λ j h set. moves_there way from base ahead j h;
-  here = places_there way from base ahead;
-}
+found_further t way from base found w last are ahead passed told =
+    grind (arith, nat_tests, common_steps, moves_there, places_there)
 
 pub passed_further : (t : Trail) (way : Way) (from base found : ℕ) (w last : ThreeWords)
     → AreWordsOf t way from base w → IsAhead way from (near way base)
@@ -189,9 +170,7 @@ none_opened Forward word last set ends same side from base here edge zero k h m 
     ∙ steady (side k) (side (suc k)) set (sym (edge k (omega arith)) ∙ ends)
     (sym (here 0 (suc k) h m) ∙ same 0 h)
 none_opened Forward word last set ends same side from base here edge (suc j) k h m =
-    set_none (suc j)
-    ∙ steady (side k) (side (suc k)) set (sym (here j k (omega arith) (omega arith)) ∙ same j (omega arith))
-    (sym (here (suc j) (suc k) h m) ∙ same (suc j) h)
+    grind (arith, nat_tests, common_steps, set_none, steady)
 none_opened Back word last set ends same side from base here edge j k h m =
     set_none j
     ∙ steady (side k) (side (suc k)) set (by_place (cases_lt j 63)) (sym (here j (suc k) h m) ∙ same j h)
@@ -211,20 +190,15 @@ module _ (t : Trail) (way : Way) (from start : ℕ) (b : Block) (last : ThreeWor
   words_before (suc i) = words_of b (nth_word way i)
 
   last_bit_small : (way : Way) → last_bit way < 64
-  last_bit_small Forward = omega arith
-  last_bit_small Back = omega arith
+  last_bit_small way = grind (arith, nat_tests, common_steps)
 
   before_ends : (i : ℕ) → i ≤ 8
       → is_set (words_before i).before (last_bit way) ≡ is_set last.before (last_bit way)
-  before_ends zero h = refl
-  before_ends (suc i) h =
-      before (nth_word way i) (last_bit way) (nth_small way i (omega arith)) (last_bit_small way)
+  before_ends i h1 = grind (arith, nat_tests, common_steps, nth_small, last_bit_small)
 
   after_ends : (i : ℕ) → i ≤ 8
       → is_set (words_before i).after (last_bit way) ≡ is_set last.after (last_bit way)
-  after_ends zero h = refl
-  after_ends (suc i) h =
-      after (nth_word way i) (last_bit way) (nth_small way i (omega arith)) (last_bit_small way)
+  after_ends i h1 = grind (arith, nat_tests, common_steps, nth_small, last_bit_small)
 
   none_halts : (i : ℕ) → i < 8 → TellTrails halts way (words_of b (nth_word way i)) (words_before i) 0
   none_halts i h t from first its edges j k l m =
@@ -255,11 +229,7 @@ module _ (t : Trail) (way : Way) (from start : ℕ) (b : Block) (last : ThreeWor
 pub own_later : (way : Way) (r : Corner) (side : ℕ → Bool) (from base word : ℕ)
     → ((j k : ℕ) → j < 64 → Meets way from (base + j) k → (m : ℕ) × (k ≡ suc m))
     → IsWordOf side way from base word → IsWordOf (at_start r side) way from base word
-own_later way r side from base word later here j k h m =
-    let more = later j k h m in here j k h m ∙ its_own more.0 more.1
-  where
-    its_own : (n : ℕ) → k ≡ suc n → side k ≡ at_start r side k
-    its_own n e = rw e refl
+own_later way r side from base word later here j k h m = grind (arith, nat_tests, common_steps)
 
 -- the word in which a scan starts
 module _ (t : Trail) (rule : Corner) (way : Way) (base place found halting over : ℕ) (words last : ThreeWords)
@@ -268,13 +238,11 @@ module _ (t : Trail) (rule : Corner) (way : Way) (base place found halting over 
     (masked : (j : ℕ) → j < 64 → is_set over j ≡ is_past way place j)
     (found_is : found ≡ bit_and halting over) where
   set_there : (j : ℕ) → j < 64 → is_set found j ≡ (is_set halting j && is_past way place j)
-  set_there j h = ap (λ (n : ℕ). is_set n j) found_is ∙ set_and halting over j
-      ∙ ap (λ (p : Bool). is_set halting j && p) (masked j h)
+  set_there j h = grind (arith, nat_tests, common_steps, set_and)
 
   all_past : (way : Way) (base j k : ℕ) → Meets way (base + place) (base + j) (suc k)
       → is_past way place j ≡ true
-  all_past Forward base j k m = grind (arith, nat_tests)
-  all_past Back base j k m = grind (arith, nat_tests)
+  all_past way base j k h1 = grind (arith, nat_tests, common_steps)
 
   moves_past : (way : Way) (base j : ℕ) → is_past way place j ≡ true
       → (k : ℕ) × Meets way (base + place) (base + j) (suc k)
@@ -346,8 +314,7 @@ module _ (t : Trail) (rule : Corner) (way : Way) (start place w found halting ov
 
   -- its own word's far edge
   far_edge : (way : Way) → far way (start + w * 64) ≡ edge_before way start (nth_word way w + 1)
-  far_edge Forward = omega arith
-  far_edge Back = omega arith
+  far_edge way = grind (arith, nat_tests, common_steps)
 
   pub start_passed : found ≡ 0
       → HasPassed (begun rule t) way (start + w * 64 + place) (edge_before way start (nth_word way w + 1))
@@ -361,8 +328,7 @@ module _ (t : Trail) (rule : Corner) (way : Way) (start place w found halting ov
 -- the edge after the word in which a scan starts lies ahead
 pub start_ahead : (way : Way) (start w place : ℕ) → place < 64 → w < 8
     → IsAhead way (start + w * 64 + place) (edge_before way start (nth_word way w + 1))
-start_ahead Forward start w place h k = omega arith
-start_ahead Back start w place h k = omega arith
+start_ahead way start w place h1 h2 = grind (arith, nat_tests, common_steps)
 
 -- a word of a block by its own number
 pub word_there : (t : Trail) (way : Way) (from start w : ℕ) (b : Block) → IsBlockOf t way from start 0 b
@@ -373,9 +339,7 @@ word_there t way from start w b block h =
     (block (nth_word way w) (omega arith) (small way))
   where
     twice : (way : Way) → nth_word way (nth_word way w) ≡ w
-    twice Forward = refl
-    twice Back = omega arith
+    twice way = grind (arith, nat_tests, common_steps)
 
     small : (way : Way) → nth_word way w < 8
-    small Forward = h
-    small Back = omega arith
+    small way = grind (arith, nat_tests, common_steps)

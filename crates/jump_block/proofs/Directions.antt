@@ -1,5 +1,6 @@
 -- Scans on a grid, in each straight direction.
-use Rattle.std.proofs.Common.{◌≡◌, ◌≢◌, ℕ, zero, suc, ◌+◌, ◌-◌, ◌<◌, ◌≤◌, arith, Bool, true, false, ◌||◌}
+use Rattle.std.proofs.lemmas.Grind.{common_steps}
+use Rattle.std.proofs.Common.{◌≡◌, ℕ, suc, ◌+◌, ◌-◌, ◌<◌, ◌≤◌, arith, Bool, true, false, ◌||◌}
 use Rattle.std.proofs.Common.{refl, ap, sym, ◌∙◌, subst}
 use Rattle.std.specs.Prelude.{Option, Some, is_some, nat_eq, if◌then◌else◌}
 use Rattle.std.proofs.lemmas.Bool.Decides.{nat_tests}
@@ -20,7 +21,6 @@ use Rattle.jump_plain.proofs.Straight.{straight_stop}
 use Rattle.jump_block.proofs.Runs.{IsTold, told_by_ray}
 use Rattle.jump_block.specs.declared.block.Halt.{Halt}
 use Rattle.jump_block.specs.declared.word.Way.{Way}
-use Rattle.jump_block.specs.declared.word.Way.TheVariants.{Forward, Back}
 use Rattle.jump_block.specs.Trail.{Trail, at_start, begun, opens, opens_beside, trail_on}
 use Rattle.jump_block.specs.Scan.{IsStart, MeetsFrom, MeetsMark, most_lanes}
 use Rattle.jump_block.specs.Source as block
@@ -64,20 +64,7 @@ same_from_one g x y p q e f = rw (e, f) refl
 -- a cell is open where the border or its neighbour is free
 pub open_from_one : (g : GridData) (d : Dir) (x y : ℕ)
     → is_open g (cell x y) d ≡ is_free_from_one g (column_from_one d x) (row_from_one d y)
-open_from_one g N x zero = refl
-open_from_one g N x (suc y) = refl
-open_from_one g NE x zero = refl
-open_from_one g NE x (suc y) = same_free g _ _ _ _ (one_more x) refl
-open_from_one g E x y = same_free g _ _ _ _ (one_more x) refl
-open_from_one g SE x y = same_free g _ _ _ _ (one_more x) (one_more y)
-open_from_one g S x y = same_free g _ _ _ _ refl (one_more y)
-open_from_one g SW zero y = refl
-open_from_one g SW (suc x) y = same_free g _ _ _ _ refl (one_more y)
-open_from_one g W zero y = refl
-open_from_one g W (suc x) y = refl
-open_from_one g NW zero y = refl
-open_from_one g NW (suc x) zero = refl
-open_from_one g NW (suc x) (suc y) = refl
+open_from_one g d x y = grind (arith, nat_tests, common_steps, same_free, one_more)
 
 pub free_from_one : (g : GridData) (x y p q : ℕ) → p ≡ x + 1 → q ≡ y + 1
     → is_free_from_one g p q ≡ is_free g (cell x y)
@@ -86,23 +73,16 @@ free_from_one g x y p q e f =
 
 -- nothing is free on the border and beyond
 pub border_column : (g : GridData) (y : ℕ) → is_free_from_one g y 0 ≡ false
-border_column g zero = refl
-border_column g (suc y) = refl
+border_column g y = grind (arith, nat_tests, common_steps)
 
 outside : (g : GridData) (x y : ℕ) → is_inside g (cell x y) ≡ false → is_free g (cell x y) ≡ false
 outside g x y h = rw h refl
 
 beyond_columns : (g : GridData) (x y : ℕ) → g.width < x → is_free_from_one g x y ≡ false
-beyond_columns g zero y h = refl
-beyond_columns g (suc x) zero h = refl
-beyond_columns g (suc x) (suc y) h =
-    let none : is_inside g (cell x y) ≡ false = grind (arith, nat_tests) in outside g x y none
+beyond_columns g x y h1 = grind (arith, nat_tests, common_steps, outside)
 
 beyond_rows : (g : GridData) (x y : ℕ) → g.height < y → is_free_from_one g x y ≡ false
-beyond_rows g zero y h = refl
-beyond_rows g (suc x) zero h = refl
-beyond_rows g (suc x) (suc y) h =
-    let none : is_inside g (cell x y) ≡ false = grind (arith, nat_tests) in outside g x y none
+beyond_rows g x y h1 = grind (arith, nat_tests, common_steps, outside)
 
 module _ (g : GridData) (x : Cell) (free : is_free g x ≡ true) where
   in_column : x.x < g.width
@@ -144,8 +124,7 @@ same_sides a b c d e f = rw (e, f) refl
 begins_with : (b : Bool) (a c p q : Bool) → a ≡ p → c ≡ q
     → (let s : Sides = record { right = if b then true else a; left = if b then true else c } in s)
     ≡ (if b then record { right = true; left = true } else record { right = p; left = q })
-begins_with true a c p q e f = refl
-begins_with false a c p q e f = same_sides a c p q e f
+begins_with b a c p q h1 h2 = grind (arith, nat_tests, common_steps, same_sides)
 
 other_side : (a b : Bool) → (a || b) ≡ (b || a)
 other_side a b = grind arith
@@ -159,13 +138,11 @@ module _ (g : GridData) (d : Dir) (x y p q : ℕ) where
 -- the cell ahead, where it is open
 west_ahead : (g : GridData) (n m y : ℕ) → m ≡ n - 1 → is_open g (cell n y) W ≡ true
     → ahead W (cell n y) ≡ Some (cell m y)
-west_ahead g zero m y e h = absurd (cc)
-west_ahead g (suc n) m y e h = let same : n ≡ m = omega arith in ap (λ (k : ℕ). Some (cell k y)) same
+west_ahead g n m y h1 h2 = grind (arith, nat_tests, common_steps)
 
 north_ahead : (g : GridData) (x n m : ℕ) → m ≡ n - 1 → is_open g (cell x n) N ≡ true
     → ahead N (cell x n) ≡ Some (cell x m)
-north_ahead g x zero m e h = absurd (cc)
-north_ahead g x (suc n) m e h = let same : n ≡ m = omega arith in ap (λ (k : ℕ). Some (cell x k)) same
+north_ahead g x n m h1 h2 = grind (arith, nat_tests, common_steps)
 
 -- a straight run along a line: where its cells stand, and what lies to their right and left
 module _ (g : GridData) (x : Cell) (d : Dir) (straight : is_diagonal d ≡ false) (free : is_free g x ≡ true)
@@ -240,17 +217,6 @@ pub one_on : (P : ℕ → ℕ → Type 0) {x y u v : ℕ} → x ≡ u → y ≡ 
 one_on P {x} {y} {u} {v} e f p =
     subst (λ (n : ℕ). P (u + 1) (n + 1)) f (subst (λ (n : ℕ). P (n + 1) (y + 1)) e p)
 
--- the straight direction that is none of three
-pub is_north : (d : Dir) → is_diagonal d ≡ false → d ≢ E → d ≢ W → d ≢ S → d ≡ N
-is_north N h e w s = refl
-is_north E h e w s = absurd (e refl)
-is_north W h e w s = absurd (w refl)
-is_north S h e w s = absurd (s refl)
-is_north NE h e w s = absurd (cc)
-is_north SE h e w s = absurd (cc)
-is_north SW h e w s = absurd (cc)
-is_north NW h e w s = absurd (cc)
-
 told_by_dir : (g : GridData) (x : Cell) (d : Dir) → is_diagonal d ≡ false → is_free g x ≡ true → IsGrid g
     → IsTold g x d g.corner (begun g.corner (trail_of g d x))
 told_by_dir g x N h f whole = told_north g x f whole
@@ -294,19 +260,16 @@ mark_on g x d rule h r f whole goal off old new marked met = (
 
     shown : (b : Bool)
         → b ≡ is_some (block.stop_of rule (Some (record { passed = met.0; marked = b })) 0)
-    shown true = refl
-    shown false = refl
+    shown b = grind (arith, nat_tests, common_steps)
 
 -- the trail by its row or its column
 pub row_trail : (g : GridData) (way : Way) (x : Cell)
     → trail_of g (row_dir way) x ≡ trail_on (by_rows g) way (x.y + 1) (x.x + 1)
-row_trail g Forward x = refl
-row_trail g Back x = refl
+row_trail g way x = grind (arith, nat_tests, common_steps)
 
 pub column_trail : (g : GridData) (way : Way) (x : Cell)
     → trail_of g (column_dir way) x ≡ trail_on (by_columns g) way (x.x + 1) (x.y + 1)
-column_trail g Forward x = refl
-column_trail g Back x = refl
+column_trail g way x = grind (arith, nat_tests, common_steps)
 
 -- what a scan from a cell meets along its row or its column
 pub row_met : (g : GridData) (way : Way) (x : Cell) (rule : Corner) (l : LineData) → is_free g x ≡ true
@@ -330,21 +293,17 @@ pub more_lanes : (m n : ℕ) → m ≤ n → most_lanes m ≤ most_lanes n
 more_lanes m n h = omega arith
 
 pub row_straight : (way : Way) → is_diagonal (row_dir way) ≡ false
-row_straight Forward = refl
-row_straight Back = refl
+row_straight way = grind (arith, nat_tests, common_steps)
 
 pub column_straight : (way : Way) → is_diagonal (column_dir way) ≡ false
-column_straight Forward = refl
-column_straight Back = refl
+column_straight way = grind (arith, nat_tests, common_steps)
 
 -- a cell that is not on the line is not ahead on it
 pub off_row : (way : Way) (u v : Cell) → nat_eq u.y v.y ≡ false → moves_to (row_dir way) u v ≡ 0
-off_row Forward u v h = rw h refl
-off_row Back u v h = rw h refl
+off_row way u v h1 = grind (arith, nat_tests, common_steps)
 
 pub off_column : (way : Way) (u v : Cell) → nat_eq u.x v.x ≡ false → moves_to (column_dir way) u v ≡ 0
-off_column Forward u v h = rw h refl
-off_column Back u v h = rw h refl
+off_column way u v h1 = grind (arith, nat_tests, common_steps)
 
 swap : (x a b : Bool) → (x || a || b) ≡ (x || b || a)
 swap x a b = grind arith
@@ -352,11 +311,4 @@ swap x a b = grind arith
 -- the straight parts of a diagonal
 pub parts : (P : Dir → Bool) (d : Dir) → is_diagonal d ≡ true → (x a b : Bool) → a ≡ P (row_dir (row_way d))
     → b ≡ P (column_dir (column_way d)) → (x || a || b) ≡ (x || P (turn Right d) || P (turn Left d))
-parts P NE h x a b e f = rw (e, f) refl
-parts P SE h x a b e f = rw (e, f) (swap x (P E) (P S))
-parts P SW h x a b e f = rw (e, f) refl
-parts P NW h x a b e f = rw (e, f) (swap x (P W) (P N))
-parts P N h x a b e f = absurd (cc)
-parts P E h x a b e f = absurd (cc)
-parts P S h x a b e f = absurd (cc)
-parts P W h x a b e f = absurd (cc)
+parts P d h1 x a b h2 h3 = grind (arith, nat_tests, common_steps, swap)

@@ -1,4 +1,6 @@
 -- Eight words at once, lane by lane.
+use Rattle.std.proofs.lemmas.Bool.Decides.{nat_tests}
+use Rattle.std.proofs.lemmas.Grind.{common_steps}
 use Rattle.std.proofs.Common.{◌≡◌, ℕ, ◌+◌, ◌-◌, ◌%◌, ◌<◌, arith, Bool, true, refl, ap, sym, ◌∙◌, bit_or}
 use Rattle.std.proofs.Common.{bit_xor, map, List, [], ◌∷◌, length, slice_index_or}
 use Rattle.std.specs.Prelude.{nat_eq, take, replicate}
@@ -50,10 +52,7 @@ zipped g xs ys f e a b =
 
 -- the bits of any of them together
 or_none : (a b : ℕ) → bit_or a b ≡ 0 → (a ≡ 0) × (b ≡ 0)
-or_none a b h =
-    let one = le_or_l a b in
-    let other = le_or_r a b in
-    (omega (arith, h, one), omega (arith, h, other))
+or_none a b h = grind (arith, nat_tests, common_steps, le_or_l, le_or_r, h)
 
 fold_none : (a : ℕ) (xs : List ℕ) → fold_l bit_or a xs ≡ 0 → (a ≡ 0) × Each1 (λ (x : ℕ). x ≡ 0) xs
 fold_none a [] h = (h, tt)
@@ -84,9 +83,7 @@ alike_bit a b j set none is =
     (sym (bit_at_xor a b j) ∙ ap (λ (n : ℕ). bit_at n j) none ∙ bit_at-zero j) ∙ is
   where
     same : (m n : ℕ) → m < 2 → n < 2 → (m + n) % 2 ≡ 0 → nat_eq m 1 ≡ nat_eq n 1
-    same m n h k e =
-        let alike : m ≡ n = omega arith in
-        ap (λ (l : ℕ). nat_eq l 1) alike
+    same m n h k e = grind (arith, nat_tests, common_steps)
 
 pub set_all : (j : ℕ) → j < 64 → is_set 18446744073709551615 j ≡ true
 set_all j h = ap (λ (n : ℕ). nat_eq n 1) (bit_at_ones 64 j h)

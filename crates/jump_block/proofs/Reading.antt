@@ -1,15 +1,15 @@
 -- A block that was read is what a trail has there.
+use Rattle.std.proofs.lemmas.Bool.Decides.{nat_tests}
+use Rattle.std.proofs.lemmas.Grind.{common_steps}
 use Rattle.std.proofs.Common.{◌≡◌, ℕ, ◌+◌, ◌*◌, ◌-◌, ◌<◌, arith, Bool, ap, ◌∙◌, List, slice_index_or}
 use Rattle.bit_grid.specs.Bits.{is_set}
 use Rattle.jump_block.specs.declared.word.Way.{Way}
-use Rattle.jump_block.specs.declared.word.Way.TheVariants.{Forward, Back}
 use Rattle.jump_block.specs.Trail.{along, trail_on}
 use Rattle.jump_block.specs.Word.{Meets, IsWordOf, AreWordsOf, nth_word}
 
 -- the place that the way leads to
 pub meets_along : (way : Way) (from place k : ℕ) → Meets way from place k → place ≡ along way from k
-meets_along Forward from place k m = omega arith
-meets_along Back from place k m = omega arith
+meets_along way from place k h1 = grind (arith, nat_tests, common_steps)
 
 word_read : (free : ℕ → ℕ → Bool) (way : Way) (line from index w : ℕ) (words : List ℕ) → w < 8
     → ((k j : ℕ) → k < 8 → j < 64
@@ -19,8 +19,7 @@ word_read free way line from index w words h shown = λ j k l m.
     shown w j h l ∙ ap (λ (p : ℕ). free line p) (meets_along way from (index * 512 + w * 64 + j) k m)
 
 pub nth_small : (way : Way) (n : ℕ) → n < 8 → nth_word way n < 8
-nth_small Forward n h = h
-nth_small Back n h = omega arith
+nth_small way n h1 = grind (arith, nat_tests, common_steps)
 
 pub block_read : (free : ℕ → ℕ → Bool) (way : Way) (line from index n : ℕ) → n < 8
     → (middle before after : List ℕ)
@@ -35,8 +34,5 @@ pub block_read : (free : ℕ → ℕ → Bool) (way : Way) (line from index n : 
       before = slice_index_or before (nth_word way n) 0;
       after = slice_index_or after (nth_word way n) 0;
     })
-block_read free way line from index n h middle before after a b c = record {
-  middle = word_read free way line from index (nth_word way n) middle (nth_small way n h) a;
-  before = word_read free way (line - 1) from index (nth_word way n) before (nth_small way n h) b;
-  after = word_read free way (line + 1) from index (nth_word way n) after (nth_small way n h) c;
-}
+block_read free way line from index n h middle before after a b c =
+    grind (arith, nat_tests, common_steps, word_read, nth_small)

@@ -1,6 +1,8 @@
 -- The cells around a cell, told by bits of three rows.
+use Rattle.std.proofs.lemmas.Bool.Decides.{nat_tests}
+use Rattle.std.proofs.lemmas.Grind.{common_steps}
 use Rattle.std.proofs.Common.{◌≡◌, ℕ, zero, suc, ◌+◌, ◌/◌, ◌%◌, ◌^◌, ◌<◌, arith, Bool, true, ◌&&◌, refl, ap}
-use Rattle.std.proofs.Common.{sym, ◌∙◌, subst}
+use Rattle.std.proofs.Common.{sym, ◌∙◌}
 use Rattle.std.specs.Prelude.{nat_eq}
 use Rattle.std.proofs.lemmas.Nat.{shr-shr}
 use Rattle.grid_moves.specs.declared.Cell.{Cell}
@@ -28,8 +30,7 @@ pub three_of : (f : ℕ → Bool) (first word inner lowest : ℕ) (a b c : Bool)
     → is_set word 0 ≡ a → ((j : ℕ) → suc j < 64 → is_set word (suc j) ≡ is_set inner j)
     → is_set inner 0 ≡ b → ((j : ℕ) → suc j < 64 → is_set inner (suc j) ≡ is_set lowest j)
     → is_set lowest 0 ≡ c → (j : ℕ) → j < 3 → is_set word j ≡ f (first + j)
-three_of f first word inner lowest a b c e g h k l m n o zero i =
-    let same : first ≡ first + 0 = omega arith in k ∙ e ∙ ap f same
+three_of f first word inner lowest a b c e g h k l m n o zero i = grind (arith, nat_tests, common_steps)
 three_of f first word inner lowest a b c e g h k l m n o (suc zero) i =
     l 0 (omega arith) ∙ m ∙ g
 three_of f first word inner lowest a b c e g h k l m n o (suc (suc zero)) i =
@@ -39,8 +40,7 @@ three_of f first word inner lowest a b c e g h k l m n o (suc (suc (suc j))) i =
 
 pub three_at : (f : ℕ → ℕ → Bool) (line first line' first' word : ℕ) → line ≡ line' → first ≡ first'
     → AreThree f line first word → AreThree f line' first' word
-three_at f line first line' first' word e h three =
-    subst (λ (n : ℕ). AreThree f line' n word) h (subst (λ (n : ℕ). AreThree f n first word) e three)
+three_at f line first line' first' word e h three = grind (arith, nat_tests, common_steps)
 
 -- the cells around a cell are the middle bits' neighbours
 pub ring_read : (g : GridData) (x : Cell) (above middle below : ℕ) (ring : Ring)

@@ -1,7 +1,8 @@
 -- What a scan finds, told of the grid: along a run from a cell, by the cells after so many moves.
+use Rattle.std.proofs.lemmas.Grind.{common_steps}
 use Rattle.std.proofs.Common.{◌≡◌, ℕ, zero, suc, ◌+◌, ◌<◌, ◌≤◌, arith, Bool, true, false, not, ◌&&◌, ◌||◌}
 use Rattle.std.proofs.Common.{refl, ap, sym, ◌∙◌}
-use Rattle.std.specs.Prelude.{Option, Some, None, is_some, nat_lt, nat_le, min, if◌then◌else◌}
+use Rattle.std.specs.Prelude.{Option, Some, None, is_some, nat_lt, nat_le, if◌then◌else◌}
 use Rattle.std.proofs.lemmas.Bool.Decides.{nat_tests}
 use Rattle.grid_moves.specs.declared.Cell.{Cell}
 use Rattle.grid_moves.specs.declared.Corner.{Corner}
@@ -12,7 +13,6 @@ use Rattle.grid_moves.proofs.Legal.{legal_is, by_cut, passable-uncut}
 use Rattle.pruning.specs.declared.turns.Side.{Side}
 use Rattle.pruning.specs.declared.turns.Side.TheVariants.{Right, Left}
 use Rattle.pruning.specs.Turns.{is_diagonal, quarter, turn}
-use Rattle.pruning.specs.Allowed.{can_move}
 use Rattle.pruning.specs.First.{run_length}
 use Rattle.pruning.proofs.Moves.{can_move-straight}
 use Rattle.pruning.proofs.Bridging.{leads_from, leads_legal, legal_leads, one_of, place_of}
@@ -31,8 +31,7 @@ use Rattle.jump_block.specs.Source.{reach_of_halt, HasFew, scanned}
 use Rattle.jump_block.specs.Source as block
 
 none_if : (o : Option Cell) → is_some o ≡ false → o ≡ None
-none_if None h = refl
-none_if (Some v) h = absurd (cc)
+none_if o h1 = grind (arith, nat_tests, common_steps)
 
 -- the cells half ahead are the sides of the next cell
 sides_seen : (g : GridData) (u v : Cell) (d : Dir) → legal_ahead g u d ≡ Some v → is_diagonal d ≡ false
@@ -45,8 +44,7 @@ sides_seen g u v d legal h = rw (seen Right, seen Left) refl
 
 -- where a diagonal move may pass between two blocked cells a corner may be cut, and no mark stands ahead
 slips_here : (r : Corner) → may_slip r ≡ true → (k : ℕ) → k + mark_ahead r ≡ k
-slips_here r e k = by_cut r (λ f. absurd (let never = passable-uncut r f false false in cc))
-    (λ f. rw f (omega arith))
+slips_here r e k = grind (arith, nat_tests, common_steps, by_cut, passable-uncut)
 
 -- so many cells ahead: where each stands, whether it is free, and its sides, those of the first cell as a
 -- scan begins
@@ -69,11 +67,7 @@ module _ (g : GridData) (x : Cell) (d : Dir) (h : is_diagonal d ≡ false)
 
   moves_on : (k : ℕ) → is_free g (place k) ≡ true → free (suc k) ≡ true
       → legal_ahead g (place k) d ≡ Some (place (suc k))
-  moves_on k f e =
-      let can : can_move g (place k) d ≡ true = can_move-straight g (place k) d f h ∙ open_is k ∙ e in
-      let l = leads_from g (place k) d can in
-      leads_legal g (place k) l.0 d l.1
-      ∙ ap (λ (v : Cell). Some v) (one_of _ _ (sym l.1.ahead_is ∙ goes k (open_is k ∙ e)))
+  moves_on k f e = grind (arith, nat_tests, common_steps, can_move-straight, leads_from, leads_legal, one_of)
 
   sides_then : (k : ℕ) → legal_ahead g (place k) d ≡ Some (place (suc k))
       → sides (suc k) ≡ sides_of g (place (suc k)) d
@@ -84,8 +78,7 @@ module _ (g : GridData) (x : Cell) (d : Dir) (h : is_diagonal d ≡ false)
       ∙ open_is k ∙ e)
 
   free_and_shut : (a b : Bool) → (not a || b) ≡ false → (a ≡ true) × (b ≡ false)
-  free_and_shut true b e = (refl, e)
-  free_and_shut false b e = absurd (cc)
+  free_and_shut a b h1 = grind (arith, nat_tests, common_steps)
 
   comes : (k : ℕ) → ((m : ℕ) → m < k → halts_at m ≡ false) → Comes k
   comes zero clear = record {
@@ -136,12 +129,7 @@ module _ (g : GridData) (x : Cell) (d : Dir) (h : is_diagonal d ≡ false)
 
     pub halted_mark : free (suc k) ≡ true → opens (sides k) (sides (suc k)) ≡ true
         → record { moves = k + mark_ahead g.corner; marked = true } ≡ reach_of g x d
-    halted_mark e o =
-        let there = comes k clear in
-        let legal = moves_on k there.is_free_there e in
-        reached_mark g (place k) d h (sides k) k (reach_of g x d) there.left (place (suc k))
-        legal (sides (suc k)) (sides_then k legal) (opens (sides k) (sides (suc k))) refl
-        (mark_ahead g.corner) refl o
+    halted_mark e o = grind (arith, nat_tests, common_steps, comes, moves_on, reached_mark, sides_then)
 
     -- the goal is met before
     pub met_before : 0 < k → Some k ≡ stop_of (reach_of g x d) k
@@ -179,9 +167,7 @@ module _ (g : GridData) (x : Cell) (d : Dir) (h : is_diagonal d ≡ false)
     last_mark : (passed : ℕ) (marked : Bool) → marked ≡ (may_slip g.corner && opens_beside t passed)
         → reach_of_halt g.corner (record { passed = passed; marked = marked })
         ≡ record { moves = passed; marked = marked }
-    last_mark passed true e = ap (λ (n : ℕ). let r : Reach = record { moves = n; marked = true } in r)
-        (slips_here g.corner (slip_of _ _ e) passed)
-    last_mark passed false e = refl
+    last_mark passed marked h1 = grind (arith, nat_tests, common_steps, slips_here, slip_of)
 
     reach_there : (passed : ℕ) (marked : Bool) → Halts g.corner t passed marked
         → reach_of_halt g.corner (record { passed = passed; marked = marked }) ≡ reach_of g x d
@@ -219,16 +205,10 @@ module _ (g : GridData) (x : Cell) (d : Dir) (h : is_diagonal d ≡ false)
 
     nearer_goal : (to_goal moves : ℕ) → (nat_lt 0 to_goal && nat_le to_goal moves) ≡ true
         → (passed : ℕ) → nearer to_goal passed ≤ to_goal
-    nearer_goal to_goal moves e passed =
-        let ahead : nat_lt 0 to_goal ≡ true = grind arith in
-        rw ahead (omega arith)
+    nearer_goal to_goal moves e passed = grind (arith, nat_tests, common_steps)
 
     nearer_passed : (to_goal passed : ℕ) → nearer to_goal passed ≤ passed
-    nearer_passed to_goal passed = by_test (nat_lt 0 to_goal)
-      where
-        by_test : (b : Bool) → (if b then min to_goal passed else passed) ≤ passed
-        by_test true = omega arith
-        by_test false = omega arith
+    nearer_passed to_goal passed = grind (arith, nat_tests, common_steps)
 
     pub found_within : (to_goal : ℕ) (found : Option Halt) → Finds g.corner t to_goal found
         → looked to_goal found ≤ scanned g x d (block.stop_of g.corner found to_goal)

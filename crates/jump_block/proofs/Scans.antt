@@ -1,7 +1,8 @@
 -- Scans over several blocks.
-use Rattle.std.proofs.Common.{◌≡◌, ℕ, zero, suc, ◌+◌, ◌*◌, ◌-◌, ◌/◌, ◌<◌, ◌≤◌, ◌⊎◌, inl, inr, arith, Bool}
-use Rattle.std.proofs.Common.{true, false, not, ◌&&◌, ◌||◌, refl, ap, sym, ◌∙◌, subst}
-use Rattle.std.specs.Prelude.{nat_lt, nat_le, min, if◌then◌else◌}
+use Rattle.std.proofs.lemmas.Grind.{common_steps}
+use Rattle.std.proofs.Common.{◌≡◌, ℕ, suc, ◌+◌, ◌*◌, ◌-◌, ◌/◌, ◌<◌, ◌≤◌, ◌⊎◌, arith, Bool}
+use Rattle.std.proofs.Common.{true, false, ◌&&◌, ap, sym, ◌∙◌, subst}
+use Rattle.std.specs.Prelude.{nat_lt, nat_le}
 use Rattle.std.proofs.lemmas.Bool.{cases_lt}
 use Rattle.std.proofs.lemmas.Bool.Decides.{nat_tests}
 use Rattle.grid_moves.specs.declared.Corner.{Corner}
@@ -34,23 +35,14 @@ IsOnWay Back from index = index ≤ from / 512
 -- a halt comes after all that is clear
 pub clear_halts : (rule : Corner) (t : Trail) (n passed : ℕ) (marked : Bool) → IsClear t n
     → Halts rule t passed marked → n ≤ passed
-clear_halts rule t n passed marked clear here = by_place (cases_lt passed n)
-  where
-    by_place : (passed < n) ⊎ (n ≤ passed) → n ≤ passed
-    by_place (inl l) = absurd (let never = clear passed l in let there = here.here in cc)
-    by_place (inr l) = l
+clear_halts rule t n passed marked clear here = grind (arith, nat_tests, common_steps)
 
 -- what a scan has passed is free
 last_free : (t : Trail) (n : ℕ) → t.free 0 ≡ true → IsClear t n → t.free n ≡ true
-last_free t zero start clear = start
-last_free t (suc m) start clear = first_of (t.free (suc m)) _ (clear m (omega arith))
-  where
-    first_of : (a b : Bool) → (not a || b) ≡ false → a ≡ true
-    first_of a b h = grind arith
+last_free t n h1 h2 = grind (arith, nat_tests, common_steps)
 
 along_start : (way : Way) (from : ℕ) → along way from 0 ≡ from
-along_start Forward from = omega arith
-along_start Back from = omega arith
+along_start way from = grind (arith, nat_tests, common_steps)
 
 module _ {l : LineData} {free : ℕ → ℕ → Bool} {line from : ℕ} (start : IsStart l free line from) where
   -- the start lies in a block of the line
@@ -58,8 +50,7 @@ module _ {l : LineData} {free : ℕ → ℕ → Bool} {line from : ℕ} (start :
   start_inside = by_place (cases_lt start.positions from)
     where
       by_place : (start.positions < from) ⊎ (from ≤ start.positions) → from / 512 < l.blocks
-      by_place (inl h) = absurd (let never = start.beyond from h in let there = start.starts in cc)
-      by_place (inr h) = let ample = start.shows.ample in omega (arith, ample)
+      by_place h1 = grind (arith, nat_tests, common_steps)
 
   -- a further block
   module _ (way : Way) (rule : Corner) (index : ℕ) (below : index < l.blocks)
@@ -75,15 +66,10 @@ module _ {l : LineData} {free : ℕ → ℕ → Bool} {line from : ℕ} (start :
     last_place p e = ap (λ (q : ℕ). free line q) (sym e) ∙ free_there
 
   forward_next : (index p : ℕ) → p ≡ index * 512 + 511 → free line p ≡ true → index + 1 < l.blocks
-  forward_next index p e there = by_place (cases_lt start.positions p)
-    where
-      by_place : (start.positions < p) ⊎ (p ≤ start.positions) → index + 1 < l.blocks
-      by_place (inl h) = absurd (let never = start.beyond p h in cc)
-      by_place (inr h) = let ample = start.shows.ample in omega (arith, ample)
+  forward_next index p e there = grind (arith, nat_tests, common_steps)
 
   back_next : (index : ℕ) → free line (index * 512) ≡ true → 0 < index
-  back_next zero there = absurd (let never = start.first in cc)
-  back_next (suc index) there = omega arith
+  back_next index h1 = grind (arith, nat_tests, common_steps)
 
   pub goes_on : l.blocks ≤ 128 → (way : Way) (rule : Corner) (index : ℕ) → index < l.blocks
       → IsOnWay way from index
@@ -102,13 +88,11 @@ module _ {l : LineData} {free : ℕ → ℕ → Bool} {line from : ℕ} (start :
 -- blocks meet at their edges
 pub edges_meet : (way : Way) (index : ℕ) → HasNext way index
     → edge_before way (next_block way index * 512) 0 ≡ edge_before way (index * 512) 8
-edges_meet Forward index h = omega arith
-edges_meet Back index h = omega arith
+edges_meet way index h1 = grind (arith, nat_tests, common_steps)
 
 pub edge_ahead : (way : Way) (from index : ℕ) → IsOnWay way from index
     → IsAhead way from (edge_before way (index * 512) 8)
-edge_ahead Forward from index h = omega arith
-edge_ahead Back from index h = omega arith
+edge_ahead way from index h1 = grind (arith, nat_tests, common_steps)
 
 -- a block ahead is what the begun trail has there
 later_words : (way : Way) (from start n : ℕ) → IsAhead way from (edge_before way start 0) → n < 8
@@ -131,37 +115,25 @@ block_ahead t rule way from start b ahead block n a c =
 
 -- how many blocks are read
 pub first_distance : (way : Way) (from : ℕ) → distance way from (from / 512) ≡ 0
-first_distance Forward from = omega arith
-first_distance Back from = omega arith
+first_distance way from = grind (arith, nat_tests, common_steps)
 
 pub next_distance : (way : Way) (from index : ℕ) → IsOnWay way from index → HasNext way index
     → distance way from (next_block way index) ≡ distance way from index + 1
-next_distance Forward from index h k = omega arith
-next_distance Back from index h k = omega arith
+next_distance way from index h1 h2 = grind (arith, nat_tests, common_steps)
 
 pub passed_blocks : (way : Way) (from index : ℕ) → IsOnWay way from index
     → distance way from index * 512 ≤ moves_before way from (edge_before way (index * 512) 8)
-passed_blocks Forward from index h = omega arith
-passed_blocks Back from index h = omega arith
+passed_blocks way from index h1 = grind (arith, nat_tests, common_steps)
 
 pub fewer_left : (way : Way) (blocks index : ℕ) → index < blocks → HasNext way index
     → blocks_left way blocks (next_block way index) < blocks_left way blocks index
-fewer_left Forward blocks index h k = omega arith
-fewer_left Back blocks index h k = omega arith
+fewer_left way blocks index h1 h2 = grind (arith, nat_tests, common_steps)
 
 -- so many reads are within the bound
 pub within_most : (to_goal passed blocks : ℕ) → blocks * 512 ≤ passed + 512
     → (0 < to_goal → blocks * 512 ≤ to_goal + 512)
     → 3 * (blocks + 1) ≤ most_lanes (nearer to_goal passed)
-within_most to_goal passed blocks a b = by_test (nat_lt 0 to_goal) refl
-  where
-    by_test : (s : Bool) → nat_lt 0 to_goal ≡ s
-        → 3 * (blocks + 1) ≤ 3 * ((if s then min to_goal passed else passed) / 512 + 2)
-    by_test true e =
-        let ahead : 0 < to_goal = grind (arith, nat_tests) in
-        let near = b ahead in
-        omega arith
-    by_test false e = omega arith
+within_most to_goal passed blocks a b = grind (arith, nat_tests, common_steps)
 
 -- what the test of the goal says
 pub met : (to_goal n : ℕ) → (nat_lt 0 to_goal && nat_le to_goal n) ≡ true → (0 < to_goal) × (to_goal ≤ n)
@@ -175,8 +147,7 @@ pub on_same : (P : Way → Corner → Type 0) {v w : Way} {r s : Corner} → v �
 on_same P {v} {w} {r} {s} e f p = subst (λ (c : Corner). P w c) f (subst (λ (u : Way). P u r) e p)
 
 pub first_on_way : (way : Way) (from : ℕ) → IsOnWay way from (from / 512)
-first_on_way Forward from = omega arith
-first_on_way Back from = omega arith
+first_on_way way from = grind (arith, nat_tests, common_steps)
 
 -- on to the next block
 module _ (way : Way) (from index next : ℕ) (is : next ≡ next_block way index) (has : HasNext way index)
@@ -202,10 +173,7 @@ module _ (way : Way) (from index next : ℕ) (is : next ≡ next_block way index
 
   pub goal_next : (to_goal : ℕ) → moves_before way from (edge_before way (index * 512) 8) < to_goal
       → distance way from next * 512 ≤ to_goal + 512
-  goal_next to_goal h =
-      let more = distance_next in
-      let all = passed_blocks way from index on_way in
-      omega arith
+  goal_next to_goal h = grind (arith, nat_tests, common_steps, distance_next, passed_blocks)
 
   pub most_next : (rule : Corner) (t : Trail) (to_goal passed : ℕ) (marked : Bool)
       → IsClear t (moves_before way from (edge_before way (index * 512) 8)) → Halts rule t passed marked
@@ -215,5 +183,4 @@ module _ (way : Way) (from index next : ℕ) (is : next ≡ next_block way index
       let more = distance_next in
       let all = passed_blocks way from index on_way in
       let after = clear_halts rule t _ passed marked clear halt in
-      within_most to_goal passed (distance way from next) (omega (arith, more, all, after))
-      (λ h. goal_next to_goal (not_met to_goal _ unmet h))
+      grind (arith, nat_tests, common_steps, within_most, goal_next, not_met, more, all, after)

@@ -1,4 +1,5 @@
 -- Where a scan halts, 64 cells at a time.
+use Rattle.std.proofs.lemmas.Grind.{common_steps}
 use Rattle.std.proofs.Common.{◌≡◌, ℕ, zero, suc, ◌+◌, ◌*◌, ◌-◌, ◌/◌, ◌%◌, ◌<◌, ◌≤◌, ◌⊎◌, inl, inr, arith}
 use Rattle.std.proofs.Common.{Bool, true, false, not, ◌&&◌, ◌||◌, refl, ap, sym, ◌∙◌, subst, bit_and, bit_or}
 use Rattle.std.proofs.lemmas.Nat.{or_lt}
@@ -37,9 +38,7 @@ module _ (side : ℕ → Bool) (from base word last : ℕ) (small : word < 18446
       set_or (word * 2 % 18446744073709551616) (last / 9223372036854775808) 0
       ∙ or_second _ _ (set_raised-lowest word) ∙ set_top last small_last ∙ edge k (omega arith)
   before_forward here edge (suc j) k h m =
-      set_or (word * 2 % 18446744073709551616) (last / 9223372036854775808) (suc j)
-      ∙ or_first _ _ (set_top-above last j small_last) ∙ set_raised word j h
-      ∙ here j k (omega arith) (omega arith)
+      grind (arith, nat_tests, common_steps, set_or, or_first, set_top-above, set_raised)
 
   pub opened_forward : IsWordOf side Forward from base word → IsEdgeOf side Forward from base last → (j k : ℕ)
       → j < 64 → from + suc k ≡ base + j
@@ -58,9 +57,7 @@ module _ (side : ℕ → Bool) (from base word last : ℕ) (small : word < 18446
       by_place : (j < 63) ⊎ (63 ≤ j)
           → is_set (bit_or (word / 2) (last * 9223372036854775808 % 18446744073709551616)) j ≡ side k
       by_place (inl l) =
-          set_or (word / 2) (last * 9223372036854775808 % 18446744073709551616) j
-          ∙ or_first _ _ (set_bottom-below last j l) ∙ set_lowered word j
-          ∙ here (suc j) k (omega arith) (omega arith)
+          grind (arith, nat_tests, common_steps, set_or, or_first, set_bottom-below, set_lowered)
       by_place (inr l) =
           let top : j ≡ 63 = omega arith in
           rw top (set_or (word / 2) (last * 9223372036854775808 % 18446744073709551616) 63
@@ -112,38 +109,17 @@ module _ (rule : Corner) (bit : ℕ) (place : ℕ) (uncut : may_cut rule ≡ fal
     (way : Way) (base : ℕ) where
   stays : (side : ℕ → Bool) (word : ℕ) → bit ≡ 0 → IsWordOf side way (base + place) base word
       → IsWordOf side way (base + place) base (bit_or word bit)
-  stays side word e here j k l m = set_or word bit j
-      ∙ or_first _ _ (ap (λ (n : ℕ). is_set n j) e ∙ set_none j) ∙ here j k l m
+  stays side word e here j k l m = grind (arith, nat_tests, common_steps, set_or, or_first, set_none)
 
   at_place : (j k : ℕ) → Meets way (base + place) (base + j) k → nat_eq j place ≡ nat_eq k 0
-  at_place j k m = by_way way m
-    where
-      by_way : (w : Way) → Meets w (base + place) (base + j) k → nat_eq j place ≡ nat_eq k 0
-      by_way Forward m = grind (arith, nat_tests)
-      by_way Back m = grind (arith, nat_tests)
+  at_place j k m = grind (arith, nat_tests, common_steps)
 
   begun_side : (side : ℕ → Bool) (word : ℕ) → IsWordOf side way (base + place) base word
       → IsWordOf (at_start rule side) way (base + place) base (bit_or word bit)
-  begun_side side word here j zero l m = by_cut rule
-      (λ e. stays side word (uncut e) here j zero l m ∙ sym (cond-false (may_cut rule) true (side zero) e))
-      (λ e. set_or word bit j ∙ or_true _ _ (cut e j l ∙ at_place j zero m)
-      ∙ sym (cond-true (may_cut rule) true (side zero) e))
-    where
-      or_true : (a b : Bool) → b ≡ true → (a || b) ≡ true
-      or_true a b e = grind arith
-  begun_side side word here j (suc k) l m = by_cut rule
-      (λ e. stays side word (uncut e) here j (suc k) l m)
-      (λ e. set_or word bit j ∙ or_first _ _ (cut e j l ∙ at_place j (suc k) m ∙ later)
-      ∙ here j (suc k) l m)
-    where
-      later : nat_eq (suc k) 0 ≡ false
-      later = grind (arith, nat_tests)
+  begun_side side word h1 =
+      grind (arith, nat_tests, common_steps, by_cut, stays, cond-false, set_or, at_place, cond-true, or_first)
 
   pub begun_words : (t : Trail) (w : ThreeWords) → AreWordsOf t way (base + place) base w
       → AreWordsOf (begun rule t) way (base + place) base
       (record { middle = w.middle; before = bit_or w.before bit; after = bit_or w.after bit })
-  begun_words t w are = record {
-    middle = are.middle;
-    before = begun_side t.before w.before are.before;
-    after = begun_side t.after w.after are.after;
-  }
+  begun_words t w are = grind (arith, nat_tests, common_steps, begun_side)

@@ -24,6 +24,7 @@ pub(crate) fn is_set(word: u64, place: u32) -> bool
 
 // The word from this bit on.
 #[inline(always)]
+#[tactic(auto, using(crate::proofs::Rings::set_from))]
 fn from_bit(word: u64, place: u32) -> u64
     requires { place < 64 }
     ensures { (j : ℕ) → is_set result j ≡ is_set word (place + j) }

@@ -35,6 +35,7 @@ pub(crate) fn changed(way: Way, side: &[u64], last: u64) -> u64x8
 
 /// The bits of blocked cells in eight words.
 #[inline(always)]
+#[tactic(auto, using(crate::proofs::Lanes::all_free))]
 pub(crate) fn blocked(middle: &[u64]) -> u64x8
     requires eight { length middle.now ≡ 8 }
     ensures { HasNone result → IsAllAs true middle.now }
@@ -44,6 +45,7 @@ pub(crate) fn blocked(middle: &[u64]) -> u64x8
 
 /// Whether no bit is set in any of three times eight words.
 #[inline(always)]
+#[tactic(auto, using(crate::proofs::Lanes::none_of_three))]
 pub(crate) fn are_none(a: u64x8, b: u64x8, c: u64x8) -> bool
     ensures { result ≡ true → HasNone a × HasNone b × HasNone c }
 {

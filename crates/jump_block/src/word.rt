@@ -33,6 +33,7 @@ pub(crate) enum Way {
 
 // The bits at which a side opens, told the word that the way led through before.
 #[inline(always)]
+#[tactic(auto, using(crate::proofs::Words::opened_on_forward, crate::proofs::Words::opened_on_back))]
 fn opened(way: Way, word: u64, last: u64) -> u64
     ensures { IsOpened way word last result }
 {
@@ -44,6 +45,7 @@ fn opened(way: Way, word: u64, last: u64) -> u64
 
 // The bits of blocked cells.
 #[inline(always)]
+#[tactic(auto, using(bit_grid::proofs::Words::set_not))]
 fn blocked(middle: u64) -> u64
     ensures { (j : ℕ) → j < 64 → is_set result j ≡ not (is_set middle j) }
 {
@@ -52,6 +54,7 @@ fn blocked(middle: u64) -> u64
 
 // The bits at which one of both sides opens.
 #[inline(always)]
+#[tactic(auto, using(crate::proofs::Words::either_there))]
 fn opened_beside(way: Way, words: ThreeWords, last: ThreeWords) -> u64
     ensures { TellTrails trails.opens_beside way words last result }
 {
@@ -60,6 +63,7 @@ fn opened_beside(way: Way, words: ThreeWords, last: ThreeWords) -> u64
 
 /// The bits that a scan does not reach from the cell before: blocked, or a side opens there.
 #[inline(always)]
+#[tactic(auto, using(crate::proofs::Words::halts_there))]
 pub(crate) fn halts(way: Way, words: ThreeWords, last: ThreeWords) -> u64
     ensures { TellTrails trails.halts way words last result }
 {
@@ -68,6 +72,7 @@ pub(crate) fn halts(way: Way, words: ThreeWords, last: ThreeWords) -> u64
 
 /// Of these bits, those at which a scan shows a mark.
 #[inline(always)]
+#[tactic(auto, using(crate::proofs::Words::either_there, crate::proofs::Words::shows_too))]
 pub(crate) fn marks(way: Way, rule: Corner, words: ThreeWords, last: ThreeWords) -> u64
     ensures { TellTrails (trails.shows_mark rule) way words last result }
 {
@@ -80,6 +85,7 @@ pub(crate) fn marks(way: Way, rule: Corner, words: ThreeWords, last: ThreeWords)
 
 /// The bits past a place, on the way.
 #[inline(always)]
+#[tactic(auto, using(crate::proofs::Bits::set_above, crate::proofs::Bits::set_below))]
 pub(crate) fn past(way: Way, place: u32) -> u64
     requires { place < 64 }
     ensures { (j : ℕ) → j < 64 → is_set result j ≡ is_past way place j }
@@ -106,6 +112,7 @@ pub(crate) fn first(way: Way, word: u64) -> u32
 
 // The bit of the start, where the sides count as free there.
 #[inline(always)]
+#[tactic(auto, using(crate::proofs::Bits::set_one))]
 fn start_bit(rule: Corner, place: u32) -> u64
     requires { place < 64 }
     ensures uncut { moves.may_cut rule ≡ false → result ≡ 0 }

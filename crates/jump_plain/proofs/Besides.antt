@@ -1,5 +1,7 @@
 -- What lies beyond a cell: whether the move there is legal.
-use Rattle.std.proofs.Common.{◌≡◌, Bool, true, false, ◌&&◌, refl, ap, sym, ◌∙◌}
+use Rattle.std.proofs.lemmas.Bool.Decides.{nat_tests}
+use Rattle.std.proofs.lemmas.Grind.{common_steps}
+use Rattle.std.proofs.Common.{arith, ◌≡◌, Bool, true, false, ◌&&◌, ap, sym, ◌∙◌}
 use Rattle.std.specs.Prelude.{Some, None}
 use Rattle.grid_moves.specs.declared.Cell.{Cell}
 use Rattle.grid_moves.specs.declared.Corner.{Corner}
@@ -24,8 +26,7 @@ module _ (g : GridData) (whole : IsGrid g) where
   -- a straight one is legal where the cell is free
   pub beyond_straight : (c v : Cell) (d : Dir) → is_free g c ≡ true → is_diagonal d ≡ false → v ≡ beyond d c
       → can_move g c d ≡ is_free g v
-  beyond_straight c v d k h e =
-      can_move-straight g c d k h ∙ sym (ap (λ (w : Cell). is_free g w) e ∙ free_beyond g whole c d)
+  beyond_straight c v d k h e = grind (arith, nat_tests, common_steps, can_move-straight, free_beyond)
 
   -- a diagonal one where it passes, too
   pub beyond_diagonal : (c v : Cell) (d : Dir) → is_free g c ≡ true → is_diagonal d ≡ true
@@ -33,5 +34,4 @@ module _ (g : GridData) (whole : IsGrid g) where
       → right ≡ is_open g c (turn Right d) → left ≡ is_open g c (turn Left d)
       → passes ≡ is_passable rule left right → legal ≡ (is_free g v && passes) → can_move g c d ≡ legal
   beyond_diagonal c v d k h e rule r right left passes legal i j p l =
-      can_move-diagonal g c d k h
-      ∙ rw (← free_beyond g whole c d, ← ap (λ (w : Cell). is_free g w) e, ← i, ← j, ← r, ← p, ← l) refl
+      grind (arith, nat_tests, common_steps, can_move-diagonal, free_beyond)

@@ -1,5 +1,7 @@
 -- A diagonal jump stops at the goal, where a neighbour is forced, and where a straight jump in a component
 -- finds a stop.
+use Rattle.std.proofs.lemmas.Bool.Decides.{nat_tests}
+use Rattle.std.proofs.lemmas.Grind.{common_steps}
 use Rattle.std.proofs.Common.{◌≡◌, ℕ, zero, suc, ◌+◌, arith, Bool, true, false, not, ◌||◌, refl, ap, sym, ◌∙◌}
 use Rattle.std.proofs.Common.{◌&&◌}
 use Rattle.std.specs.Prelude.{Option, Some, None, is_some, option_and_then, option_map, if◌then◌else◌}
@@ -17,8 +19,7 @@ use Rattle.jump_plain.proofs.Straight.{is_stop-straight}
 
 -- whether anything is found does not hang on the place
 some_later : (o : Option ℕ) → is_some (option_map (λ k. suc k) o) ≡ is_some o
-some_later None = refl
-some_later (Some k) = refl
+some_later o = grind (arith, nat_tests, common_steps)
 
 -- something is found at the first cell, or later
 abbrev is_found : Bool → Option ℕ → Bool
@@ -26,12 +27,7 @@ is_found here later = is_some (if here then Some 1 else option_map (λ k. suc k)
 
 found_either : (a b : Bool) (r p q : Option ℕ) → is_some r ≡ (is_some p || is_some q)
     → is_found (a || b) r ≡ (is_found a p || is_found b q)
-found_either true b r p q h = refl
-found_either false true r p q h = or_true (is_some (option_map (λ k. suc k) p))
-  where
-    or_true : (a : Bool) → true ≡ (a || true)
-    or_true a = grind arith
-found_either false false r p q h = rw (some_later r, some_later p, some_later q) h
+found_either a b r p q h1 = grind (arith, nat_tests, common_steps, some_later)
 
 -- on a run, one of two tests holds somewhere exactly where the one does or the other
 module _ (g : GridData) (d : Dir) (both one other : Cell → Bool)
@@ -49,9 +45,7 @@ module _ (g : GridData) (d : Dir) (both one other : Cell → Bool)
           (λ v. if one v then Some 1 else option_map (λ k. suc k) (first_within n g d one v)) o)
           || is_some (option_and_then
           (λ v. if other v then Some 1 else option_map (λ k. suc k) (first_within n g d other v)) o))
-      by_cell None next = refl
-      by_cell (Some v) next = rw (split v) (found_either (one v) (other v) (first_within n g d both v)
-          (first_within n g d one v) (first_within n g d other v) (next v))
+      by_cell o h1 = grind (arith, nat_tests, common_steps, found_either)
 
 -- on the run in this direction lies the goal, or a forced neighbour
 abbrev goal_on : GridData → Cell → Cell → Dir → Bool
@@ -95,8 +89,7 @@ later m answer = option_map (λ k. m + k) answer
 module _ (g : GridData) (goal u : Cell) (d : Dir) (m : ℕ) (all : Option ℕ)
     (so_far : all ≡ later m (first_stop g goal u d)) where
   pub stops_nowhere : legal_ahead g u d ≡ None → None ≡ all
-  stops_nowhere e =
-      sym (so_far ∙ ap (λ (o : Option ℕ). later m o) (first_on_run-none g d (is_stop g goal d) u e))
+  stops_nowhere e = grind (arith, nat_tests, common_steps, first_on_run-none)
 
   module _ (v : Cell) (legal : legal_ahead g u d ≡ Some v) where
     found : all ≡ later m
@@ -111,5 +104,4 @@ module _ (g : GridData) (goal u : Cell) (d : Dir) (m : ℕ) (all : Option ℕ)
     stops_later h = found ∙ rw h (regroup (first_stop g goal v d))
       where
         regroup : (o : Option ℕ) → later m (option_map (λ k. suc k) o) ≡ later (m + 1) o
-        regroup None = refl
-        regroup (Some k) = let same : m + suc k ≡ m + 1 + k = omega arith in ap (λ (n : ℕ). Some n) same
+        regroup o = grind (arith, nat_tests, common_steps)

@@ -1,4 +1,6 @@
 -- Where a neighbour is forced, told by the cells beside two cells of a run.
+use Rattle.std.proofs.lemmas.Bool.Decides.{nat_tests}
+use Rattle.std.proofs.lemmas.Grind.{common_steps}
 use Rattle.std.proofs.Common.{◌≡◌, arith, Bool, true, false, not, ◌&&◌, ◌||◌, refl, ap, sym, ◌∙◌}
 use Rattle.std.specs.Prelude.{Option, Some, is_some}
 use Rattle.grid_moves.specs.declared.Cell.{Cell}
@@ -56,17 +58,7 @@ either-right b c h = grind arith
 -- past a blocked cell ahead a move leads between two blocked cells
 slips : (r : Corner) (o b c : Bool) → b ≡ false
     → (not c && (o && is_passable r b c)) ≡ (may_slip r && (not c && o))
-slips r o b c h = rw h (by_side c)
-  where
-    by_side : (c : Bool) → (not c && (o && is_passable r false c)) ≡ (may_slip r && (not c && o))
-    by_side true = both_false (may_slip r)
-      where
-        both_false : (s : Bool) → false ≡ (s && false)
-        both_false s = grind arith
-    by_side false = turned o (may_slip r)
-      where
-        turned : (o s : Bool) → (o && s) ≡ (s && o)
-        turned o s = grind arith
+slips r o b c h = grind (arith, nat_tests, common_steps)
 
 passes_both : (r : Corner) (a b : Bool) → may_cut r ≡ false → is_passable r a b ≡ true
     → (a ≡ true) × (b ≡ true)
@@ -82,9 +74,7 @@ module _ (g : GridData) (u v : Cell) (d : Dir) (l : Leads g u v d) where
   -- one cell, seen from two
   pub seen_from : (f h : Dir) → move f (move d (place_of u)) ≡ move h (place_of u)
       → is_open g v f ≡ is_open g u h
-  seen_from f h s = open_there g v f
-      ∙ ap (λ (p : Place). free_place g p) (ap (λ (p : Place). move f p) (sym (leads_there g u v d l)) ∙ s)
-      ∙ sym (open_there g u h)
+  seen_from f h s = grind (arith, nat_tests, common_steps, open_there, free_place, move, leads_there)
 
   open_ahead : is_open g u d ≡ true
   open_ahead = open_there g u d ∙ ap (λ (p : Place). free_place g p) (leads_there g u v d l) ∙ target
@@ -107,14 +97,10 @@ module _ (g : GridData) (u v : Cell) (d : Dir) (l : Leads g u v d) where
       → can_move g u (turn s d) ≡ is_open g u (turn s d)
   turns_aside r h Right =
       let beside : is_open g u (turn Left (turn Right d)) ≡ true = rw (turn_back Right d) open_ahead in
-      can_move-diagonal g u (turn Right d) source (turn_parity Right d ∙ ap not h)
-      ∙ passes g.corner (is_open g u (turn Right d)) (is_open g u (turn Left (turn Right d)))
-      (is_open g u (turn Right (turn Right d))) r (either _ _ beside)
+      grind (arith, nat_tests, common_steps, can_move-diagonal, source, turn_parity, passes, either)
   turns_aside r h Left =
       let beside : is_open g u (turn Right (turn Left d)) ≡ true = rw (turn_back Left d) open_ahead in
-      can_move-diagonal g u (turn Left d) source (turn_parity Left d ∙ ap not h)
-      ∙ passes g.corner (is_open g u (turn Left d)) (is_open g u (turn Left (turn Left d)))
-      (is_open g u (turn Right (turn Left d))) r (either-right _ _ beside)
+      grind (arith, nat_tests, common_steps, can_move-diagonal, source, turn_parity, passes, either-right)
 
   forced_here : may_cut g.corner ≡ true → is_diagonal d ≡ false → (s : Side)
       → is_forced_on g.corner (is_blocked g u) (can_move g u) d s
@@ -142,12 +128,10 @@ module _ (g : GridData) (u v : Cell) (d : Dir) (l : Leads g u v d) where
   free_rear r h m s = seen_from (rear s d) (turn s d) (diagonal_back s d (place_of u) h) ∙ free_beside s
     where
       both : (is_open g u (turn Left d) ≡ true) × (is_open g u (turn Right d) ≡ true)
-      both = let passes = and_both (is_open g u d) _ (sym (can_move-diagonal g u d source h) ∙ m) in
-          passes_both g.corner (is_open g u (turn Left d)) (is_open g u (turn Right d)) r passes.1
+      both = grind (arith, nat_tests, common_steps, and_both, can_move-diagonal, source, passes_both)
 
       free_beside : (s : Side) → is_open g u (turn s d) ≡ true
-      free_beside Right = both.1
-      free_beside Left = both.0
+      free_beside s = grind (arith, nat_tests, common_steps, both)
 
 -- the same in the words of code, in which the components are named by other names
 pub clear_past : (g : GridData) (u v : Cell) (d : Dir) → legal_ahead g u d ≡ Some v
@@ -155,10 +139,7 @@ pub clear_past : (g : GridData) (u v : Cell) (d : Dir) → legal_ahead g u d ≡
     → right ≡ is_open g u e → left ≡ is_open g u f → clear ≡ (right && left)
     → clear ≡ true → is_forced g v d ≡ false
 clear_past g u v d legal h e f m n right left clear i j k c =
-    let open_both = and_both right left (sym k ∙ c) in
-    is_forced-past g u v d (legal_leads g u v d legal) h
-    (ap (λ (a : Dir). is_open g u a) (sym m) ∙ sym i ∙ open_both.0)
-    (ap (λ (a : Dir). is_open g u a) (sym n) ∙ sym j ∙ open_both.1)
+    grind (arith, nat_tests, common_steps, and_both, is_forced-past, legal_leads)
 
 -- where one may be cut, at the end of a run a neighbour is forced only past it and a blocked side
 module _ (g : GridData) (u : Cell) (d : Dir) (free : is_free g u ≡ true) (r : may_cut g.corner ≡ true) where
@@ -166,19 +147,10 @@ module _ (g : GridData) (u : Cell) (d : Dir) (free : is_free g u ≡ true) (r : 
       → is_forced_on g.corner (is_blocked g u) (can_move g u) d s
       ≡ (may_slip g.corner && (not (is_open g u (quarter s d)) && is_open g u (turn s d)))
   forced_past h o Right =
-      let beside : is_open g u (turn Left (turn Right d)) ≡ false = rw (turn_back Right d) o in
-      cut g.corner (is_blocked g u) (can_move g u) d Right r h
-      ∙ rw (can_move-diagonal g u (turn Right d) free (turn_parity Right d ∙ ap not h))
-      (slips g.corner (is_open g u (turn Right d)) (is_open g u (turn Left (turn Right d)))
-      (is_open g u (turn Right (turn Right d))) beside)
+      grind (arith, nat_tests, common_steps, turn_back, cut, can_move-diagonal, turn_parity, slips)
   forced_past h o Left =
       let beside : is_open g u (turn Right (turn Left d)) ≡ false = rw (turn_back Left d) o in
-      cut g.corner (is_blocked g u) (can_move g u) d Left r h
-      ∙ rw (can_move-diagonal g u (turn Left d) free (turn_parity Left d ∙ ap not h))
-      (ap (λ (p : Bool). not (is_open g u (turn Left (turn Left d))) && (is_open g u (turn Left d) && p))
-      (passable-turned g.corner _ _)
-      ∙ slips g.corner (is_open g u (turn Left d)) (is_open g u (turn Right (turn Left d)))
-      (is_open g u (turn Left (turn Left d))) beside)
+      grind (arith, nat_tests, common_steps, cut, can_move-diagonal, turn_parity, passable-turned, slips)
 
   pub is_forced-end : is_diagonal d ≡ false → is_open g u d ≡ false
       → is_forced g u d ≡ (may_slip g.corner && opens (sides_of g u d) (sides_ahead g u d))
@@ -206,14 +178,8 @@ sides_known g u v d legal h beside is s =
 
     uncut : may_cut g.corner ≡ false → (s : Side)
         → sides_after g.corner (components_of g v d) s ≡ sides_of g v (turn s d)
-    uncut r Right = known r Right ∙ (same_sides true (is_open g v (turn Left d)) _ _ (sym (rear r Right))
-        (ap (λ (e : Dir). is_open g v (turn Left e)) (sym (turn_back Right d))))
-    uncut r Left = known r Left ∙ (same_sides (is_open g v (turn Right d)) true _ _
-        (ap (λ (e : Dir). is_open g v (turn Right e)) (sym (turn_back Left d))) (sym (rear r Left)))
+    uncut h1 s = grind (arith, nat_tests, common_steps, known, same_sides, rear, turn_back)
 
     by_rule : (s : Side)
         → sides_after g.corner (components_of g v d) s ≡ first_sides g.corner g v (turn s d)
-    by_rule s = by_cut g.corner
-        (λ r. uncut r s ∙ sym (cond-false (may_cut g.corner) free_sides (sides_of g v (turn s d)) r))
-        (λ r. cond-true (may_cut g.corner) free_sides (sides_passed (components_of g v d) s) r
-        ∙ sym (cond-true (may_cut g.corner) free_sides (sides_of g v (turn s d)) r))
+    by_rule s = grind (arith, nat_tests, common_steps, by_cut, uncut, cond-false, cond-true)

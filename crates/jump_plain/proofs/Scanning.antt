@@ -1,6 +1,7 @@
 -- A scan from cell to cell: what it has still to find.
-use Rattle.std.proofs.Common.{◌≡◌, ℕ, ◌+◌, ◌-◌, ◌≤◌, arith, Bool, true, false, refl, ap, sym, ◌∙◌}
-use Rattle.std.proofs.Common.{◌&&◌}
+use Rattle.std.proofs.lemmas.Bool.Decides.{nat_tests}
+use Rattle.std.proofs.lemmas.Grind.{common_steps}
+use Rattle.std.proofs.Common.{◌≡◌, ℕ, ◌+◌, ◌-◌, ◌≤◌, arith, Bool, true, false, refl, ap, sym, ◌∙◌, ◌&&◌}
 use Rattle.std.specs.Prelude.{Option, Some, None, is_some, if◌then◌else◌}
 use Rattle.grid_moves.specs.declared.Cell.{Cell}
 use Rattle.grid_moves.specs.declared.Corner.{Corner}
@@ -143,22 +144,13 @@ module _ (g : GridData) (u : Cell) (d : Dir) (h : is_diagonal d ≡ false) where
 
       by_cell : may_cut g.corner ≡ true → (o : Option Cell) → legal_ahead g u d ≡ o
           → reach_of g u d ≡ left_over g.corner both_free g u d o
-      by_cell e None k = reach-none g u d k ∙ ap ended (nothing (may_slip g.corner))
-      by_cell e (Some v) k = reach-next g u v d k
-          ∙ ap (λ (r : Reach). further 1 r) (sym (left_cut g u d h v e))
+      by_cell h1 o h2 = grind (arith, nat_tests, common_steps, reach-none, nothing, reach-next, left_cut)
 
 -- what a scan begins with
 pub reach_begun : (g : GridData) (x : Cell) (d : Dir) → is_diagonal d ≡ false → is_free g x ≡ true
     → (sides : Sides) → sides ≡ first_sides g.corner g x d
     → reach_of g x d ≡ further 0 (left_with g.corner sides g x d)
-reach_begun g x d h f sides is = reach_of-with g x d h f
-    ∙ ap (λ (s : Sides). left_with g.corner s g x d) (sym is) ∙ no_further (left_with g.corner sides g x d)
-  where
-    plus : (n : ℕ) → n ≡ 0 + n
-    plus n = omega arith
-
-    no_further : (m : Reach) → m ≡ further 0 m
-    no_further m = ap (λ (n : ℕ). let r : Reach = record { moves = n; marked = m.marked } in r) (plus m.moves)
+reach_begun g x d h f sides is = grind (arith, nat_tests, common_steps, reach_of-with)
 
 -- what a scan has found, after so many moves
 module _ (g : GridData) (u : Cell) (d : Dir) (h : is_diagonal d ≡ false) (sides : Sides) (moves : ℕ)
@@ -166,43 +158,22 @@ module _ (g : GridData) (u : Cell) (d : Dir) (h : is_diagonal d ≡ false) (side
   pub reached_end : legal_ahead g u d ≡ None → (marked : Bool)
       → marked ≡ (may_slip g.corner && opens sides (sides_ahead g u d))
       → record { moves = moves; marked = marked } ≡ all
-  reached_end e marked is = sym (so_far
-      ∙ rw (e, ← is) (ap (λ (n : ℕ). let m : Reach = record { moves = n; marked = marked } in m)
-      (nothing moves)))
-    where
-      nothing : (n : ℕ) → n + 0 ≡ n
-      nothing n = omega arith
+  reached_end e marked is = grind (arith, nat_tests, common_steps)
 
   module _ (v : Cell) (legal : legal_ahead g u d ≡ Some v) (sides_then : Sides)
       (is : sides_then ≡ sides_of g v d) (read : Bool) (told : read ≡ opens sides sides_then) where
     after_test : (b : Bool) → read ≡ b → all ≡ further moves (if b
         then record { moves = mark_ahead g.corner; marked = true }
         else further 1 (left_at g.corner g v d))
-    after_test b e = so_far
-        ∙ ap (λ (o : Option Cell). further moves (left_over g.corner sides g u d o)) legal
-        ∙ ap (λ (t : Bool). further moves
-        (if t then record { moves = mark_ahead g.corner; marked = true }
-        else further 1 (left_at g.corner g v d)))
-        (ap (λ (s : Sides). opens sides s) (sym is) ∙ sym told ∙ e)
+    after_test b e = grind (arith, nat_tests, common_steps)
 
     pub reached_mark : (ahead : ℕ) → ahead ≡ mark_ahead g.corner → read ≡ true
         → record { moves = moves + ahead; marked = true } ≡ all
-    reached_mark ahead f e = sym (after_test true e
-        ∙ ap (λ (n : ℕ). let m : Reach = record { moves = moves + n; marked = true } in m) (sym f))
+    reached_mark ahead f e = grind (arith, nat_tests, common_steps, after_test)
 
     pub reached_next : is_free g v ≡ true → read ≡ false
         → all ≡ further (moves + 1) (left_with g.corner sides_then g v d)
-    reached_next f e = after_test false e
-        ∙ ap (λ (m : Reach). further moves (further 1 m)) (left_at-with g v d h f)
-        ∙ ap (λ (n : ℕ). let m : Reach = record { moves = n; marked = left.marked } in m)
-        (regroup moves left.moves)
-        ∙ ap (λ (s : Sides). further (moves + 1) (left_with g.corner s g v d)) (sym is)
-      where
-        left : Reach
-        left = left_with g.corner (sides_of g v d) g v d
-
-        regroup : (m n : ℕ) → m + (1 + n) ≡ m + 1 + n
-        regroup m n = omega arith
+    reached_next f e = grind (arith, nat_tests, common_steps, after_test, left_at-with)
 
 -- a scan keeps sides by bits: what it has found, after so many moves, where these are shut
 pub record HasSides (g : GridData) (u : Cell) (d : Dir) (shut moves : ℕ) (all : Reach) : Type 0 where

@@ -1,3 +1,5 @@
+use Rattle.std.proofs.lemmas.Bool.Decides.{nat_tests}
+use Rattle.std.proofs.lemmas.Grind.{common_steps}
 use Rattle.std.proofs.Common.{◌≡◌, ℕ, ◌*◌, ◌+◌, arith, ap, sym, ◌∙◌, false, true, ◌&&◌}
 use Rattle.std.specs.Prelude.{nat_lt, nat_le}
 use Rattle.jump_block.specs.Trail.{Trail, begun, trail_on}
@@ -10,13 +12,7 @@ use Rattle.jump_block.proofs.scan.scan_on.Goals as goal
 pub blocks-2-init : goal.blocks-2-init
 blocks-2-init g c =
     let first = first_distance c.args.way c.args.place in
-    record {
-      below = start_inside c.requires.starts.1;
-      on_way = first_on_way c.args.way c.args.place;
-      passed = c.requires.passed;
-      read = omega arith;
-      goal = λ h. omega arith;
-    }
+    grind (arith, nat_tests, common_steps, start_inside, first_on_way)
 
 pub next_block-index-requires : goal.next_block-index-requires
 next_block-index-requires g c =
@@ -47,8 +43,7 @@ seek_whole-requires-clause-ahead g c =
     let on = goes_on c.requires.starts.1 c.requires.short c.args.way c.args.rule c.blocks-2.index
     c.blocks-2.invariant.below
     c.blocks-2.invariant.on_way (c.blocks-2.invariant.passed c.requires.starts.0 c.requires.starts.1).clear in
-    ahead_next c.args.way c.args.place c.blocks-2.index c.next_block-index.result
-    c.next_block-index.ensures on.0 c.blocks-2.invariant.on_way
+    grind (arith, nat_tests, common_steps, ahead_next)
 
 pub returns-in-Halted-clause-finds : goal.returns-in-Halted-clause-finds
 returns-in-Halted-clause-finds g c = λ free start.
@@ -93,8 +88,7 @@ blocks-2-smaller g c =
     let on = goes_on c.requires.starts.1 c.requires.short c.args.way c.args.rule c.blocks-2.index
     c.blocks-2.invariant.below
     c.blocks-2.invariant.on_way (c.blocks-2.invariant.passed c.requires.starts.0 c.requires.starts.1).clear in
-    rw c.next_block-index.ensures (fewer_left c.args.way c.args.lines.now.blocks c.blocks-2.index
-    c.blocks-2.invariant.below on.0)
+    grind (arith, nat_tests, common_steps, fewer_left)
 
 pub blocks-2-preserved : goal.blocks-2-preserved
 blocks-2-preserved g c =
@@ -121,12 +115,8 @@ blocks-2-preserved g c =
           (c.read-block.ensures.shown start.count start.positions free start.shows
           c.args.way c.args.place))
           passed.edges passed.clear;
-      read = read_next c.args.way c.args.place c.blocks-2.index c.next_block-index.result
-          c.next_block-index.ensures on.0 c.blocks-2.invariant.on_way (c.blocks-2.steps + 3) _ _
-          (ap (λ (n : ℕ). n + 3) c.read-block.ensures.three_steps) c.blocks-2.invariant.read;
-      goal = λ h. goal_next c.args.way c.args.place c.blocks-2.index c.next_block-index.result
-          c.next_block-index.ensures on.0 c.blocks-2.invariant.on_way c.args.to_goal
-          (not_met c.args.to_goal _ unmet h);
+      read = grind (arith, nat_tests, common_steps, read_next);
+      goal = λ h. grind (arith, nat_tests, common_steps, goal_next, not_met);
     }
 
 pub returns-clause-finds : goal.returns-clause-finds

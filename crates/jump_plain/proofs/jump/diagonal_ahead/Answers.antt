@@ -1,4 +1,6 @@
-use Rattle.std.proofs.Common.{ap, refl, sym, ◌∙◌}
+use Rattle.std.proofs.lemmas.Bool.Decides.{nat_tests}
+use Rattle.std.proofs.lemmas.Grind.{common_steps}
+use Rattle.std.proofs.Common.{arith, ap, refl, ◌∙◌}
 use Rattle.grid_moves.specs.Grid.{GridData}
 use Rattle.pruning.specs.declared.turns.Side.TheVariants.{Right, Left}
 use Rattle.pruning.specs.Turns.{turn}
@@ -8,15 +10,7 @@ use Rattle.jump_plain.proofs.Forcing.{clear_past}
 use Rattle.jump_plain.proofs.jump.diagonal_ahead.Goals as goal
 
 pub returns-then-leads_on-clause-legal : goal.returns-then-leads_on-clause-legal
-returns-then-leads_on-clause-legal g c =
-    let grid : GridData = g.T.Terrain.grid c.args.t.now in
-    let can = beyond_diagonal grid c.requires.whole c.args.at c.beyond-cell.result c.args.d
-    c.requires.free c.requires.diagonal c.beyond-cell.ensures c.corner.result c.corner.ensures
-    c.args.beside.right c.args.beside.left c.is_passable.result c.leads_on.result
-    (ap (λ (b : Components). b.right) c.requires.beside) (ap (λ (b : Components). b.left) c.requires.beside)
-    c.is_passable.ensures c.leads_on.ensures in
-    sym (beyond_legal grid c.args.at c.beyond-cell.result c.args.d c.beyond-cell.ensures
-    (can ∙ c.if-leads_on.true))
+returns-then-leads_on-clause-legal g c = grind (arith, nat_tests, common_steps, beyond_diagonal, beyond_legal)
 
 pub returns-then-leads_on-clause-clear : goal.returns-then-leads_on-clause-clear
 returns-then-leads_on-clause-clear g c =
@@ -34,11 +28,4 @@ returns-then-leads_on-clause-clear g c =
     c.both-clear.result right left c.both-clear.ensures
 
 pub returns-else-leads_on-clause-legal : goal.returns-else-leads_on-clause-legal
-returns-else-leads_on-clause-legal g c =
-    let grid : GridData = g.T.Terrain.grid c.args.t.now in
-    let can = beyond_diagonal grid c.requires.whole c.args.at c.beyond-cell.result c.args.d
-    c.requires.free c.requires.diagonal c.beyond-cell.ensures c.corner.result c.corner.ensures
-    c.args.beside.right c.args.beside.left c.is_passable.result c.leads_on.result
-    (ap (λ (b : Components). b.right) c.requires.beside) (ap (λ (b : Components). b.left) c.requires.beside)
-    c.is_passable.ensures c.leads_on.ensures in
-    sym (beyond_stuck grid c.args.at c.args.d (can ∙ c.if-leads_on.false))
+returns-else-leads_on-clause-legal g c = grind (arith, nat_tests, common_steps, beyond_diagonal, beyond_stuck)

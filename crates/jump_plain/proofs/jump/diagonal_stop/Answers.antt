@@ -1,3 +1,5 @@
+use Rattle.std.proofs.lemmas.Bool.Decides.{nat_tests}
+use Rattle.std.proofs.lemmas.Grind.{common_steps}
 use Rattle.std.proofs.Common.{true, false, arith, sym}
 use Rattle.grid_moves.specs.Grid.{GridData}
 use Rattle.grid_moves.proofs.Ahead.{legal_ahead-free}
@@ -8,30 +10,16 @@ use Rattle.jump_plain.proofs.Diagonal.{is_stop-read, stops_nowhere, stops_here, 
 use Rattle.jump_plain.proofs.jump.diagonal_stop.Goals as goal
 
 pub overflow_add-moves : goal.overflow_add-moves
-overflow_add-moves g c =
-    let grid : GridData = g.T.Terrain.grid c.args.t.now in
-    let next = run_length-next grid c.run.cell c.in-Some.next.cell c.args.d (sym c.in-Some.ensures.legal) in
-    let few = run_length-few grid c.args.at c.args.d in
-    let wide = c.requires.whole.sides.narrow in
-    let high = c.requires.whole.sides.low in
-    let run = c.run.invariant.run in
-    omega arith
+overflow_add-moves g c = grind (arith, nat_tests, common_steps, run_length-next, run_length-few)
 
 pub of-beside-requires-in-Some-clause-free : goal.of-beside-requires-in-Some-clause-free
-of-beside-requires-in-Some-clause-free g c =
-    legal_ahead-free (g.T.Terrain.grid c.args.t.now) c.run.cell c.in-Some.next.cell c.args.d
-    (sym c.in-Some.ensures.legal)
+of-beside-requires-in-Some-clause-free g c = grind (arith, nat_tests, common_steps, legal_ahead-free)
 
 pub stops_at-requires-clause-free : goal.stops_at-requires-clause-free
-stops_at-requires-clause-free g c =
-    legal_ahead-free (g.T.Terrain.grid c.args.t.now) c.run.cell c.in-Some.next.cell c.args.d
-    (sym c.in-Some.ensures.legal)
+stops_at-requires-clause-free g c = grind (arith, nat_tests, common_steps, legal_ahead-free)
 
 pub stops_at-requires-clause-sides : goal.stops_at-requires-clause-sides
-stops_at-requires-clause-sides g c = λ s.
-    sides_known (g.T.Terrain.grid c.args.t.now) c.run.cell c.in-Some.next.cell c.args.d
-    (sym c.in-Some.ensures.legal) c.requires.diagonal c.of-beside-in-Some.result
-    c.of-beside-in-Some.ensures s
+stops_at-requires-clause-sides g c = λ s. grind (arith, nat_tests, common_steps, sides_known)
 
 pub returns-then-stops_at : goal.returns-then-stops_at
 returns-then-stops_at g c =
@@ -43,10 +31,7 @@ returns-then-stops_at g c =
     true c.stops_at.ensures c.if-stops_at.true)
 
 pub run-smaller : goal.run-smaller
-run-smaller g c =
-    let grid : GridData = g.T.Terrain.grid c.args.t.now in
-    let next = run_length-next grid c.run.cell c.in-Some.next.cell c.args.d (sym c.in-Some.ensures.legal) in
-    omega arith
+run-smaller g c = grind (arith, nat_tests, common_steps, run_length-next)
 
 pub run-preserved : goal.run-preserved
 run-preserved g c =

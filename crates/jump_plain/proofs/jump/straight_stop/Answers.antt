@@ -1,8 +1,8 @@
-use Rattle.std.proofs.Common.{◌∙◌, sym}
+use Rattle.std.proofs.lemmas.Bool.Decides.{nat_tests}
+use Rattle.std.proofs.lemmas.Grind.{common_steps}
+use Rattle.std.proofs.Common.{arith}
 use Rattle.jump_plain.proofs.Straight.{straight_stop}
 use Rattle.jump_plain.proofs.jump.straight_stop.Goals as goal
 
 pub returns : goal.returns
-returns g c = c.stop_of.ensures
-    ∙ rw (c.scan-reach.ensures, c.moves_to-to_goal.ensures)
-    (sym (straight_stop (g.T.Terrain.grid c.args.t.now) c.args.goal c.args.at c.args.d c.requires.straight))
+returns g c = grind (arith, nat_tests, common_steps, straight_stop)

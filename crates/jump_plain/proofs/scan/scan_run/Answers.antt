@@ -1,5 +1,6 @@
-use Rattle.std.proofs.Common.{arith, ap, sym, ◌∙◌}
-use Rattle.grid_moves.specs.declared.Corner.{Corner}
+use Rattle.std.proofs.lemmas.Bool.Decides.{nat_tests}
+use Rattle.std.proofs.lemmas.Grind.{common_steps}
+use Rattle.std.proofs.Common.{arith, sym}
 use Rattle.grid_moves.specs.Grid.{GridData}
 use Rattle.grid_moves.proofs.Ahead.{legal_ahead-free}
 use Rattle.jump_plain.specs.Reach.{mark_ahead, reach_of}
@@ -20,47 +21,19 @@ run-init g c =
     }
 
 pub of-requires-clause-free : goal.of-requires-clause-free
-of-requires-clause-free g c =
-    let grid : GridData = g.T.Terrain.grid c.args.t.now in
-    legal_ahead-free grid c.run.cell c.in-Some.next c.args.d (sym c.in-Some.ensures)
+of-requires-clause-free g c = grind (arith, nat_tests, common_steps, legal_ahead-free)
 
 pub overflow_add-result : goal.overflow_add-result
-overflow_add-result g c =
-    let grid : GridData = g.T.Terrain.grid c.args.t.now in
-    let near = mark_ahead-near c.corner.result in
-    let ahead = c.mark_ahead.ensures in
-    let few = run_length-few grid c.args.at c.args.d in
-    let wide = c.requires.whole.sides.narrow in
-    let high = c.requires.whole.sides.low in
-    let run = c.run.invariant.run in
-    omega arith
+overflow_add-result g c = grind (arith, nat_tests, common_steps, mark_ahead-near, run_length-few)
 
 pub returns-then-opens : goal.returns-then-opens
-returns-then-opens g c =
-    let grid : GridData = g.T.Terrain.grid c.args.t.now in
-    let has = c.run.invariant.left in
-    reached_mark grid c.run.cell c.args.d c.requires.straight has.sides c.run.moves
-    (reach_of grid c.args.at c.args.d) has.left c.in-Some.next (sym c.in-Some.ensures)
-    c.of.result c.of.ensures c.opens.result
-    (c.opens.ensures has.sides c.of.result has.are c.free_bits-free.ensures)
-    c.mark_ahead.result (c.mark_ahead.ensures ∙ ap (λ (r : Corner). mark_ahead r) c.corner.ensures)
-    c.if-opens.true
+returns-then-opens g c = grind (arith, nat_tests, common_steps, reached_mark)
 
 pub overflow_add-moves : goal.overflow_add-moves
-overflow_add-moves g c =
-    let grid : GridData = g.T.Terrain.grid c.args.t.now in
-    let next = run_length-next grid c.run.cell c.in-Some.next c.args.d (sym c.in-Some.ensures) in
-    let few = run_length-few grid c.args.at c.args.d in
-    let wide = c.requires.whole.sides.narrow in
-    let high = c.requires.whole.sides.low in
-    let run = c.run.invariant.run in
-    omega arith
+overflow_add-moves g c = grind (arith, nat_tests, common_steps, run_length-next, run_length-few)
 
 pub run-smaller : goal.run-smaller
-run-smaller g c =
-    let grid : GridData = g.T.Terrain.grid c.args.t.now in
-    let next = run_length-next grid c.run.cell c.in-Some.next c.args.d (sym c.in-Some.ensures) in
-    omega arith
+run-smaller g c = grind (arith, nat_tests, common_steps, run_length-next)
 
 pub run-preserved : goal.run-preserved
 run-preserved g c =
@@ -86,9 +59,4 @@ run-preserved g c =
     }
 
 pub returns : goal.returns
-returns g c =
-    let grid : GridData = g.T.Terrain.grid c.args.t.now in
-    let has = c.run.invariant.left in
-    reached_end grid c.run.cell c.args.d c.requires.straight has.sides c.run.moves
-    (reach_of grid c.args.at c.args.d) has.left (sym c.in_default.ensures) c.ends_marked.result
-    (c.ends_marked.ensures has.sides has.are)
+returns g c = grind (arith, nat_tests, common_steps, reached_end)

@@ -1,20 +1,16 @@
+use Rattle.std.proofs.lemmas.Bool.Decides.{nat_tests}
+use Rattle.std.proofs.lemmas.Grind.{common_steps}
 use Rattle.std.proofs.Common.{◌≡◌, ◌<◌, ℕ, ◌+◌, ◌-◌, ◌*◌, ◌/◌, ◌%◌, refl, sym, subst, arith, bit_and}
 use Rattle.bit_grid.specs.declared.lines.ThreeWords.{ThreeWords}
 use Rattle.jump_block.specs.Trail.{begun, shows_mark}
-use Rattle.jump_block.specs.Word.{AreWordsOf, IsBlockOf, IsFound, IsAhead, TellMoves, edge_before, nth_word}
+use Rattle.jump_block.specs.Word.{AreWordsOf, IsBlockOf, IsFound, TellMoves, edge_before, nth_word}
 use Rattle.jump_block.specs.Seek.{HasPassed}
 use Rattle.jump_block.proofs.Blocks.{word_there, word_marks, start_found, start_passed, start_ahead}
 use Rattle.jump_block.proofs.Blocks.{block_later}
 use Rattle.jump_block.proofs.block.Block.seek_start.Goals as goal
 
 pub seek-requires-clause-ahead : goal.seek-requires-clause-ahead
-seek-requires-clause-ahead c =
-    let w : ℕ = (c.args.from - c.args.start) / 64 in
-    let place : ℕ = (c.args.from - c.args.start) % 64 in
-    let from : c.args.from ≡ c.args.start + w * 64 + place = omega arith in
-    rw c.nth_word.ensures.is (subst (λ (f : ℕ). IsAhead c.args.way f
-    (edge_before c.args.way c.args.start (nth_word c.args.way w + 1))) (sym from)
-    (start_ahead c.args.way c.args.start w place (omega arith) (omega arith)))
+seek-requires-clause-ahead c = grind (arith, nat_tests, common_steps, start_ahead)
 
 pub returns-then-found-ne0 : goal.returns-then-found-ne0
 returns-then-found-ne0 c = λ t block.

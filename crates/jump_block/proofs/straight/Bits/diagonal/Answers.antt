@@ -1,3 +1,5 @@
+use Rattle.std.proofs.lemmas.Bool.Decides.{nat_tests}
+use Rattle.std.proofs.lemmas.Grind.{common_steps}
 use Rattle.std.proofs.Common.{true, false, arith, refl, sym, ◌∙◌}
 use Rattle.std.specs.Prelude.{is_some}
 use Rattle.grid_moves.specs.declared.Dir.{Dir}
@@ -11,37 +13,13 @@ use Rattle.jump_block.proofs.Diagonals.{legal_next}
 use Rattle.jump_block.proofs.straight.Bits.diagonal.Goals as goal
 
 pub overflow_add-moves : goal.overflow_add-moves
-overflow_add-moves g c =
-    let grid = c.requires.stands.0 in
-    let are = c.requires.stands.1 in
-    let free = c.requires.stands.2 in
-    let there = c.run.invariant.there grid are free in
-    let legal = legal_next grid c.run.cell c.beyond-next.result c.args.d c.leads_near.result
-    (c.leads_near.ensures.leads grid are there.free) c.run-test.true c.beyond-next.ensures in
-    let longer = run_length-next grid c.run.cell c.beyond-next.result c.args.d legal in
-    let few = run_length-few grid c.args.at c.args.d in
-    let wide = are.whole.sides.narrow in
-    let high = are.whole.sides.low in
-    let run = there.run in
-    omega arith
+overflow_add-moves g c = grind (arith, nat_tests, common_steps, legal_next, run_length-next, run_length-few)
 
 pub leads_near-requires-clause-stands : goal.leads_near-requires-clause-stands
-leads_near-requires-clause-stands g c =
-    let grid = c.requires.stands.0 in
-    let are = c.requires.stands.1 in
-    let free = c.requires.stands.2 in
-    (grid, are, (c.run.invariant.there grid are free).free)
+leads_near-requires-clause-stands g c = grind (arith, nat_tests, common_steps)
 
 pub stops_at-requires-clause-stands : goal.stops_at-requires-clause-stands
-stops_at-requires-clause-stands g c =
-    let grid = c.requires.stands.0 in
-    let are = c.requires.stands.1 in
-    let free = c.requires.stands.2 in
-    let there = c.run.invariant.there grid are free in
-    let legal = legal_next grid c.run.cell c.beyond-next.result c.args.d c.leads_near.result
-    (c.leads_near.ensures.leads grid are there.free) c.run-test.true c.beyond-next.ensures in
-    let next = legal_ahead-free grid c.run.cell c.beyond-next.result c.args.d legal in
-    (grid, are, next)
+stops_at-requires-clause-stands g c = grind (arith, nat_tests, common_steps, legal_next, legal_ahead-free)
 
 pub returns-then-stops_at-clause-first : goal.returns-then-stops_at-clause-first
 returns-then-stops_at-clause-first g c = λ grid are free.
@@ -72,22 +50,11 @@ run-smaller g c =
     omega arith
 
 pub near_on_row-near-requires-in-run : goal.near_on_row-near-requires-in-run
-near_on_row-near-requires-in-run g c =
-    let grid = c.requires.stands.0 in
-    let are = c.requires.stands.1 in
-    let free = c.requires.stands.2 in
-    let there = c.run.invariant.there grid are free in
-    let legal = legal_next grid c.run.cell c.beyond-next.result c.args.d c.leads_near.result
-    (c.leads_near.ensures.leads grid are there.free) c.run-test.true c.beyond-next.ensures in
-    record { stands = (grid, are, legal_ahead-free grid c.run.cell c.beyond-next.result c.args.d legal) }
+near_on_row-near-requires-in-run g c = grind (arith, nat_tests, common_steps, legal_next, legal_ahead-free)
 
 pub run-preserved : goal.run-preserved
 run-preserved g c = record {
-  read = let before = c.run.invariant.read in
-      let reads = c.leads_near.ensures.more in
-      let words = c.near_on_row-near-in-run.ensures.three_steps in
-      let more = c.stops_at.ensures.more in
-      omega arith;
+  read = grind (arith, nat_tests, common_steps);
   near = c.near_on_row-near-in-run.ensures.near;
   there = λ grid are free.
       let there = c.run.invariant.there grid are free in
@@ -103,9 +70,7 @@ run-preserved g c = record {
             (λ (e : Dir). is_some (first_stop grid c.args.goal c.beyond-next.result e)) c.args.d
             c.requires.diagonal
             _ _ _ refl refl) c.if-stops_at.false);
-        run = let longer = run_length-next grid c.run.cell c.beyond-next.result c.args.d legal in
-            let run = there.run in
-            omega arith;
+        run = grind (arith, nat_tests, common_steps, run_length-next);
       };
 }
 
