@@ -20,5 +20,5 @@ pub one_dir : (d e : Dir) → dir_number d ≡ dir_number e → d ≡ e
 one_dir d e h = sym (numbered_dir d) ∙ ap (λ n. get_or all_dirs n N) h ∙ numbered_dir e
 
 -- there are eight
-pub few_dirs : (d : Dir) → dir_number d < 8
-few_dirs d = grind arith
+pub dir_number-few : (d : Dir) → dir_number d < 8
+dir_number-few d = grind arith
