@@ -124,7 +124,8 @@ module _ (g : GridData) (s : Cell) (whole : IsGrid g) (floor : ℕ) (now : List 
     }
 
     pub joined_has : (d : Dir) → has_dir first d ≡ true → has_dir (dirs_at g with_dirs.firsts to) d ≡ true
-    joined_has d e = ap (λ (m : ℕ). has_dir m d) dirs_here ∙ bit_or-dir (dirs_at g f.firsts to) first d ∙ or_right _ _ e
+    joined_has d e =
+        ap (λ (m : ℕ). has_dir m d) dirs_here ∙ bit_or-dir (dirs_at g f.firsts to) first d ∙ or_right _ _ e
 
   -- with a lesser rank
   module _ (less : rank < old) (limit : ℕ) (is : limit ≡ floor + 2 * straight_rank) where

@@ -29,18 +29,20 @@ module _ {g : GridData} (b : BoxTeller) {s t : Cell} (asked : IsAsked g s t (box
     {taken : List ℕ} (h : HasTaken g b s t at k taken) where
   -- what the offers of the last state ask for
   pub may_go_on : (space : SpaceData) → space.table ≡ k → IsReady g space → (n : Node)
-      → slice_get k.nodes at ≡ Some n → MayExpand g b t at n space
+      → slice_get space.table.nodes at ≡ Some n → MayExpand g b t at n space
   may_go_on space e ready n read =
       subst (λ (m : Node). MayExpand g b t at m space)
-      (some_node h.searching.node n (sym h.searching.node_is ∙ read))
+      (some_node h.searching.node n (sym h.searching.node_is ∙ ap (λ (l : Table). slice_get l.nodes at)
+      (sym e)
+      ∙ read))
       (may_expand b asked h.last h.earlier at h.searching space e ready.width ready.places)
 
   -- after the offers
-  pub has_offered : (later : Table)
+  pub has_offered : (now later : Table) → now ≡ k
       → ((n : Node) → slice_get k.nodes at ≡ Some n → is_same (node_cell n) t ≡ false)
-      → ((n : Node) → slice_get k.nodes at ≡ Some n → HasExpanded g b t at n k later)
+      → ((n : Node) → slice_get now.nodes at ≡ Some n → HasExpanded g b t at n now later)
       → search.HasOffered ByCell g.width t (boxed_links g b t) s at later taken
-  has_offered later open_ended expanded =
+  has_offered now later same open_ended expanded =
       let node = h.searching.node in
       let best = least_offer (boxed_rule g b t) h.earlier in
       let cell : h.last.state.cell ≡ node_cell node = ap (λ (u : State). u.cell) (sym h.searching.state) in
@@ -54,7 +56,9 @@ module _ {g : GridData} (b : BoxTeller) {s t : Cell} (asked : IsAsked g s t (box
         best = with_all h.last best ways;
         searching =
             subst (λ (l : Table). IsSearching ByCell g.width t (boxed_links g b t) s h.last h.earlier at
-            (with_all h.last best ways) l) (sym (expanded node h.searching.node_is)) made.0;
+            (with_all h.last best ways) l) (sym (subst
+            (λ (l : Table). (n : Node) → slice_get l.nodes at ≡ Some n → HasExpanded g b t at n l later)
+            same expanded node h.searching.node_is)) made.0;
         open_ended = ended;
         all_made = offers_after g.width t (boxed_links g b t) h.last h.earlier ways ended
             (λ w m. are_links g b t (node_cell node) h.last.state (sym h.searching.state) all_dirs w m)

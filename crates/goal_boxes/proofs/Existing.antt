@@ -1,5 +1,6 @@
 -- Each free cell has its boxes, apart from the code that finds them.
-use Rattle.std.proofs.Common.{◌≡◌, ◌≤◌, ◌<◌, ◌+◌, ◌⊎◌, inl, inr, ℕ, zero, suc, Bool, true, false, refl, ap}
+use Rattle.std.proofs.lemmas.Bool.Decides.{nat_tests}
+use Rattle.std.proofs.Common.{◌≡◌, ◌≤◌, ◌<◌, ◌+◌, ◌⊎◌, inl, inr, ℕ, zero, suc, Bool, true, false, refl}
 use Rattle.std.proofs.Common.{sym, ◌∙◌, subst, arith, ◌∷◌}
 use Rattle.std.specs.Prelude.{Option, Some, None, IfOk, Ok, Err}
 use Rattle.std.specs.declared.result.Result.{Result}
@@ -113,28 +114,10 @@ all_told g = record { boxes = λ u f d. (box_if_free g u d (is_free g u) refl).i
 
 -- there is one box
 one_area : (a b : Area) → IsWithin a b → IsWithin b a → a ≡ b
-one_area a b p q =
-    let left = p.left in
-    let above = p.above in
-    let right = p.right in
-    let below = p.below in
-    let left' = q.left in
-    let above' = q.above in
-    let right' = q.right in
-    let below' = q.below in
-    by_sides a.x0 a.y0 a.x1 a.y1 b.x0 b.y0 b.x1 b.y1 (omega arith) (omega arith) (omega arith) (omega arith)
-  where
-    by_sides : (x0 y0 x1 y1 u0 v0 u1 v1 : ℕ) → x0 ≡ u0 → y0 ≡ v0 → x1 ≡ u1 → y1 ≡ v1
-        → ◌≡◌ {A = Area} (record { x0 = x0; y0 = y0; x1 = x1; y1 = y1 })
-        (record { x0 = u0; y0 = v0; x1 = u1; y1 = v1 })
-    by_sides x0 y0 x1 y1 u0 v0 u1 v1 e f h i = rw (e, f, h, i) refl
+one_area a b h1 h2 = grind (arith, nat_tests)
 
 pub one_box : (P : Cell → Type 0) (a b : Option Area) → IsAreaOf P a → IsAreaOf P b → a ≡ b
-one_box P None None p q = refl
-one_box P None (Some b) p q = absurd (p q.some q.is_one)
-one_box P (Some a) None p q = absurd (q p.some p.is_one)
-one_box P (Some a) (Some b) p q =
-    ap (λ (x : Area). Some x) (one_area a b (p.least b (λ c i. q.all c i)) (q.least a (λ c i. p.all c i)))
+one_box P a b h1 h2 = grind (arith, nat_tests, one_area)
 
 -- so boxes of a cell are those that are told of it
 pub agree : (g : GridData) (box : BoxTeller) → TellsBoxes g box → (u : Cell) → is_free g u ≡ true

@@ -1,6 +1,6 @@
 -- A rectangle grows by one cell, and a scan by one place.
 use Rattle.std.proofs.Common.{◌≡◌, ◌≤◌, ◌<◌, ◌+◌, ◌⊎◌, inl, inr, ℕ, true, refl, ap, sym, ◌∙◌, subst, arith}
-use Rattle.std.proofs.Common.{List, [], ◌∷◌}
+use Rattle.std.proofs.Common.{◌∷◌}
 use Rattle.std.specs.Prelude.{nat_lt, Option, Some, None, if◌then◌else◌}
 use Rattle.std.proofs.lemmas.Bool.{cases_lt}
 use Rattle.std.proofs.lemmas.Bool.Decides.{nat_tests}
@@ -8,9 +8,9 @@ use Rattle.grid_moves.specs.declared.Cell.{Cell}
 use Rattle.grid_moves.specs.declared.Dir.{Dir}
 use Rattle.grid_moves.specs.declared.Dir.TheVariants.{N, NE, E, SE, S, SW, W, NW}
 use Rattle.grid_moves.specs.Grid.{GridData, is_inside, is_free}
-use Rattle.grid_moves.specs.Move.{is_legal}
-use Rattle.grid_moves.specs.Walk.{is_walk, last_of}
-use Rattle.grid_moves.proofs.Legal.{same_cell, and_both, free_inside}
+use Rattle.grid_moves.proofs.Legal.{same_cell, free_inside}
+use Rattle.grid_moves.proofs.Walks.{end_free}
+use Rattle.grid_moves.proofs.Places.{inside_from}
 use Rattle.cost_waves.specs.Begin.{Begins}
 use Rattle.cost_waves.specs.Told.{WaveData, begins_with, Tells}
 use Rattle.goal_boxes.specs.declared.area.Area.{Area}
@@ -35,12 +35,7 @@ lies_in a c h = record {
 }
 
 pub is_held : (a : Area) (c : Cell) → LiesIn a c → holds a c ≡ true
-is_held a c l =
-    let p = l.left in
-    let q = l.right in
-    let r = l.above in
-    let s = l.below in
-    grind (arith, nat_tests)
+is_held a c h1 = grind (arith, nat_tests)
 
 -- the lesser and the greater of two numbers
 record IsLesser (m n k : ℕ) : Type 0 where
@@ -143,13 +138,7 @@ module _ (width : ℕ) (P : Cell → Type 0) where
 
   -- what is met at one place more was met, or is the cell there
   met_or_here : (y x : ℕ) (c : Cell) → Scanned width P y (x + 1) c → (Scanned width P y x c) ⊎ (c ≡ cell y x)
-  met_or_here y x c s = elim s.before [
-    | inl h ↦ inl (record { column = s.column; kind = s.kind; before = inl h })
-    | inr h ↦ elim (less_or_same c.x x h.1) [
-      | inl less ↦ inl (record { column = s.column; kind = s.kind; before = inr (h.0, less) })
-      | inr same ↦ inr (same_cell c (cell y x) same h.0)
-    ]
-  ]
+  met_or_here y x c h1 = grind (arith, nat_tests, less_or_same, same_cell)
 
   pub one_of_kind : (y x : ℕ) → x < width → P (cell y x) → (found : Option Area)
       → IsAreaOf (Scanned width P y x) found
@@ -175,10 +164,7 @@ module _ (width : ℕ) (P : Cell → Type 0) where
 
   -- what is met in a row more was met, or it lies in the row
   met_or_in_row : (y : ℕ) (c : Cell) → Scanned width P (y + 1) 0 c → (c.y < y) ⊎ (c.y ≡ y)
-  met_or_in_row y c s = elim s.before [
-    | inl h ↦ less_or_same c.y y h
-    | inr h ↦ absurd (let l = h.1 in omega arith)
-  ]
+  met_or_in_row y c h1 = grind (arith, nat_tests, less_or_same)
 
   pub row_scanned : (y : ℕ) (found : Option Area) → IsAreaOf (Scanned width P y width) found
       → IsAreaOf (Scanned width P (y + 1) 0) found
@@ -236,22 +222,7 @@ module _ (w : WaveData) (d : Dir) where
 
     -- the cells of the row lie between the two
     between : (c : Cell) → c.y ≡ y → c.x < w.width → IsTold w d c → (first ≤ c.x) × (c.x ≤ last)
-    between c e n k = (
-      elim (cases_lt c.x first) [
-        | inl less ↦ absurd (
-            let told = told_at y c e k in
-            let untold = f.none_before c.x (omega arith) less in
-            cc)
-        | inr low ↦ low
-      ],
-      elim (cases_lt last c.x) [
-        | inl more ↦ absurd (
-            let told = told_at y c e k in
-            let untold = l.none_after c.x (omega arith) n in
-            cc)
-        | inr high ↦ high
-      ],
-    )
+    between c h1 h2 h3 = grind (arith, nat_tests, cases_lt, told_at)
 
     pub row_told : (found : Option Area) → IsAreaOf (Seen w d y 0) found
         → IsAreaOf (Seen w d (y + 1) 0) (Some (with_cell (widened found at_first) at_last))
@@ -296,16 +267,9 @@ module _ (w : WaveData) (d : Dir) where
                   omega arith;
             })
 
--- where some least walk ends lies on the map
-end_free : (g : GridData) (u : Cell) (cells : List Cell) → is_walk g (u ∷ cells) ≡ true
-    → is_free g (last_of u cells) ≡ true
-end_free g u [] w = w
-end_free g u (v ∷ cells) w = end_free g v cells (and_both (is_legal g u v) (is_walk g (v ∷ cells)) w).1
-
+-- where some least walk ends is free
 pub end_of_walk : (g : GridData) (u t : Cell) (d : Dir) → Begins g u t d → is_free g t ≡ true
-end_of_walk g u t d b =
-    let w = b.least.walk in
-    subst (λ (v : Cell). is_free g v ≡ true) w.ends (end_free g u (b.next ∷ b.cells) w.legal)
+end_of_walk g u t d b = end_free g u t (b.next ∷ b.cells) b.least.walk
 
 -- what was seen when all rows were is what begins so
 pub all_seen : (g : GridData) (u : Cell) (w : WaveData) → w.width ≡ g.width → w.height ≡ g.height
@@ -319,20 +283,16 @@ all_seen g u w wide high tells d = same_area (Seen w d w.height 0) (λ t. Begins
     let y = i.1 in
     record {
       column = omega arith;
-      kind = (tells.firsts c d (on_map c x y)).1 b;
+      kind = (tells.firsts c d (inside_from g c x y)).1 b;
       before = inl (omega arith);
     })
   where
-    on_map : (c : Cell) → c.x < g.width → c.y < g.height → is_inside g c ≡ true
-    on_map c x y = grind (arith, nat_tests)
-
     inside : (c : Cell) → Seen w d w.height 0 c → is_inside g c ≡ true
     inside c s =
         let x = s.column in
-        on_map c (omega arith) (elim s.before [
+        inside_from g c (omega arith) (elim s.before [
           | inl h ↦ omega arith
-          | inr h ↦
-              absurd (let l = h.1 in omega arith)
+          | inr h ↦ absurd (let l = h.1 in omega arith)
         ])
 
 -- a box for each direction

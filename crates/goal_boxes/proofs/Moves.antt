@@ -1,34 +1,29 @@
 -- The links of the boxed search: legal moves whose boxes hold the goal.
-use Rattle.std.proofs.Common.{◌≡◌, refl, ap, sym, ◌∙◌, Bool, true, false, ◌||◌, List, [], ◌∷◌}
+use Rattle.std.proofs.Common.{◌≡◌, refl, ap, sym, ◌∙◌, Bool, true, false, List, [], ◌∷◌}
 use Rattle.std.specs.Prelude.{Option, Some, None, if◌then◌else◌}
-use Rattle.std.specs.Option.{option_map_or}
 use Rattle.root2_cost.specs.declared.Cost.{Cost}
-use Rattle.std.proofs.lemmas.Bool.{and_from}
+use Rattle.std.proofs.lemmas.Bool.{and_from, or_right}
 use Rattle.grid_moves.specs.declared.Cell.{Cell}
 use Rattle.grid_moves.specs.declared.Dir.{Dir}
 use Rattle.grid_moves.specs.Grid.{GridData, IsGrid, is_free}
-use Rattle.grid_moves.specs.Move.{is_legal, is_same, move_cost, ahead, all_dirs, legal_ahead}
-use Rattle.grid_moves.proofs.Legal.{is_same-cell, and_both}
+use Rattle.grid_moves.specs.Move.{is_legal, move_cost, all_dirs, legal_ahead, dir_cost}
+use Rattle.grid_moves.proofs.Legal.{and_both}
+use Rattle.grid_moves.proofs.Costs.{cost_there}
 use Rattle.search_run.specs.Chain.{IsConsistent}
 use Rattle.best_first.specs.declared.state.State.{State}
 use Rattle.best_first.specs.State.{start_at}
 use Rattle.best_first.specs.Rule.{AreLinks}
 use Rattle.best_first.proofs.Links.{consistent}
-use Rattle.plain_search.specs.Offers.{cost_to}
 use Rattle.plain_search.specs.Rule.{plain_links, is_led}
 use Rattle.plain_search.proofs.Dropping.{LeadsTo, leads}
 use Rattle.plain_search.proofs.Moving.{IsLinked}
-use Rattle.plain_search.proofs.Offering.{ahead_cost, open_linked}
+use Rattle.plain_search.proofs.Offering.{open_linked, led_ahead}
 use Rattle.plain_search.proofs.Posed.{IsAsked, free_near}
 use Rattle.plain_search.proofs.Walks.{AreMoves, IsMove, link_move, plain_are_links}
 use Rattle.cost_waves.proofs.Settling.{In, first, later, in_all}
 use Rattle.goal_boxes.specs.Box.{BoxTeller}
 use Rattle.goal_boxes.specs.Offers.{toward}
 use Rattle.goal_boxes.specs.Rule.{is_toward, leads_toward, is_toward_by, boxed_step, boxed_links, boxed_rule}
-
-or_late : (p q : Bool) → q ≡ true → (p || q) ≡ true
-or_late true q e = refl
-or_late false q e = e
 
 if_some : {A : Type 0} (p : Bool) (x : Option A) (a : A) → (if p then x else None) ≡ Some a
     → (p ≡ true) × (x ≡ Some a)
@@ -42,7 +37,7 @@ module _ (g : GridData) (b : BoxTeller) (t : Cell) where
   by_list u v d h [] m = elim m [ ]
   by_list u v d h (e ∷ dirs) (first z) = rw h refl
   by_list u v d h (e ∷ dirs) (later z w m) =
-      or_late (leads_toward b t u v e) (is_toward_by b t u v dirs) (by_list u v d h dirs m)
+      or_right (leads_toward b t u v e) (is_toward_by b t u v dirs) (by_list u v d h dirs m)
 
   one_toward : (u v : Cell) (d : Dir) → leads_toward b t u v d ≡ true → is_toward_by b t u v all_dirs ≡ true
   one_toward u v d h = by_list u v d h all_dirs (in_all d)
@@ -102,25 +97,20 @@ module _ (g : GridData) (b : BoxTeller) (t : Cell) where
   held_link c d v e h =
       let l = leads g c d v e in
       (toward_linked c d v (record { leads = l; held = h })).step
-      ∙ ap (λ (k : Cost). Some k) (sym (ahead_cost d c v l.ahead_is))
+      ∙ ap (λ (k : Cost). Some k) (sym (cost_there d c v l.ahead_is))
 
   -- what leads toward the goal in some direction
   pub record IsTowardBy (c v : Cell) (d : Dir) : Type 0 where
     pub to : toward g b t c d ≡ Some v
-    pub priced : move_cost c v ≡ cost_to d
+    pub priced : move_cost c v ≡ dir_cost d
 
   pub leads_is : (c v : Cell) (d : Dir) → is_legal g c v ≡ true → leads_toward b t c v d ≡ true
       → IsTowardBy c v d
   leads_is c v d l h =
       let p = and_both (is_toward t (b c d)) (is_led c v (Some d)) h in
-      let on : ahead d c ≡ Some v = by_cell (ahead d c) refl p.1 in
+      let on = led_ahead c v d p.1 in
       let legal : legal_ahead g c d ≡ Some v = rw (on, l) refl in
-      record { to = rw p.0 legal; priced = ahead_cost d c v on }
-    where
-      by_cell : (o : Option Cell) → ahead d c ≡ o → option_map_or (λ (w : Cell). is_same w v) o false ≡ true
-          → ahead d c ≡ Some v
-      by_cell None e f = absurd (cc)
-      by_cell (Some w) e f = e ∙ ap (λ (u : Cell). Some u) (is_same-cell w v f)
+      record { to = rw p.0 legal; priced = cost_there d c v on }
 
 -- a boxed search is asked for between free cells
 pub boxed_asked : (g : GridData) (b : BoxTeller) (s t : Cell) → IsGrid g → is_free g s ≡ true

@@ -5,7 +5,7 @@ use Rattle.root2_cost.specs.declared.Cost.{Cost}
 use Rattle.grid_moves.specs.declared.Cell.{Cell}
 use Rattle.grid_moves.specs.declared.Dir.{Dir}
 use Rattle.grid_moves.specs.Grid.{GridData}
-use Rattle.grid_moves.specs.Move.{all_dirs}
+use Rattle.grid_moves.specs.Move.{all_dirs, dir_cost}
 use Rattle.grid_moves.proofs.Legal.{legal_is}
 use Rattle.search_run.specs.Run.{Taken}
 use Rattle.best_first.specs.declared.node.Node.{Node}
@@ -19,7 +19,7 @@ use Rattle.best_first.specs.Trace.{node_cell, rank_left}
 use Rattle.best_first.specs.Ways.{Onward, IsAmong, first, later, with_onward, with_all}
 use Rattle.best_first.proofs.Searching.{closed_below}
 use Rattle.best_first.proofs.Ways.{of_among}
-use Rattle.plain_search.specs.Offers.{cost_to, offer_to}
+use Rattle.plain_search.specs.Offers.{offer_to}
 use Rattle.plain_search.proofs.Moving.{estimate_within, key_over, left_small, node_free, one_over}
 use Rattle.plain_search.proofs.Posed.{IsAsked, fit, placed}
 use Rattle.goal_boxes.specs.Box.{BoxTeller}
@@ -68,7 +68,7 @@ module _ {g : GridData} (b : BoxTeller) {s t : Cell} (asked : IsAsked g s t (box
       by_move again (Some v) h =
           let w = toward_linked g b t (node_cell n) d v (toward_is g b t (node_cell n) d v h) in
           let on = one_over (fit asked) i n e d v w in
-          again (with_onward x best (record { to = start_at v; cost = cost_to d }))
+          again (with_onward x best (record { to = start_at v; cost = dir_cost d }))
           (offered ByCell t (offer_to at (rank_left t n) v d) k) on.0 on.1
 
 -- each of these ways is a link
@@ -90,7 +90,7 @@ are_links g b t c u at_c (d ∷ dirs) w m =
 -- what leads toward the goal is among the ways
 module _ (g : GridData) (b : BoxTeller) (t c v : Cell) where
   among : (cost : Cost) → (e : (d : Dir) → leads_toward b t c v d ≡ true
-      → (toward g b t c d ≡ Some v) × (cost_to d ≡ cost)) → (dirs : List Dir)
+      → (toward g b t c d ≡ Some v) × (dir_cost d ≡ cost)) → (dirs : List Dir)
       → is_toward_by b t c v dirs ≡ true
       → IsAmong (record { to = start_at v; cost = cost }) (ways_over g b t c dirs)
   among cost e [] h = absurd (cc)
@@ -101,7 +101,7 @@ module _ (g : GridData) (b : BoxTeller) (t c v : Cell) where
       by_move None m = m
       by_move (Some w) m = later _ _ m
 
-      here_is : (o : Option Cell) → o ≡ Some v → cost_to d ≡ cost
+      here_is : (o : Option Cell) → o ≡ Some v → dir_cost d ≡ cost
           → IsAmong (record { to = start_at v; cost = cost }) (with_way d o (ways_over g b t c dirs))
       here_is o f q = rw f (subst (λ (p : Cost). IsAmong (record { to = start_at v; cost = cost })
           (record { to = start_at v; cost = p } ∷ ways_over g b t c dirs)) (sym q)

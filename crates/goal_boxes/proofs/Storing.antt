@@ -10,16 +10,12 @@ use Rattle.grid_moves.specs.declared.Dir.{Dir}
 use Rattle.grid_moves.specs.Grid.{GridData, cell_number, is_free, is_inside}
 use Rattle.grid_moves.proofs.Ahead.{legal_ahead-is}
 use Rattle.grid_moves.proofs.Legal.{legal_is}
-use Rattle.grid_moves.proofs.Places.{one_cell, number_below}
+use Rattle.grid_moves.proofs.Places.{one_cell, number_below, inside_is}
 use Rattle.goal_boxes.specs.declared.around.CellBoxes.{CellBoxes}
 use Rattle.cost_waves.specs.Begin.{Begins}
 use Rattle.goal_boxes.specs.Box.{AreBoxes, IsBox}
 use Rattle.goal_boxes.specs.Stored.{BoxData, no_boxes, HoldsBoxes, AreBefore}
 use Rattle.goal_boxes.proofs.Growing.{each_dir}
-
--- a cell of the grid stands in one of its columns and rows
-inside_is : (g : GridData) (c : Cell) → is_inside g c ≡ true → (c.x < g.width) × (c.y < g.height)
-inside_is g c i = (grind (arith, nat_tests), grind (arith, nat_tests))
 
 -- a cell that is not free has no boxes
 pub none_of_blocked : (g : GridData) (u : Cell) → is_free g u ≡ false → AreBoxes g u no_boxes

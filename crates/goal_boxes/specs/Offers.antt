@@ -5,7 +5,7 @@ use Rattle.root2_cost.specs.Rank.{rank_of}
 use Rattle.grid_moves.specs.declared.Cell.{Cell}
 use Rattle.grid_moves.specs.declared.Dir.{Dir}
 use Rattle.grid_moves.specs.Grid.{GridData, is_free}
-use Rattle.grid_moves.specs.Move.{all_dirs, legal_ahead}
+use Rattle.grid_moves.specs.Move.{all_dirs, legal_ahead, dir_cost}
 use Rattle.grid_moves.specs.Points.{estimate}
 use Rattle.best_first.specs.declared.node.Node.{Node}
 use Rattle.best_first.specs.declared.state.Layout.TheVariants.{ByCell}
@@ -14,7 +14,7 @@ use Rattle.best_first.specs.State.{start_at}
 use Rattle.best_first.specs.Table.{Table, node_for, offered, ClosedBelow}
 use Rattle.best_first.specs.Trace.{node_cell, rank_left}
 use Rattle.best_first.specs.Ways.{Onward}
-use Rattle.plain_search.specs.Offers.{cost_to, offer_to}
+use Rattle.plain_search.specs.Offers.{offer_to}
 use Rattle.goal_boxes.specs.declared.area.Area.{Area}
 use Rattle.goal_boxes.specs.declared.around.CellBoxes.{CellBoxes}
 use Rattle.goal_boxes.specs.Box.{BoxTeller, box_in}
@@ -46,7 +46,7 @@ all_offered g box goal id rank c (d ∷ dirs) k =
 -- the links that these offers go over
 abbrev pub with_way : Dir → Option Cell → List Onward → List Onward
 with_way d None ways = ways
-with_way d (Some v) ways = record { to = start_at v; cost = cost_to d } ∷ ways
+with_way d (Some v) ways = record { to = start_at v; cost = dir_cost d } ∷ ways
 
 abbrev pub ways_over : GridData → BoxTeller → Cell → Cell → List Dir → List Onward
 ways_over g box t c [] = []

@@ -1,5 +1,5 @@
 -- Sorted lists of different cells ascend strictly by their numbers.
-use Rattle.std.proofs.Common.{◌≡◌, ℕ, suc, ◌+◌, ◌*◌, ◌<◌, ◌≤◌, ◌⊎◌, inl, inr, length, List, [], ◌∷◌, refl, ap}
+use Rattle.std.proofs.Common.{◌≡◌, ℕ, suc, ◌+◌, ◌<◌, ◌≤◌, length, List, [], ◌∷◌, refl, ap}
 use Rattle.std.proofs.Common.{arith, map, false, eqb, get_or}
 use Rattle.std.proofs.Math.Nat.{mul-le-mul}
 use Rattle.std.proofs.lemmas.Bool.Decides.{nat_tests}
@@ -58,32 +58,12 @@ filter_map-some f (x ∷ xs) = ap (λ (ys : List _). f x ∷ ys) (filter_map-som
 
 -- cells of one place number are one
 pub one_place_number : (c d : Cell) → c.x < 65536 → d.x < 65536 → place_number c ≡ place_number d → c ≡ d
-one_place_number c d h i e = same_cell c d (columns c.x c.y d.x d.y h i e) (rows c.x c.y d.x d.y h i e)
-  where
-    rows : (x y z w : ℕ) → x < 65536 → z < 65536 → y * 65536 + x ≡ w * 65536 + z → y ≡ w
-    rows x y z w h i e = omega arith
-
-    columns : (x y z w : ℕ) → x < 65536 → z < 65536 → y * 65536 + x ≡ w * 65536 + z → x ≡ z
-    columns x y z w h i e = omega arith
+one_place_number c d h1 h2 h3 = grind (arith, nat_tests, same_cell)
 
 -- and their order is that of the numbers on a map
 number_less : (width : ℕ) (c d : Cell) → c.x < width → d.x < width → width ≤ 65536
     → place_number c < place_number d → cell_number width c < cell_number width d
-number_less width c d h i n less = by_rows c.x c.y d.x d.y h i less
-  where
-    by_rows : (x y z w : ℕ) → x < width → z < width → y * 65536 + x < w * 65536 + z
-        → y * width + x < w * width + z
-    by_rows x y z w h i less = elim (rows y w (omega arith)) [
-      | inl below ↦ let m : (y + 1) * width ≤ w * width = mul-le-mul below (omega arith) in omega arith
-      | inr same ↦ let m : y * width ≡ w * width = ap (λ (v : ℕ). v * width) same in
-          let l : x < z = columns y w same less in omega arith
-    ]
-      where
-        rows : (m k : ℕ) → m ≤ k → (m + 1 ≤ k) ⊎ (m ≡ k)
-        rows m k a = grind arith
-
-        columns : (m k : ℕ) → m ≡ k → m * 65536 + x < k * 65536 + z → x < z
-        columns m k e l = omega arith
+number_less width c d h1 h2 h3 h4 = grind (arith, nat_tests, mul-le-mul)
 
 -- cells that were sorted by place numbers, all different, ascend strictly by their numbers
 pub ascending : {X : Type 0} (cell : X → Cell) (width : ℕ) (some sorted : List X) → width ≤ 65536

@@ -1,17 +1,18 @@
 -- The closed cells of a search that took its goal.
-use Rattle.std.proofs.Common.{◌≡◌, ℕ, ◌<◌, ◌≤◌, inl, inr, List, [], ◌∷◌, refl, ap, sym, ◌∙◌, subst, arith}
-use Rattle.std.proofs.Common.{Bool, true, false}
+use Rattle.std.proofs.lemmas.Grind.{common_steps}
+use Rattle.std.proofs.Common.{◌≡◌, ℕ, ◌<◌, ◌≤◌, List, ◌∷◌, refl, ap, sym, ◌∙◌, subst, arith}
+use Rattle.std.proofs.Common.{true, false}
 use Rattle.std.proofs.lemmas.Bool.Decides.{nat_tests}
+use Rattle.std.proofs.lemmas.Bool.{lt-ltb, ltb-true, true_from_ne_false}
 use Rattle.std.proofs.lemmas.List.Sorted.{IsPermutation-sym, Contains-permutation}
-use Rattle.std.specs.Prelude.{Option, Some, None, slice_get, nat_lt, if◌then◌else◌}
+use Rattle.std.specs.Prelude.{Option, Some, None, slice_get}
 use Rattle.std.specs.List.{Contains}
 use Rattle.root2_cost.specs.declared.Cost.{Cost}
 use Rattle.root2_cost.specs.Laws.{HasShortParts}
-use Rattle.root2_cost.specs.Order.{is_less, IsLess, IsAtMost}
+use Rattle.root2_cost.specs.Order.{IsLess}
 use Rattle.root2_cost.specs.Rank.{cost_of_rank, rank_of}
 use Rattle.root2_cost.specs.Sums.{add_costs}
-use Rattle.root2_cost.proofs.AtMost.{IsAtMost-not_more}
-use Rattle.root2_cost.proofs.Less.{IsLess-total}
+use Rattle.root2_cost.proofs.AtMost.{IsAtMost-antisymmetric}
 use Rattle.root2_cost.proofs.Most.{Most-then, Most-same}
 use Rattle.root2_cost.proofs.Ranking.{less_ranks, ranks_less}
 use Rattle.root2_cost.proofs.Sums.{add_costs-no_cost_right}
@@ -67,20 +68,13 @@ taken_least g s t run free is u m plain =
 
 -- two least costs of one cell are one
 pub one_least : (g : GridData) (s c : Cell) (p q : Cost) → IsLeastCost g s c p → IsLeastCost g s c q → p ≡ q
-one_least g s c p q a b =
-    let e : IsAtMost p q = rw (sym a.priced, sym b.priced) (a.least.least b.cells b.least.walk) in
-    let f : IsAtMost q p = rw (sym a.priced, sym b.priced) (b.least.least a.cells a.least.walk) in
-    elim (IsLess-total p q) [
-      | inl less ↦ absurd (IsAtMost-not_more q p f less)
-      | inr (inl more) ↦ absurd (IsAtMost-not_more p q e more)
-      | inr (inr same) ↦ same
-    ]
+one_least g s c p q a b = sym a.priced
+    ∙ IsAtMost-antisymmetric (cost_of (s ∷ a.cells)) (cost_of (s ∷ b.cells))
+    (a.least.least b.cells b.least.walk) (b.least.least a.cells a.least.walk)
+    ∙ b.priced
 
 abbrev entry : Cell → Cost → Cell × Cost
 entry c cost = (c, cost)
-
-some_entry : (e f : Cell × Cost) → Some e ≡ Some f → e ≡ f
-some_entry e f q = ap (λ (o : Option (Cell × Cost)). elim o as (λ _. Cell × Cost) [ Some v ↦ v | None ↦ e ]) q
 
 -- a made entry: the key is below, and what the entry is
 record IsEntry (goal : Cell) (limit : ℕ) (n : Node) (c : Cell) (cost : Cost) : Type 0 where
@@ -90,42 +84,14 @@ record IsEntry (goal : Cell) (limit : ℕ) (n : Node) (c : Cell) (cost : Cost) :
 
 entry_is : (goal : Cell) (limit : ℕ) (n : Node) (c : Cell) (cost : Cost)
     → entry_below goal limit n ≡ Some (c, cost) → IsEntry goal limit n c cost
-entry_is goal limit n c cost h = by_test (nat_lt n.key limit) refl h
-  where
-    by_test : (b : Bool) → nat_lt n.key limit ≡ b
-        → (if b then Some (entry (node_cell n) (cost_of_rank (rank_left goal n))) else None)
-        ≡ Some (entry c cost)
-        → IsEntry goal limit n c cost
-    by_test false e h = absurd (cc)
-    by_test true e h =
-        let same = some_entry (entry (node_cell n) (cost_of_rank (rank_left goal n))) (entry c cost) h in
-        record {
-          below = less n.key limit e;
-          cell = ap (λ (p : Cell × Cost). p.0) same;
-          cost_is = ap (λ (p : Cell × Cost). p.1) same;
-        }
-      where
-        less : (m n : ℕ) → nat_lt m n ≡ true → m < n
-        less m n e = grind (arith, nat_tests)
-
-below_test : (m n : ℕ) → m < n → nat_lt m n ≡ true
-below_test m n e = grind (arith, nat_tests)
+entry_is goal limit n c cost h1 = grind (arith, common_steps, ltb-true)
 
 -- no state that waits has a lesser sum than the last taken one
 first_no : (g : GridData) (s t : Cell) (x : Taken State) (earlier : List (Taken State)) (v : State)
     (o : Offer State) → IsRun (plain_rule g t) (start_at s) (x ∷ earlier)
     → is_taken (plain_rule g t) (x ∷ earlier) v ≡ false → least_offer (plain_rule g t) earlier v ≡ Some o
     → IsLess (sum_at (plain_rule g t) v o.cost) (sum_at (plain_rule g t) x.state x.cost) → ⊥
-first_no g s t x [] v o is u b less = cc
-first_no g s t x (y ∷ more) v o is u b less =
-    let untaken =
-    (or_false ((plain_rule g t).is_same x.state v) (is_taken (plain_rule g t) (y ∷ more) v) u).1 in
-    let no = is.2.first v o untaken b in
-    let f = (or_false (is_less (sum_at (plain_rule g t) v o.cost) (sum_at (plain_rule g t) x.state x.cost))
-    _ no).0 in
-    let y : is_less (sum_at (plain_rule g t) v o.cost) (sum_at (plain_rule g t) x.state x.cost) ≡ true =
-    less in
-    cc
+first_no g s t x earlier v o h1 h2 h3 h4 = grind (arith, nat_tests, or_false)
 
 module _ {g : GridData} {s t : Cell} (asked : IsAsked g s t (plain_links g)) {at : ℕ} {k : Table}
     {taken : List ℕ}
@@ -171,19 +137,12 @@ module _ {g : GridData} {s t : Cell} (asked : IsAsked g s t (plain_links g)) {at
   -- a node of a key below the last one's was taken
   below_taken : (id : ℕ) (n : Node) → slice_get k.nodes id ≡ Some n → n.key < last_node.key
       → is_taken (plain_rule g t) (h.last ∷ h.earlier) (state_of ByCell n) ≡ true
-  below_taken id n e less =
-      by_test (is_taken (plain_rule g t) (h.last ∷ h.earlier) (state_of ByCell n)) refl
-    where
-      by_test : (b : Bool) → is_taken (plain_rule g t) (h.last ∷ h.earlier) (state_of ByCell n) ≡ b
-          → is_taken (plain_rule g t) (h.last ∷ h.earlier) (state_of ByCell n) ≡ true
-      by_test true u = u
-      by_test false u =
-          let o = order id n e in
-          let lesser : IsLess (sum_at (plain_rule g t) (state_of ByCell n) o.offer.cost) last_sum =
-          ranks_less (sum_at (plain_rule g t) (state_of ByCell n) o.offer.cost) last_sum o.keeps.short
-          last_short (rw (sym o.keeps.key, sym limit_is) less) in
-          absurd (first_no g s t h.last h.earlier (state_of ByCell n) o.offer h.searching.run u
-          (o.best_is u) lesser)
+  below_taken id n e less = true_from_ne_false _ (λ u.
+      let o = order id n e in
+      let lesser : IsLess (sum_at (plain_rule g t) (state_of ByCell n) o.offer.cost) last_sum =
+      ranks_less (sum_at (plain_rule g t) (state_of ByCell n) o.offer.cost) last_sum o.keeps.short
+      last_short (rw (sym o.keeps.key, sym limit_is) less) in
+      first_no g s t h.last h.earlier (state_of ByCell n) o.offer h.searching.run u (o.best_is u) lesser)
 
   module _ (goal : IsAtGoal t k at) where
     at_t : node_cell last_node ≡ t
@@ -192,11 +151,7 @@ module _ {g : GridData} {s t : Cell} (asked : IsAsked g s t (plain_links g)) {at
     -- at the goal nothing is left to go
     sum_cost : last_sum ≡ h.last.cost
     sum_cost =
-        let yes : (plain_rule g t).is_goal h.last.state ≡ true =
-        ap (λ (v : State). (plain_rule g t).is_goal v) (last_state ∙ ap (λ (c : Cell). start_at c) at_t)
-        ∙ is_same-itself t in
-        ap (λ (e : Cost). add_costs h.last.cost e) ((plain_consistent g t).nothing h.last.state yes)
-        ∙ add_costs-no_cost_right h.last.cost
+        grind (arith, nat_tests, last_state, at_t, is_same-itself, plain_consistent, add_costs-no_cost_right)
 
     -- an entry is a taken cell with its least cost, below the goal's
     pub only_closed : (c : Cell) (cost : Cost) → Contains (entries_below t last_node.key k.nodes) (c, cost)
@@ -280,10 +235,7 @@ module _ {g : GridData} {s t : Cell} (asked : IsAsked g s t (plain_links g)) {at
           where
             made_entry : (n : Node) (c : Cell) (cost : Cost) → n.key < last_node.key → node_cell n ≡ c
                 → cost_of_rank (rank_left t n) ≡ cost → entry_below t last_node.key n ≡ Some (c, cost)
-            made_entry n c cost under cell paid =
-                let yes : nat_lt n.key last_node.key ≡ true = below_test n.key last_node.key under in
-                rw yes (ap (λ (d : Cell). Some (entry d (cost_of_rank (rank_left t n)))) cell
-                ∙ ap (λ (d : Cost). Some (entry c d)) paid)
+            made_entry n c cost h1 h2 h3 = grind (arith, nat_tests, lt-ltb)
 
     -- nodes are of different cells, in columns of the map
     one_made : (i j : ℕ) (a b : Node) (y z : Cell × Cost) → slice_get k.nodes i ≡ Some a

@@ -54,21 +54,24 @@ module _ {g : GridData} {s t : Cell} (asked : IsAsked g s t (plain_links g)) {at
     (h : HasTaken g s t at k taken) where
   -- what the offers of the last state ask for
   pub may_go_on : (space : SpaceData) → space.table ≡ k → IsReady g space → (n : Node)
-      → slice_get k.nodes at ≡ Some n → MayExpand g t at n space
+      → slice_get space.table.nodes at ≡ Some n → MayExpand g t at n space
   may_go_on space e ready n read =
       subst (λ (m : Node). MayExpand g t at m space)
-      (some_node h.searching.node n (sym h.searching.node_is ∙ read))
+      (some_node h.searching.node n (sym h.searching.node_is ∙ ap (λ (l : Table). slice_get l.nodes at)
+      (sym e)
+      ∙ read))
       (may_expand asked h.last h.earlier at h.searching space e ready.width ready.places)
 
   -- after the offers
-  pub has_offered : (later : Table)
+  pub has_offered : (now later : Table) → now ≡ k
       → ((n : Node) → slice_get k.nodes at ≡ Some n → is_same (node_cell n) t ≡ false)
-      → ((n : Node) → slice_get k.nodes at ≡ Some n → HasExpanded g t at n k later)
+      → ((n : Node) → slice_get now.nodes at ≡ Some n → HasExpanded g t at n now later)
       → search.HasOffered ByCell g.width t (plain_links g) s at later taken
-  has_offered later open_ended expanded =
+  has_offered now later same open_ended expanded =
       let node = h.searching.node in
       let best = least_offer (plain_rule g t) h.earlier in
-      let e = expanded node h.searching.node_is in
+      let e = subst (λ (l : Table). (n : Node) → slice_get l.nodes at ≡ Some n → HasExpanded g t at n l later)
+      same expanded node h.searching.node_is in
       let by = (state_told node.place).arrival in
       let cell : h.last.state.cell ≡ node_cell node = ap (λ (u : State). u.cell) (sym h.searching.state) in
       let ended : is_same h.last.state.cell t ≡ false =

@@ -1,4 +1,5 @@
 -- A legal move that is not kept leads where the parent's move is legal too.
+use Rattle.std.proofs.lemmas.Bool.Decides.{nat_tests}
 use Rattle.std.proofs.Common.{◌≡◌, ℕ, ◌+◌, ◌⊎◌, inl, inr, refl, ap, sym, ◌∙◌, arith, Bool, true, false, ◌&&◌}
 use Rattle.std.proofs.Common.{◌||◌, not}
 use Rattle.std.specs.Prelude.{Some}
@@ -20,11 +21,7 @@ use Rattle.plain_search.proofs.Leaving.{beside_in_column, at_corner}
 -- a straight move that is not kept
 not_kept : (away toward beside beyond : Bool) → (true && (away || not (toward || beside || beyond))) ≡ false
     → (away ≡ false) × ((toward ≡ true) ⊎ (beside ≡ true) ⊎ (beyond ≡ true))
-not_kept true t b c h = absurd (cc)
-not_kept false true b c h = (refl, inl refl)
-not_kept false false true c h = (refl, inr (inl refl))
-not_kept false false false true h = (refl, inr (inr refl))
-not_kept false false false false h = absurd (cc)
+not_kept away toward beside beyond h1 = grind (arith, nat_tests)
 
 -- a diagonal move that is not kept
 not_kept_diagonal : (column row p q : Bool) → (true && (column || row || not (p || q))) ≡ false
@@ -53,16 +50,10 @@ module _ (g : GridData) (p x v : Cell) (a : Around) (s : Behind) (around : IsAro
       [ inl r ↦ inr (lies.right r ∙ sym e) | inr r ↦ inl (lies.column l r) ]
 
   column_left : s.right ≡ false → x.x ≡ v.x + 1 → (p.x ≡ x.x) ⊎ (p.x ≡ v.x)
-  column_left r e = elim (cases_Bool s.left) [
-    | inl l ↦ inr (let f = lies.left l in omega arith)
-    | inr l ↦ inl (lies.column l r)
-  ]
+  column_left h1 h2 = grind (arith, nat_tests, cases_Bool)
 
   row_above : s.below ≡ false → x.y ≡ v.y + 1 → (p.y ≡ x.y) ⊎ (p.y ≡ v.y)
-  row_above b e = elim (cases_Bool s.above) [
-    | inl u ↦ inr (let f = lies.above u in omega arith)
-    | inr u ↦ inl (lies.row u b)
-  ]
+  row_above h1 h2 = grind (arith, nat_tests, cases_Bool)
 
   row_below : s.above ≡ false → v.y ≡ x.y + 1 → (p.y ≡ x.y) ⊎ (p.y ≡ v.y)
   row_below u e = elim (cases_Bool s.below)

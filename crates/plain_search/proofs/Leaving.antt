@@ -1,7 +1,9 @@
 -- What a state leaves out its parent has offered: the parent's move to that cell is legal.
-use Rattle.std.proofs.Common.{◌≡◌, ℕ, zero, suc, ◌+◌, ◌≤◌, ◌⊎◌, inl, inr, refl, ap, sym, ◌∙◌, arith, true}
+use Rattle.std.proofs.lemmas.Grind.{common_steps}
+use Rattle.std.proofs.lemmas.Bool.Decides.{nat_tests}
+use Rattle.std.proofs.Common.{◌≡◌, ℕ, zero, suc, ◌+◌, ◌≤◌, ◌⊎◌, arith, true}
 use Rattle.std.proofs.Common.{false}
-use Rattle.std.specs.Prelude.{Option, Some, None, option_and_then}
+use Rattle.std.specs.Prelude.{Some}
 use Rattle.grid_moves.specs.declared.Cell.{Cell}
 use Rattle.grid_moves.specs.declared.Dir.{Dir}
 use Rattle.grid_moves.specs.Grid.{GridData, is_free}
@@ -17,16 +19,7 @@ some_number m n e = cc
 -- the column and the row of what lies ahead
 pub ahead_parts : (d : Dir) (c v : Cell) → ahead d c ≡ Some v
     → (column_ahead d c.x ≡ Some v.x) × (row_ahead d c.y ≡ Some v.y)
-ahead_parts d c v e = by_column (column_ahead d c.x) refl (row_ahead d c.y) refl e
-  where
-    by_column : (o : Option ℕ) → column_ahead d c.x ≡ o → (q : Option ℕ) → row_ahead d c.y ≡ q
-        → option_and_then (λ x. option_and_then (λ y. Some (record { x = x; y = y })) q) o ≡ Some v
-        → (column_ahead d c.x ≡ Some v.x) × (row_ahead d c.y ≡ Some v.y)
-    by_column None f q h e = absurd (cc)
-    by_column (Some x) f None h e = absurd (cc)
-    by_column (Some x) f (Some y) h e =
-        let one : record { x = x; y = y } ≡ v = cc in
-        (f ∙ ap (λ (w : Cell). Some w.x) one, h ∙ ap (λ (w : Cell). Some w.y) one)
+ahead_parts d c v h1 = grind (arith, nat_tests)
 
 pub before_is : (m n : ℕ) → before m ≡ Some n → m ≡ n + 1
 before_is zero n e = absurd (cc)
@@ -42,18 +35,7 @@ pub record LiesAt (p x : Cell) (s : Behind) : Type 0 where
   pub row : s.above ≡ false → s.below ≡ false → p.y ≡ x.y
 
 pub lies_at : (d : Dir) (p x : Cell) → ahead d p ≡ Some x → LiesAt p x (sides_of (Some d))
-lies_at d p x e =
-    let f = ahead_parts d p x e in
-    let column = f.0 in
-    let row = f.1 in
-    record {
-      left = λ h. grind (arith, before_is);
-      right = λ h. grind (arith, before_is);
-      column = λ h k. grind (arith, before_is);
-      above = λ h. grind (arith, before_is);
-      below = λ h. grind (arith, before_is);
-      row = λ h k. grind (arith, before_is);
-    }
+lies_at d p x h1 = grind (arith, common_steps, ahead_parts, before_is)
 
 module _ (g : GridData) (p x v : Cell) (into : is_legal g p x ≡ true) (on : is_legal g x v ≡ true)
     (other : is_same p v ≡ false) where
@@ -64,63 +46,31 @@ module _ (g : GridData) (p x v : Cell) (into : is_legal g p x ≡ true) (on : is
   o = legal_is g x v on
 
   differ : p.x ≡ v.x → p.y ≡ v.y → ⊥
-  differ e f =
-      let one : p ≡ v = same_cell p v e f in
-      let yes : is_same p v ≡ true = ap (λ (c : Cell). is_same p c) (sym one) ∙ is_same-itself p in
-      absurd (cc)
+  differ h1 h2 = grind (arith, nat_tests, same_cell, is_same-itself)
 
   -- to a near cell, where both cells beside the move are free
   by_corners : p.x ≤ v.x + 1 → v.x ≤ p.x + 1 → p.y ≤ v.y + 1 → v.y ≤ p.y + 1
       → is_free g (corner_of p v) ≡ true → is_free g (corner_of v p) ≡ true → is_legal g p v ≡ true
-  by_corners a b c d one two = is_legal-from g p v (record {
-    source = i.source;
-    target = o.target;
-    passes = rw (one, two) (passable-both g.corner);
-    x_low = a;
-    x_high = b;
-    y_low = c;
-    y_high = d;
-    differ = differ;
-  })
+  by_corners h1 h2 h3 h4 h5 h6 = grind (arith, nat_tests, is_legal-from, i, o, passable-both, differ)
 
   -- in one column
   in_column : p.x ≡ v.x → p.y ≤ v.y + 1 → v.y ≤ p.y + 1 → is_legal g p v ≡ true
-  in_column e c d =
-      by_corners (omega arith) (omega arith) c d
-      (ap (λ (w : Cell). is_free g w) (same_cell (corner_of p v) v e refl) ∙ o.target)
-      (ap (λ (w : Cell). is_free g w) (same_cell (corner_of v p) p (sym e) refl) ∙ i.source)
+  in_column h1 h2 h3 = grind (arith, nat_tests, by_corners, same_cell, o, i)
 
   -- in one row
   in_row : p.y ≡ v.y → p.x ≤ v.x + 1 → v.x ≤ p.x + 1 → is_legal g p v ≡ true
-  in_row e c d =
-      by_corners c d (omega arith) (omega arith)
-      (ap (λ (w : Cell). is_free g w) (same_cell (corner_of p v) p refl (sym e)) ∙ i.source)
-      (ap (λ (w : Cell). is_free g w) (same_cell (corner_of v p) v refl e) ∙ o.target)
+  in_row h1 h2 h3 = grind (arith, nat_tests, by_corners, same_cell, i, o)
 
   -- v beside x in its row: below or above p, or past a free cell
   pub beside_in_row : v.y ≡ x.y → (p.x ≡ v.x) ⊎ ((p.x ≡ x.x) × (is_free g (corner_of v p) ≡ true))
       → is_legal g p v ≡ true
-  beside_in_row e (inl f) =
-      in_column f (let a = i.y_low in omega arith) (let a = i.y_high in omega arith)
-  beside_in_row e (inr f) =
-      by_corners (let a = o.x_low in let s = f.0 in omega arith) (let a = o.x_high in let s = f.0 in
-      omega arith)
-      (let a = i.y_low in omega arith) (let a = i.y_high in omega arith)
-      (ap (λ (w : Cell). is_free g w) (same_cell (corner_of p v) x f.0 e) ∙ i.target) f.1
+  beside_in_row h1 h2 = grind (arith, nat_tests, in_column, i, by_corners, o, same_cell)
 
   -- v above or below x in its column
   pub beside_in_column : v.x ≡ x.x → (p.y ≡ v.y) ⊎ ((p.y ≡ x.y) × (is_free g (corner_of p v) ≡ true))
       → is_legal g p v ≡ true
-  beside_in_column e (inl f) =
-      in_row f (let a = i.x_low in omega arith) (let a = i.x_high in omega arith)
-  beside_in_column e (inr f) =
-      by_corners (let a = i.x_low in omega arith) (let a = i.x_high in omega arith)
-      (let a = o.y_low in let s = f.0 in omega arith) (let a = o.y_high in let s = f.0 in omega arith) f.1
-      (ap (λ (w : Cell). is_free g w) (same_cell (corner_of v p) x e f.0) ∙ i.target)
+  beside_in_column h1 h2 = grind (arith, nat_tests, in_row, i, by_corners, o, same_cell)
 
   -- v at a corner of x, where p lies in the column of one of them and in the row of one
   pub at_corner : (p.x ≡ x.x) ⊎ (p.x ≡ v.x) → (p.y ≡ x.y) ⊎ (p.y ≡ v.y) → is_legal g p v ≡ true
-  at_corner (inl e) (inl f) = absurd (i.differ e f)
-  at_corner (inr e) (inr f) = absurd (differ e f)
-  at_corner (inl e) (inr f) = in_row f (let a = o.x_low in omega arith) (let a = o.x_high in omega arith)
-  at_corner (inr e) (inl f) = in_column e (let a = o.y_low in omega arith) (let a = o.y_high in omega arith)
+  at_corner h1 h2 = grind (arith, nat_tests, i, differ, in_row, o, in_column)

@@ -1,5 +1,6 @@
 -- A taken state's offers of moves, over any links from cell to cell.
-use Rattle.std.proofs.Common.{◌≡◌, ℕ, ◌+◌, ◌<◌, ◌≤◌, ◌^◌, List, ◌∷◌, refl, ap, sym, ◌∙◌, subst, true, arith}
+use Rattle.std.proofs.lemmas.Grind.{common_steps}
+use Rattle.std.proofs.Common.{◌≡◌, ℕ, ◌+◌, ◌<◌, ◌≤◌, ◌^◌, List, ◌∷◌, ap, sym, ◌∙◌, subst, true, arith}
 use Rattle.std.specs.Prelude.{Some}
 use Rattle.root2_cost.specs.declared.Cost.{Cost}
 use Rattle.root2_cost.specs.Rank.{rank_of}
@@ -59,12 +60,7 @@ module _ {width height : ℕ} {s t : Cell} {link : Links} (fit : IsSearch width 
 
   module _ (d : Dir) (v : Cell) (l : IsLinked link (node_cell i.node) d v) where
     over : IsOver ByCell link x at (offer_to at (rank_left t i.node) v d) (dir_cost d)
-    over = record {
-      linked = ap (λ (u : State). link.step u (start_at v)) state_is ∙ l.step;
-      ranked = ap (λ (r : ℕ). r + rank_of (dir_cost d)) left ∙ sym (rank-add_costs x.cost (dir_cost d));
-      parent = refl;
-      led = ap (λ (u : State). link.led u (record { cell = v; arrival = Some d })) state_is ∙ l.led;
-    }
+    over = grind (arith, common_steps, state_is, left, rank-add_costs)
 
     -- no key falls
     pub key_over : i.node.key ≤ (node_for t (offer_to at (rank_left t i.node) v d)).key

@@ -1,7 +1,8 @@
 -- A state's offers of the moves that are kept make the least offers those after it.
+use Rattle.std.proofs.lemmas.Grind.{common_steps}
+use Rattle.std.proofs.lemmas.Bool.Decides.{nat_tests}
 use Rattle.std.proofs.Common.{◌≡◌, ℕ, ◌*◌, ◌⊎◌, inl, inr, List, [], ◌∷◌, refl, ap, sym, ◌∙◌, subst, Bool}
 use Rattle.std.proofs.Common.{true, false, arith}
-use Rattle.std.specs.Option.{option_map_or}
 use Rattle.std.specs.Prelude.{Option, Some, None, if◌then◌else◌}
 use Rattle.std.proofs.lemmas.Bool.{cases_Bool}
 use Rattle.root2_cost.specs.declared.Cost.{Cost}
@@ -48,11 +49,7 @@ use Rattle.plain_search.proofs.Walks.{IsMove, link_move, legal_link, move_cost-e
 -- an open move is a link
 pub open_linked : (g : GridData) (c : Cell) (d : Dir) (v : Cell) → LeadsTo g c d v
     → IsLinked (plain_links g) c d v
-open_linked g c d v l = record {
-  step = legal_link g c v l.legal ∙ ap (λ (e : Cost). Some e) (cost_there d c v l.ahead_is);
-  led = ap (λ (o : Option Cell). option_map_or (λ (w : Cell). is_same w v) o false) l.ahead_is
-      ∙ is_same-itself v;
-}
+open_linked g c d v h1 = grind (arith, common_steps, legal_link, cost_there, is_same-itself)
 
 module _ (g : GridData) (a : Around) (sides : Behind) where
   abbrev kept : Around
@@ -151,13 +148,8 @@ among a c d h (e ∷ dirs) (there_is z w m) = by_flag (is_open_to a e) (among a 
     by_flag false q = q
 
 -- what is led leads ahead
-led_ahead : (u v : Cell) (d : Dir) → is_led u v (Some d) ≡ true → ahead d u ≡ Some v
-led_ahead u v d h = by_cell (ahead d u) refl h
-  where
-    by_cell : (o : Option Cell) → ahead d u ≡ o → option_map_or (λ (c : Cell). is_same c v) o false ≡ true
-        → ahead d u ≡ Some v
-    by_cell None e h = absurd (cc)
-    by_cell (Some w) e h = e ∙ ap (λ (c : Cell). Some c) (is_same-cell w v h)
+pub led_ahead : (u v : Cell) (d : Dir) → is_led u v (Some d) ≡ true → ahead d u ≡ Some v
+led_ahead u v d h1 = grind (arith, nat_tests, is_same-cell)
 
 -- a move leads to another cell
 ahead_apart : (d : Dir) (u : Cell) → ahead d u ≡ Some u → ⊥

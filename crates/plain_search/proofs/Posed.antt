@@ -1,4 +1,5 @@
 -- A search over legal moves is posed on its grid, and takes few moves.
+use Rattle.std.proofs.lemmas.Grind.{common_steps}
 use Rattle.std.proofs.Common.{◌≡◌, ◌+◌, ◌*◌, ◌≤◌, length, List, [], ◌∷◌, refl, ap, ◌∙◌, true}
 use Rattle.std.proofs.Common.{arith}
 use Rattle.root2_cost.specs.declared.Cost.{Cost}
@@ -40,24 +41,14 @@ plain_asked g s t whole from to = record { are = plain_are_moves g; whole = whol
 pub placed : (g : GridData) → IsGrid g → (space : SpaceData) → space.width ≡ g.width
     → space.places ≡ g.height * g.width → (v : Cell) → is_free g v ≡ true
     → IsPlaced space.width space.places v
-placed g whole space width places v free =
-    let in_map = free_inside g v free in
-    let below = free_below g v free in
-    let low = whole.sides.low in
-    rw (width, places) (record { column = in_map.0; row = (let y = in_map.1 in omega arith); within = below })
+placed g h1 space h2 h3 v h4 = grind (arith, common_steps, free_inside, free_below)
 
 module _ {g : GridData} {s t : Cell} {link : Links} (asked : IsAsked g s t link) where
   abbrev rule : Rule State
   rule = search_rule g.width t link
 
   pub posed : IsPosed g.width g.height s t link
-  posed = record {
-    narrow = asked.whole.sides.narrow;
-    low = asked.whole.sides.low;
-    start_on = free_inside g s asked.from;
-    goal_near = asked.to;
-    links = asked.are.links;
-  }
+  posed = grind (arith, common_steps, free_inside)
 
   -- each taken state is that of a free cell's start
   pub run_free : (run : List (Taken State)) → IsRun rule (start_at s) run → (u : Taken State)
@@ -93,11 +84,4 @@ module _ {g : GridData} {s t : Cell} {link : Links} (asked : IsAsked g s t link)
       let before = moves_within (y ∷ earlier) is.0 u m in omega arith
 
   pub fit : IsSearch g.width g.height s t link
-  fit = record {
-    posed = posed;
-    few = λ run u is m.
-        let n = moves_within run is u m in
-        let k = few_taken posed run is in
-        let c = few_cells g asked.whole in
-        omega arith;
-  }
+  fit = grind (arith, common_steps, posed, moves_within, few_taken, few_cells)

@@ -1,4 +1,6 @@
 -- The reached cells of a search that ended without its goal.
+use Rattle.std.proofs.lemmas.Grind.{common_steps}
+use Rattle.std.proofs.lemmas.Bool.Decides.{nat_tests}
 use Rattle.std.proofs.Common.{◌≡◌, ℕ, suc, ◌+◌, ◌*◌, ◌/◌, ◌%◌, ◌<◌, ◌≤◌, List, [], ◌∷◌, refl, ap, sym, ◌∙◌}
 use Rattle.std.proofs.Common.{subst, arith, map, true, reverse}
 use Rattle.std.proofs.Math.Nat.{add-mul-mod_self_right, mod-eq_of_lt}
@@ -65,14 +67,7 @@ module _ {g : GridData} {s t : Cell} (asked : IsAsked g s t (plain_links g)) {ta
   plain_at u m = run_free asked x.run x.is_run u m
 
   number_at : (u : Taken State) → IsIn u x.run → state_number g.width u.state < 65536 * g.width * 9
-  number_at u m =
-      let f = free_inside g u.state.cell (plain_at u m).0 in
-      let below = state_below g.width g.height u.state (f.0, f.1) in
-      let low = asked.whole.sides.low in
-      spread g.height g.width (state_number g.width u.state) low below
-    where
-      spread : (h w n : ℕ) → h ≤ 4096 → n < h * w * 9 → n < 65536 * w * 9
-      spread h w n l b = grind arith
+  number_at u h1 = grind (arith, nat_tests, free_inside, plain_at, state_below)
 
   numbers : (states : List ℕ) → states ≡ numbers_of g.width x.run → (n : ℕ) → Contains states n
       → (u : Taken State) × IsIn u x.run × (state_number g.width u.state ≡ n)
@@ -120,11 +115,7 @@ module _ {g : GridData} {s t : Cell} (asked : IsAsked g s t (plain_links g)) {ta
   module _ (reached : List Cell) (by : IsSortedFrom (λ (c : Cell). c) (map (cell_of_number g.width) taken)
       reached) where
     joined : IsPermutation (filter_map taken_cell x.run) reached
-    joined = subst (λ (cs : List Cell). IsPermutation cs reached)
-        (sym (filter_map-some (λ (u : Taken State). u.state.cell) x.run))
-        (IsPermutation-trans (map (λ u. u.state.cell) x.run) (map (cell_of_number g.width) taken) reached
-        from_states
-        by.permutation)
+    joined = grind (arith, common_steps, filter_map-some, IsPermutation-trans, from_states)
 
     source : (c : Cell) → Contains reached c → (u : Taken State) × IsIn u x.run × (u.state.cell ≡ c)
     source c m =

@@ -1,8 +1,10 @@
 -- The plain run answers right: its way is a least walk, and it ends without the goal only where no walk leads
 -- there.
-use Rattle.std.proofs.Common.{◌≡◌, ℕ, inl, inr, refl, ap, sym, ◌∙◌, subst, true, false, List, [], ◌∷◌, ◌++◌}
+use Rattle.std.proofs.lemmas.Grind.{common_steps}
+use Rattle.std.proofs.Common.{arith}
+use Rattle.std.proofs.lemmas.Bool.Decides.{nat_tests}
+use Rattle.std.proofs.Common.{◌≡◌, ℕ, refl, ap, sym, ◌∙◌, subst, true, false, List, [], ◌∷◌, ◌++◌}
 use Rattle.std.proofs.Common.{map}
-use Rattle.std.specs.Prelude.{Option, Some, None}
 use Rattle.root2_cost.specs.declared.Cost.{Cost}
 use Rattle.root2_cost.specs.Order.{IsAtMost}
 use Rattle.root2_cost.specs.Sums.{add_costs}
@@ -14,7 +16,6 @@ use Rattle.grid_moves.specs.Reply.{StandsForLeast}
 use Rattle.grid_moves.specs.Walk.{cost_of, last_of, IsLeastWalk, IsWalk, NoWalk}
 use Rattle.grid_moves.proofs.Legal.{is_same-itself}
 use Rattle.grid_moves.proofs.Walks.{Goes, one_more}
-use Rattle.path_points.specs.declared.points.Walk.{Walk}
 use Rattle.path_points.specs.Corners.{corners}
 use Rattle.path_points.specs.Least.{IsLeastOrNone}
 use Rattle.path_points.proofs.Corners.{corners_unfold}
@@ -66,11 +67,7 @@ module _ (g : GridData) (t : Cell) (link : Links) (are : AreMoves g link) where
   way_stays : (x : Taken State) (earlier : List (Taken State)) (v : State)
       → is_taken rule earlier x.state ≡ false → is_taken rule earlier v ≡ true
       → is_same_state x.state v ≡ false
-  way_stays x earlier v n y = elim (same_or_not (is_same_state x.state v)) [
-    | inl e ↦ absurd (let both : is_taken rule earlier v ≡ false =
-        subst (λ (u : State). is_taken rule earlier u ≡ false) (is_same_state-state x.state v e) n in cc)
-    | inr e ↦ e
-  ]
+  way_stays x earlier v h1 h2 = grind (arith, nat_tests, same_or_not, is_same_state-state)
 
   pub way : (s : Cell) (run : List (Taken State)) → is_free g s ≡ true → IsRun rule (start_at s) run
       → (u : Taken State) → IsIn u run → HasWay g rule s run u.state u.cost
@@ -168,9 +165,4 @@ module _ (g : GridData) (s t : Cell) where
 
   -- so a run's answer is right
   pub run_least : (f : Found) → is_free g s ≡ true → IsPlainRun g s t f → IsLeastOrNone g s t f.walk
-  run_least f free run = by_walk f.walk run
-    where
-      by_walk : (o : Option Walk) → IsPlainRun g s t (record { walk = o; taken = f.taken })
-          → IsLeastOrNone g s t o
-      by_walk None run = exhausted_none f.taken run
-      by_walk (Some w) run = found_least w.points w.cost f.taken free run
+  run_least f h1 h2 = grind (arith, common_steps, exhausted_none, found_least)

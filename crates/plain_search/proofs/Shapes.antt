@@ -1,5 +1,7 @@
 -- What stays while a state makes its offers.
-use Rattle.std.proofs.Common.{ℕ, ◌∙◌, sym, subst}
+use Rattle.std.proofs.Common.{arith}
+use Rattle.std.proofs.lemmas.Grind.{common_steps}
+use Rattle.std.proofs.Common.{◌∙◌}
 use Rattle.grid_moves.specs.declared.Cell.{Cell}
 use Rattle.best_first.specs.Space.{SpaceData, IsPlaced, KeepsShape}
 use Rattle.grid_moves.specs.Grid.{GridData}
@@ -13,16 +15,8 @@ p ▸ q = record { layout = q.layout ∙ p.layout; places = q.places ∙ p.place
 -- what leads to a place still does
 pub still : {a b : SpaceData} {v : Cell} {P Q : Type 0} → KeepsShape a b
     → (P → IsPlaced a.width a.places v × Q) → P → IsPlaced b.width b.places v × Q
-still {a} {b} {v} s may p = (
-  subst (λ (w : ℕ). IsPlaced w b.places v) (sym s.width)
-      (subst (λ (n : ℕ). IsPlaced a.width n v) (sym s.places) (may p).0),
-  (may p).1,
-)
+still h1 h2 h3 = grind (arith, common_steps)
 
 -- a space that is ready stays so
 pub ready_on : {a b : SpaceData} (g : GridData) → IsReady g a → KeepsShape a b → IsReady g b
-ready_on g r s = record {
-  layout = s.layout ∙ r.layout;
-  places = s.places ∙ r.places;
-  width = s.width ∙ r.width;
-}
+ready_on g h1 h2 = grind (arith, common_steps)

@@ -1,5 +1,7 @@
 -- From what a pass in waves tells to the least costs to all cells.
-use Rattle.std.proofs.Common.{◌≡◌, ℕ, ◌*◌, length, List, refl, ap, sym, ◌∙◌, subst, map, true}
+use Rattle.std.proofs.Common.{arith}
+use Rattle.std.proofs.lemmas.Grind.{common_steps}
+use Rattle.std.proofs.Common.{◌≡◌, ℕ, ◌*◌, length, List, ap, ◌∙◌, subst, map, true}
 use Rattle.std.specs.Prelude.{Option, Some, None, slice_get, option_map, Result, Ok, Err, IfOk}
 use Rattle.std.proofs.lemmas.Option.{slice_get-map, get_or_from_slice_get}
 use Rattle.root2_cost.specs.declared.Cost.{Cost}
@@ -26,13 +28,7 @@ module _ (g : GridData) (s : Cell) (w : WaveData) (wide : w.width ≡ g.width) (
 
   pub are_costs : (costs : List (Option Cost)) → costs ≡ map (λ r. cost_told r) w.ranks
       → length costs ≡ w.height * w.width → AreCostsToAll g s costs
-  are_costs costs made whole = record {
-    as_many = whole ∙ ap (λ (n : ℕ). n * w.width) high ∙ ap (λ (n : ℕ). g.height * n) wide;
-    right = λ c entry on h. entry_is c entry on (slice_get w.ranks (cell_number w.width c)) refl
-        (sym (slice_get-map (λ r. cost_told r) w.ranks (cell_number w.width c))
-        ∙ ap (λ (es : List (Option Cost)). slice_get es (cell_number w.width c)) (sym made)
-        ∙ ap (λ (n : ℕ). slice_get costs (cell_number n c)) wide ∙ h);
-  }
+  are_costs costs h1 h2 = grind (arith, common_steps, entry_is, slice_get-map)
 
   pub costs_if : {X E : Type 0} (items : X → List (Option Cost)) (r : Result X E)
       → IfOk r (λ v. items v ≡ map (λ n. cost_told n) w.ranks)

@@ -1,7 +1,7 @@
 -- Walks as lists of cells: one more move, and walks as chains of links.
-use Rattle.std.proofs.Common.{◌≡◌, ℕ, ◌+◌, ◌≤◌, arith, refl, ap, sym, ◌∙◌, Bool, true, false, ◌||◌}
+use Rattle.std.proofs.Common.{◌≡◌, arith, refl, ap, sym, ◌∙◌, Bool, true, false}
 use Rattle.std.proofs.Common.{List, [], ◌∷◌}
-use Rattle.std.specs.Prelude.{Some, None, Option, if◌then◌else◌, nat_eq}
+use Rattle.std.specs.Prelude.{Some, None, Option, if◌then◌else◌}
 use Rattle.std.proofs.lemmas.Bool.Decides.{nat_tests}
 use Rattle.std.proofs.lemmas.Bool.{false_from_ne_true}
 use Rattle.root2_cost.specs.declared.Cost.{Cost}
@@ -10,7 +10,7 @@ use Rattle.grid_moves.specs.declared.Cell.{Cell}
 use Rattle.grid_moves.specs.declared.Dir.{Dir}
 use Rattle.grid_moves.specs.Grid.{GridData, is_free}
 use Rattle.grid_moves.specs.Move.{is_legal, is_same, move_cost}
-use Rattle.grid_moves.specs.Points.{apart, estimate}
+use Rattle.grid_moves.specs.Points.{estimate}
 use Rattle.grid_moves.specs.Walk.{is_walk, cost_of, last_of}
 use Rattle.grid_moves.proofs.Legal.{IsLegal, and_both, legal_is, is_same-cell, free_inside}
 use Rattle.grid_moves.proofs.Walks.{Goes}
@@ -57,34 +57,7 @@ legal_link g u v l = rw l refl
 
 -- the octile distance of two neighbours is what a move between them costs
 pub move_cost-estimate : (g : GridData) (u v : Cell) → is_legal g u v ≡ true → move_cost u v ≡ estimate u v
-move_cost-estimate g u v l = by_tests (nat_eq u.x v.x) (nat_eq u.y v.y) refl refl
-  where
-    near : IsLegal g u v
-    near = legal_is g u v l
-
-    same : (m n : ℕ) → nat_eq m n ≡ true → m ≡ n
-    same m n e = grind (arith, nat_tests)
-
-    other : (m n : ℕ) → nat_eq m n ≡ false → m ≡ n → ⊥
-    other m n e f = grind (arith, nat_tests)
-
-    along : (m n : ℕ) → m ≤ n + 1 → n ≤ m + 1 → (m ≡ n → ⊥) → apart m n ≡ 1
-    along m n h k ne = omega arith
-
-    still : (m n : ℕ) → m ≡ n → apart m n ≡ 0
-    still m n e = omega arith
-
-    by_tests : (a b : Bool) → nat_eq u.x v.x ≡ a → nat_eq u.y v.y ≡ b
-        → (if a || b then record { a = 1; b = 0 } else record { a = 0; b = 1 }) ≡ estimate u v
-    by_tests true true e f = absurd (near.differ (same u.x v.x e) (same u.y v.y f))
-    by_tests true false e f =
-        rw (still u.x v.x (same u.x v.x e), along u.y v.y near.y_low near.y_high (other u.y v.y f)) refl
-    by_tests false true e f =
-        rw (along u.x v.x near.x_low near.x_high (other u.x v.x e), still u.y v.y (same u.y v.y f)) refl
-    by_tests false false e f = rw (
-      along u.x v.x near.x_low near.x_high (other u.x v.x e),
-      along u.y v.y near.y_low near.y_high (other u.y v.y f),
-    ) refl
+move_cost-estimate g u v h1 = grind (arith, nat_tests, IsLegal, legal_is)
 
 -- a legal move leads to another cell
 pub legal_apart : (g : GridData) (u v : Cell) → is_legal g u v ≡ true → is_same u v ≡ false

@@ -42,7 +42,18 @@ module _ (w : ℕ) (floor : Cell → ℤ) (c : Cell) where
       → ascend_from w (cell_number w c) (cells_in entries) ≡ true
       → ascend_from w (cell_number w c + 1) (cells_in (rest_after entries c)) ≡ true
   rest_ascends h entries h1 h2 h3 =
-      grind (arith, nat_tests, and_parts, leb-true, cases_Bool, same_number, ltb-true, le-leb, one_cell, is_same-itself)
+      grind (
+        arith,
+        nat_tests,
+        and_parts,
+        leb-true,
+        cases_Bool,
+        same_number,
+        ltb-true,
+        le-leb,
+        one_cell,
+        is_same-itself,
+      )
 
   -- they lie inside too
   pub rest_inside : (h : ℕ) (entries : List (Cell × ℤ)) → list_all (lies_inside w h) (cells_in entries) ≡ true

@@ -157,8 +157,8 @@ module _ (g : GridData) (s t : Cell) (cost : Cost) (points : List Cell) where
       judged_bad (Ok paid) tells (length points) (other paid begins tells.walk off)
 
   -- it is right
-  pub judged_right : (paid : Cost) → begins_at s points ≡ true → IsVerdict g points (Ok paid) → ends_at t points ≡ true
-      → is_cost paid cost ≡ true → JudgesWalk g s t cost points None
+  pub judged_right : (paid : Cost) → begins_at s points ≡ true → IsVerdict g points (Ok paid)
+      → ends_at t points ≡ true → is_cost paid cost ≡ true → JudgesWalk g s t cost points None
   judged_right paid begins tells ends priced =
       let right = short_right paid tells.walk begins ends priced in
       record {

@@ -57,12 +57,8 @@ last_read most n digits low are =
 
 -- a word at the beginning
 pub word_read : (word rest : List ℕ) → after_word word (word ++ rest) ≡ Some rest
-word_read word rest = rw (
-  le-leb (length word) (length (word ++ rest)) (omega (arith, length-append word rest)),
-  take-append_seam word rest,
-  (bytes_eq-Decides word word).1 refl,
-  drop-append_seam word rest,
-) refl
+word_read word rest =
+    grind (arith, nat_tests, le-leb, length-append, take-append_seam, bytes_eq-Decides, drop-append_seam)
 
 -- pairs of numbers
 pub pair_read : (m n : ℕ) → m < 10 ^ 9 → n < 10 ^ 9 → two_numbers (pair_text m n) ≡ Some (m, n)

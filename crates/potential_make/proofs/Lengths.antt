@@ -1,5 +1,6 @@
 -- How long the text of a certificate is.
-use Rattle.std.proofs.Common.{◌≡◌, ℕ, ◌+◌, ◌*◌, ◌^◌, ◌≤◌, Bool, true, List, [], ◌∷◌, ◌++◌, length}
+use Rattle.std.proofs.lemmas.Bool.Decides.{nat_tests}
+use Rattle.std.proofs.Common.{◌≡◌, ℕ, ◌+◌, ◌*◌, ◌^◌, ◌≤◌, Bool, true, List, [], ◌∷◌, length}
 use Rattle.std.proofs.Common.{mul-le-mul}
 use Rattle.std.proofs.Common.{arith}
 use Rattle.std.specs.Prelude.{codes, decimal, nat_le, nat_lt}
@@ -31,11 +32,7 @@ point_length : (c : Cell) → is_short c ≡ true → length (point_text c) ≤ 
 point_length c p = let d = coordinates c p in simp length-append (omega (arith, d.0.few, d.1.few))
 
 value_length : (e : Cell × Cost) → fits_line e ≡ true → length (value_text e) ≤ 36
-value_length e p =
-    let parts = and_parts (is_short e.0) (is_small e.1) p in
-    let cell = coordinates e.0 parts.0 in
-    let cost = cost_digits e.1 parts.1 in
-    simp length-append (omega (arith, cell.0.few, cell.1.few, cost.0, cost.1))
+value_length e h1 = grind (arith, nat_tests, and_parts, coordinates, cost_digits, length-append)
 
 member_length : (c : Cell) → is_short c ≡ true → length (member_text c) ≤ 13
 member_length c p = let d = coordinates c p in simp length-append (omega (arith, d.0.few, d.1.few))
@@ -111,22 +108,11 @@ claim_length width height (NoWalk cells) w h f few =
 
 head_length : (width height : ℕ) (s t : Cell) → width ≤ 4096 → height ≤ 4096 → is_short s ≡ true
     → is_short t ≡ true → length (head_text width height s t) ≤ 60
-head_length width height s t w h p q =
-    let wide = (four_digits width (omega arith)).few in
-    let high = (four_digits height (omega arith)).few in
-    let a = coordinates s p in
-    let b = coordinates t q in
-    simp length-append (omega (arith, wide, high, a.0.few, a.1.few, b.0.few, b.1.few))
+head_length width height s t h1 h2 h3 h4 = grind (arith, nat_tests, four_digits, coordinates, length-append)
 
 -- the whole text
 pub text_length : (width height : ℕ) (s t : Cell) (claim : Claim) → width ≤ 4096 → height ≤ 4096
     → is_short s ≡ true → is_short t ≡ true → Fits width height claim → HasFewPoints claim
     → length (certificate_text width height s t claim) ≤ 2 ^ 30
-text_length width height s t claim w h p q f few =
-    together (head_text width height s t) (claim_text claim) (codes "end\n")
-    (head_length width height s t w h p q)
-    (claim_length width height claim w h f few) (omega arith)
-  where
-    together : (head body last : List ℕ) → length head ≤ 60 → length body ≤ 800000000 → length last ≤ 4
-        → length ((head ++ body) ++ last) ≤ 2 ^ 30
-    together head body last a b c = simp length-append (omega (arith, a, b, c))
+text_length width height s t claim h1 h2 h3 h4 h5 h6 =
+    grind (arith, nat_tests, head_length, claim_length, length-append)

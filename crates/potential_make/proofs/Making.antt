@@ -96,13 +96,7 @@ ascends width n (c ∷ cells) up low =
 -- what a free cell fits
 module _ (g : GridData) (whole : IsGrid g) where
   free_short : (c : Cell) → is_free g c ≡ true → is_short c ≡ true
-  free_short c f =
-      let i = free_inside g c f in
-      let x = i.0 in
-      let y = i.1 in
-      let narrow = whole.sides.narrow in
-      let low = whole.sides.low in
-      grind (arith, nat_tests)
+  free_short c h1 = grind (arith, nat_tests, free_inside)
 
   free_lies : (c : Cell) → is_free g c ≡ true → lies_inside g.width g.height c ≡ true
   free_lies c f = (and_parts (is_inside g c) _ f).0
@@ -133,7 +127,8 @@ turns_short u (v ∷ []) all = all
 turns_short u (v ∷ w ∷ cells) all = grind (arith, cases_Bool, and_parts, turns_short v (w ∷ cells))
 
 value_is : (v : Signed) (c : Cost) → v ≡ signed_of c → is_value v c ≡ true
-value_is v c e = rw (e, (Decides-int_eq (pos c.a) (pos c.a)).1 refl, (Decides-int_eq (pos c.b) (pos c.b)).1 refl) refl
+value_is v c e =
+    rw (e, (Decides-int_eq (pos c.a) (pos c.a)).1 refl, (Decides-int_eq (pos c.b) (pos c.b)).1 refl) refl
 
 module _ (g : GridData) (s t : Cell) (whole : IsGrid g) (from : is_free g s ≡ true)
     (to : is_free g t ≡ true) where
@@ -214,7 +209,8 @@ module _ (g : GridData) (s t : Cell) (whole : IsGrid g) (from : is_free g s ≡ 
             subst (λ (c : Cost). IsAtMost cost c) (add_costs-no_cost_left (estimate s t)) e in
             value_is (potential_of cost t closed s) no_cost
             ((has_potential g s t cost closed lists).far s no_cost start_least e
-            ∙ same_nothing cost (estimate s t) (IsAtMost-antisymmetric cost (estimate s t) most estimate_most))
+            ∙ same_nothing cost (estimate s t) (IsAtMost-antisymmetric cost (estimate s t) most
+            estimate_most))
 
     goal_value : is_value (potential_of cost t closed t) cost ≡ true
     goal_value =
@@ -307,10 +303,7 @@ module _ (g : GridData) (s t : Cell) (whole : IsGrid g) (from : is_free g s ≡ 
         (found_fits found run least lists))
 
     pub short_text : length text ≤ 2 ^ 30
-    short_text = rw written (text_length g.width g.height s t
-        (claim_of found) whole.sides.narrow whole.sides.low
-        (free_short g whole s from) (free_short g whole t to) (found_fits found run least lists)
-        (few_points found run))
+    short_text = grind (arith, nat_tests, text_length, free_short, found_fits, few_points)
 
   accepted_claim : (found : Listed) → IsPlainRun g s t (plain_of found)
       → IsLeastOrNone g s t (plain_of found).walk

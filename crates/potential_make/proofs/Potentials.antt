@@ -1,12 +1,13 @@
 -- The potential of a least cost with its closed cells: what it is, and that no legal move raises it by more
 -- than its cost.
+use Rattle.std.proofs.lemmas.Bool.Decides.{nat_tests}
 use Rattle.std.proofs.Common.{◌≡◌, ℕ, zero, suc, ◌+◌, ◌<◌, ◌⊎◌, inl, inr, length, List, [], ◌∷◌, ◌++◌, refl}
 use Rattle.std.proofs.Common.{ap, ◌∙◌, subst, arith, Bool, true, false}
-use Rattle.std.specs.Prelude.{pos, ◌+ℤ◌, ◌-ℤ◌, ℤ, Option, Some, None, slice_index_or}
+use Rattle.std.specs.Prelude.{pos, ◌+ℤ◌, ◌-ℤ◌, Option, Some, None, slice_index_or}
 use Rattle.std.specs.List.{Contains}
 use Rattle.std.proofs.lemmas.Int.{ints}
 use Rattle.root2_cost.specs.declared.Cost.{Cost}
-use Rattle.root2_cost.specs.Order.{is_less, is_positive, IsLess, IsAtMost}
+use Rattle.root2_cost.specs.Order.{is_less, IsLess, IsAtMost}
 use Rattle.root2_cost.specs.Signed.{add_signed, cost_difference, is_signed_less, signed_of}
 use Rattle.root2_cost.specs.Sums.{add_costs, no_cost}
 use Rattle.root2_cost.proofs.AtMost.{IsAtMost-not_more, IsAtMost-or_more, IsAtMost-trans, less_at_most}
@@ -41,11 +42,7 @@ rise_is a b d e s = omega (arith, ints)
 -- from the difference of a and b a move leads to at most that of d and e
 no_rise : (a b d e step : Cost) → IsAtMost (add_costs d b) (add_costs (add_costs a step) e)
     → is_signed_less (add_signed (cost_difference a b) (signed_of step)) (cost_difference d e) ≡ false
-no_rise a b d e step h =
-    ap (λ (z : ℤ). is_positive z ((pos d.b -ℤ pos e.b) -ℤ ((pos a.b -ℤ pos b.b) +ℤ pos step.b)))
-    (rise_is a.a b.a d.a e.a step.a)
-    ∙ ap (λ (z : ℤ). is_positive (pos (d.a + b.a) -ℤ pos ((a.a + step.a) + e.a)) z)
-    (rise_is a.b b.b d.b e.b step.b) ∙ h
+no_rise a b d e step h1 = grind (arith, nat_tests, rise_is)
 
 less_nothing : (n : ℕ) → pos n ≡ pos n -ℤ pos 0
 less_nothing n = omega (arith, ints)
@@ -56,11 +53,7 @@ signed_is c = same_signed (signed_of c) (cost_difference c no_cost) (less_nothin
 
 -- and the difference of equal costs is nothing
 pub same_nothing : (p q : Cost) → p ≡ q → cost_difference p q ≡ signed_of no_cost
-same_nothing p q e = same_signed (cost_difference p q) (signed_of no_cost) (none p.a q.a (ap (λ (c : Cost). c.a) e))
-    (none p.b q.b (ap (λ (c : Cost). c.b) e))
-  where
-    none : (m n : ℕ) → m ≡ n → pos m -ℤ pos n ≡ pos 0
-    none m n same = omega (arith, ints)
+same_nothing p q h1 = grind (arith, nat_tests, same_signed, ints)
 
 -- what a list says of a cell
 pub record Listed (t : Cell) (cost : Cost) (values : List (Cell × Cost)) (c : Cell)

@@ -174,11 +174,7 @@ plain_points (c ∷ points) all =
     )
 
 plain_value : (e : Cell × Cost) → fits_line e ≡ true → list_all is_plain (value_line e) ≡ true
-plain_value e fits =
-    let f = and_parts (is_short e.0) (is_small e.1) fits in
-    plain_both (codes "value " ++ pair_text e.0.x e.0.y ++ codes " ") (pair_text e.1.a e.1.b)
-    (plain_both (codes "value " ++ pair_text e.0.x e.0.y) (codes " ") (plain_cell e.0 f.0) refl)
-    (plain_cost e.1 f.1)
+plain_value e h1 = grind (arith, nat_tests, and_parts, plain_both, plain_cell, plain_cost)
 
 -- the lines of a list of what passes a test, and the last line
 module _ {X : Type 0} (p : X → Bool) (line text : X → List ℕ) (is : (x : X) → text x ≡ line x ++ 10 ∷ [])
@@ -189,7 +185,8 @@ module _ {X : Type 0} (p : X → Bool) (line text : X → List ℕ) (is : (x : X
   list_lines (x ∷ xs) all =
       let parts = and_parts (p x) (list_all p xs) all in
       let rest : List ℕ = texts_of text xs ++ codes "end\n" in
-      let first : texts_of text (x ∷ xs) ++ codes "end\n" ≡ line x ++ 10 ∷ rest = rw (is x) (simp append_assoc) in
+      let first : texts_of text (x ∷ xs) ++ codes "end\n" ≡ line x ++ 10 ∷ rest = rw (is x)
+      (simp append_assoc) in
       ap lines_of first ∙ lines_then (line x) rest (plain x parts.0)
       ∙ ap (λ (l : List (List ℕ)). line x ∷ l) (list_lines xs parts.1)
 
@@ -263,7 +260,8 @@ claim_lines width height s t (NoWalk cells) f = record {
   lines =
       let rest : List ℕ = texts_of member_text cells ++ codes "end\n" in
       lines_then (codes "none") rest refl
-      ∙ ap (λ (l : List (List ℕ)). codes "none" ∷ l) (list_lines is_short member_line member_text (λ c. simp append_assoc)
+      ∙ ap (λ (l : List (List ℕ)). codes "none" ∷ l) (list_lines is_short member_line member_text
+      (λ c. simp append_assoc)
       plain_cell cells f.cells_short);
   spells = record {
     none_is = refl;

@@ -73,7 +73,8 @@ without_cr_plain (b ∷ c ∷ line) plain =
 -- a line of such bytes and what follows it
 pub lines_then : (line rest : List ℕ) → list_all is_plain line ≡ true
     → lines_of (line ++ 10 ∷ rest) ≡ line ∷ lines_of rest
-lines_then line rest plain = rw (pieces_then is_plain no_feed line rest plain, without_cr_plain line plain) refl
+lines_then line rest plain =
+    rw (pieces_then is_plain no_feed line rest plain, without_cr_plain line plain) refl
 
 pub plain_both : (xs ys : List ℕ) → list_all is_plain xs ≡ true → list_all is_plain ys ≡ true
     → list_all is_plain (xs ++ ys) ≡ true

@@ -1,11 +1,11 @@
 -- What the fields of a line tell.
+use Rattle.std.proofs.lemmas.Bool.Decides.{nat_tests}
 use Rattle.std.proofs.Common.{◌≡◌, ℕ, suc, ◌<◌, arith, refl, ap, sym, ◌∙◌, subst, Bool, true, false, List, []}
 use Rattle.std.proofs.Common.{◌∷◌, length}
 use Rattle.std.specs.Prelude.{Option, Some, None, if◌then◌else◌, map, codes}
 use Rattle.std.specs.Option.{option_map, option_and_then}
 use Rattle.std.proofs.lemmas.Bool.{cases_Bool}
 use Rattle.std.proofs.lemmas.Slice.Eq.{bytes_eq-Decides}
-use Rattle.std.proofs.Common.{inl, inr}
 use Rattle.grid_moves.specs.declared.Cell.{Cell}
 use Rattle.text_line.specs.Fields.{is_nothing}
 use Rattle.walk_judge.specs.declared.telling.Told.{Told}
@@ -57,11 +57,7 @@ as_many (word ∷ words) (p ∷ points) are =
 
 -- the one field `none`
 none_is : (fields : List (List ℕ)) → is_none fields ≡ true → fields ≡ codes "none" ∷ []
-none_is [] is = absurd (cc)
-none_is (word ∷ []) is =
-    let same : word ≡ codes "none" = (bytes_eq-Decides word (codes "none")).0 is in
-    ap (λ (w : List ℕ). w ∷ []) same
-none_is (word ∷ more ∷ fields) is = absurd (cc)
+none_is fields h1 = grind (arith, nat_tests, bytes_eq-Decides)
 
 -- it is no point
 none_no_points : (points : List Cell) → map point_of (codes "none" ∷ []) ≡ some_points points → ⊥
@@ -94,14 +90,7 @@ told_fields word words what read = by_test (is_none (word ∷ words)) refl read
 -- and the other way round
 pub fields_told : (fields : List (List ℕ)) (what : Told) → AreFieldsOf fields what
     → told_in fields ≡ Some what
-fields_told fields told.None are = ap told_in are
-fields_told fields (told.Walk points) are =
-    elim (cases_Bool (is_none fields)) [
-      | inl none ↦
-          let same = ap (λ (f : List (List ℕ)). map point_of f) (sym (none_is fields none)) in
-          absurd (none_no_points points (same ∙ are.1))
-      | inr other ↦ rw (other, points_of_words fields points are.1) refl
-    ]
+fields_told fields what h1 = grind (arith, nat_tests, cases_Bool, none_is, none_no_points, points_of_words)
 
 -- a line that tells something has a field
 pub fields_there : (fields : List (List ℕ)) (what : Told) → AreFieldsOf fields what

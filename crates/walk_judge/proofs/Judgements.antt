@@ -1,10 +1,10 @@
 -- Judgements: each told walk has one, and accepted are the legal least walks.
+use Rattle.std.proofs.lemmas.Bool.Decides.{nat_tests}
 use Rattle.std.proofs.Common.{◌≡◌, ℕ, arith, refl, ap, sym, ◌∙◌, subst, Bool, true, false, List, [], ◌∷◌}
 use Rattle.std.specs.Prelude.{Option, Some, Result, Ok, Err}
 use Rattle.root2_cost.specs.declared.Cost.{Cost}
 use Rattle.root2_cost.specs.Order.{IsAtMost}
 use Rattle.root2_cost.specs.Sums.{no_cost}
-use Rattle.root2_cost.proofs.AtMost.{IsAtMost-antisymmetric}
 use Rattle.grid_moves.specs.declared.Cell.{Cell}
 use Rattle.grid_moves.specs.Grid.{GridData, IsGrid, is_free}
 use Rattle.grid_moves.specs.Reply.{StandsForLeast}
@@ -14,6 +14,7 @@ use Rattle.path_points.specs.Checked.{IsFirstBad, IsShortWalk}
 use Rattle.path_points.proofs.Checks.{IsVerdict, checked_from, verdict_at_start, verdict_from}
 use Rattle.plain_search.specs.Costs.{IsCostTo}
 use Rattle.plain_search.specs.Lists.{IsLeastCost}
+use Rattle.plain_search.proofs.Closing.{one_least}
 use Rattle.potential_check.specs.Accepted.{IsRightWalk, is_cost}
 use Rattle.potential_check.proofs.Walks.{right_begins, right_ends, right_short, is_cost-itself, is_cost-same}
 use Rattle.walk_judge.specs.declared.judging.Judged.{Judged}
@@ -49,15 +50,7 @@ short_not_bad g points cost i w first =
 err_number : (i k : ℕ) (answer : Result Cost BadAt) → answer ≡ Err (record { 0 = i })
     → answer ≡ Err (record { 0 = k })
     → i ≡ k
-err_number i k answer one other =
-    let same : failing (record { 0 = i }) ≡ failing (record { 0 = k }) = sym one ∙ other in
-    bad_number (record { 0 = i }) (record { 0 = k }) same
-  where
-    failing : BadAt → Result Cost BadAt
-    failing bad = Err bad
-
-    bad_number : (a b : BadAt) → failing a ≡ failing b → a.0 ≡ b.0
-    bad_number a b e = let f : a ≡ b = cc in ap (λ (k : BadAt). k.0) f
+err_number i k answer h1 h2 = grind (arith, nat_tests)
 
 first_bad_one : (g : GridData) (points : List Cell) (i k : ℕ) → IsFirstBad g points i → IsFirstBad g points k
     → i ≡ k
@@ -82,13 +75,6 @@ pub none_to_blocked : (g : GridData) (s t : Cell) → is_free g t ≡ false → 
 none_to_blocked g s t blocked cells w = let free = end_free g s t cells w in cc
 
 module _ (g : GridData) (s t : Cell) where
-  least_one : (p q : Cost) → IsLeastCost g s t p → IsLeastCost g s t q → p ≡ q
-  least_one p q one other =
-      sym one.priced
-      ∙ IsAtMost-antisymmetric (cost_of (s ∷ one.cells)) (cost_of (s ∷ other.cells))
-      (one.least.least other.cells other.least.walk) (other.least.least one.cells one.least.walk)
-      ∙ other.priced
-
   right_one : (points : List Cell) (p q : Cost) → IsRightWalk g s t p points → IsRightWalk g s t q points
       → p ≡ q
   right_one points p q one other =
@@ -124,7 +110,7 @@ module _ (g : GridData) (s t : Cell) where
   one_judgement told.None Nothing (Exists q) none least = absurd (none least.cells least.least.walk)
   one_judgement told.None (Exists p) Nothing least none = absurd (none least.cells least.least.walk)
   one_judgement told.None (Exists p) (Exists q) one other = ap (λ (c : Cost). let j : Judged = Exists c in j)
-      (least_one p q one other)
+      (one_least g s t p q one other)
   one_judgement told.None Nothing (Least q) one other = absurd other
   one_judgement told.None Nothing (BadWalk n) one other = absurd other
   one_judgement told.None Nothing (Longer q r) one other = absurd other
@@ -148,17 +134,17 @@ module _ (g : GridData) (s t : Cell) where
       absurd (right_not_bad points p n one.0 other)
   one_judgement (told.Walk points) (Longer p l) (Longer q r) one other =
       let paid : p ≡ q = right_one points p q one.0 other.0 in
-      let least : l ≡ r = least_one l r one.1 other.1 in
+      let least : l ≡ r = one_least g s t l r one.1 other.1 in
       ap (λ (c : Cost). let j : Judged = Longer c l in j) paid
       ∙ ap (λ (c : Cost). let j : Judged = Longer q c in j) least
   one_judgement (told.Walk points) (Longer p l) (Least q) one other =
-      absurd (one.2 (right_one points p q one.0 other.0 ∙ sym (least_one l q one.1 other.1)))
+      absurd (one.2 (right_one points p q one.0 other.0 ∙ sym (one_least g s t l q one.1 other.1)))
   one_judgement (told.Walk points) (Longer p l) Nothing one other = absurd other
   one_judgement (told.Walk points) (Longer p l) (Exists q) one other = absurd other
   one_judgement (told.Walk points) (Least p) (BadWalk n) one other =
       absurd (right_not_bad points p n one.0 other)
   one_judgement (told.Walk points) (Least p) (Longer q r) one other =
-      absurd (other.2 (right_one points q p other.0 one.0 ∙ sym (least_one r p other.1 one.1)))
+      absurd (other.2 (right_one points q p other.0 one.0 ∙ sym (one_least g s t r p other.1 one.1)))
   one_judgement (told.Walk points) (Least p) (Least q) one other =
       ap (λ (c : Cost). let j : Judged = Least c in j) (right_one points p q one.0 other.0)
   one_judgement (told.Walk points) (Least p) Nothing one other = absurd other

@@ -1,7 +1,7 @@
 -- What a text is read as, what it spells and how it breaks the form.
-use Rattle.std.proofs.Common.{◌≡◌, ℕ, ◌+◌, ◌<◌, ◌≤◌, arith, refl, ap, Bool, true, false, List, [], ◌∷◌}
+use Rattle.std.proofs.Common.{◌≡◌, ℕ, ◌+◌, ◌<◌, ◌≤◌, arith, refl, ap, Bool, false, List, [], ◌∷◌}
 use Rattle.std.proofs.Common.{length, inl, inr}
-use Rattle.std.specs.Prelude.{Option, Some, None, Result, Ok, Err, if◌then◌else◌, nat_lt, nat_le}
+use Rattle.std.specs.Prelude.{Option, Some, None, Result, Ok, Err, if◌then◌else◌, nat_lt}
 use Rattle.std.proofs.lemmas.Bool.Decides.{nat_tests}
 use Rattle.text_line.specs.Fields.{fields_of, is_blank}
 use Rattle.text_line.specs.Lines.{lines_of}
@@ -10,8 +10,8 @@ use Rattle.text_line.proofs.Reading.{Reads, Judges, lines_read}
 use Rattle.walk_judge.specs.declared.fault.WalkFault.{WalkFault}
 use Rattle.walk_judge.specs.declared.fault.WalkFault.TheVariants.{Count}
 use Rattle.walk_judge.specs.declared.telling.Told.{Told}
-use Rattle.walk_judge.specs.Telling.{told_in, AreFieldsOf}
-use Rattle.walk_judge.specs.Walks.{Place, at_line, at_end, places_from, places_of, form_read, fields_read}
+use Rattle.walk_judge.specs.Telling.{AreFieldsOf}
+use Rattle.walk_judge.specs.Walks.{Place, at_line, at_end, places_from, places_of, fields_read}
 use Rattle.walk_judge.specs.Walks.{place_read, walks_of, BreaksFirst, IsBlank, IsLineOf, Spells}
 use Rattle.walk_judge.proofs.Fields.{told_fields, fields_told, fields_there}
 
@@ -32,54 +32,23 @@ end_read number few = if few then Err (Count number) else Ok None
 module _ (entries : ℕ) where
   fields_blank : (number before : ℕ) (fields : List (List ℕ))
       → fields_read entries number before fields ≡ Ok None → fields ≡ []
-  fields_blank number before [] read = refl
-  fields_blank number before (field ∷ fields) read =
-      by_test (nat_le entries before) (told_in (field ∷ fields)) read
-    where
-      by_test : (b : Bool) (what : Option Told)
-          → (if b then Err (Count number) else form_read number what) ≡ Ok None → field ∷ fields ≡ []
-      by_test true what read = absurd (cc)
-      by_test false None read = absurd (cc)
-      by_test false (Some told) read = absurd (cc)
+  fields_blank number before fields h1 = grind (arith, nat_tests)
 
   fields_tell : (number before : ℕ) (fields : List (List ℕ)) (what : Told)
       → fields_read entries number before fields ≡ Ok (Some what)
       → (before < entries) × AreFieldsOf fields what
-  fields_tell number before [] what read = absurd (cc)
-  fields_tell number before (field ∷ fields) what read =
-      by_test (nat_le entries before) refl (told_in (field ∷ fields)) refl read
-    where
-      by_test : (b : Bool) → nat_le entries before ≡ b → (o : Option Told) → told_in (field ∷ fields) ≡ o
-          → (if b then Err (Count number) else form_read number o) ≡ Ok (Some what)
-          → (before < entries) × AreFieldsOf (field ∷ fields) what
-      by_test true all o is read = absurd (cc)
-      by_test false more None is read = absurd (cc)
-      by_test false more (Some told) is read =
-          let same : told_in (field ∷ fields) ≡ Some what = cc in
-          (grind (arith, nat_tests), told_fields field fields what same)
+  fields_tell number before fields what h1 = grind (arith, nat_tests, told_fields)
 
   tell_fields : (number before : ℕ) (fields : List (List ℕ)) (what : Told) → before < entries
       → AreFieldsOf fields what → fields_read entries number before fields ≡ Ok (Some what)
-  tell_fields number before [] what below are = let there = fields_there [] what are in absurd (cc)
-  tell_fields number before (field ∷ fields) what below are =
-      let more : nat_le entries before ≡ false = grind (arith, nat_tests) in
-      rw (more, fields_told (field ∷ fields) what are) refl
+  tell_fields number before fields what h1 h2 = grind (arith, nat_tests, fields_there, fields_told)
 
   end_blank : (number before : ℕ) → place_read entries (at_end number before) ≡ Ok None → entries ≤ before
-  end_blank number before read = by_test (nat_lt before entries) refl read
-    where
-      by_test : (b : Bool) → nat_lt before entries ≡ b → end_read number b ≡ Ok None
-          → entries ≤ before
-      by_test true few read = absurd (cc)
-      by_test false all read = grind (arith, nat_tests)
+  end_blank number before h1 = grind (arith, nat_tests)
 
   end_tells : (number before : ℕ) (what : Told)
       → place_read entries (at_end number before) ≡ Ok (Some what) → ⊥
-  end_tells number before what read = by_test (nat_lt before entries) read
-    where
-      by_test : (b : Bool) → end_read number b ≡ Ok (Some what) → ⊥
-      by_test true read = cc
-      by_test false read = cc
+  end_tells number before what h1 = grind (arith, nat_tests)
 
   blank_is : (place : Place) → place_read entries place ≡ Ok None → IsBlankPlace entries place
   blank_is (at_line number before line) read = fields_blank number before (fields_of line) read

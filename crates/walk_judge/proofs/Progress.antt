@@ -1,5 +1,6 @@
 -- The beginning of a reading.
-use Rattle.std.proofs.Common.{◌≡◌, ℕ, suc, ◌+◌, ◌≤◌, arith, refl, ap, sym, ◌∙◌, List, [], ◌∷◌, length}
+use Rattle.std.proofs.lemmas.Bool.Decides.{nat_tests}
+use Rattle.std.proofs.Common.{◌≡◌, ℕ, suc, ◌+◌, ◌≤◌, arith, refl, ap, List, [], ◌∷◌, length}
 use Rattle.std.specs.Prelude.{map}
 use Rattle.text_line.specs.Left.{Left}
 use Rattle.text_line.specs.Lines.{lines_of, pieces_of, without_cr}
@@ -26,8 +27,4 @@ pub walks_begun : (text : List ℕ) (entries : ℕ) (walks : List Told) (left : 
     → left ≡ record { lines = lines_of text; number = 1 }
     → walks_of text entries ≡ read_behind (place_read entries) walks (places_from 1 (length walks) left.lines)
 unfolding walks_of
-walks_begun text entries walks left none all =
-    ap (λ (w : List Told). read_behind (place_read entries) w (places_from 1 (length w) (lines_of text)))
-    (sym none)
-    ∙ ap (λ (l : Left). read_behind (place_read entries) walks (places_from 1 (length walks) l.lines))
-    (sym all)
+walks_begun text entries walks left h1 h2 = grind (arith, nat_tests)

@@ -5,9 +5,8 @@ use Rattle.grid_moves.specs.declared.Cell.{Cell}
 use Rattle.grid_moves.specs.Grid.{is_free}
 use Rattle.best_first.specs.declared.node.Node.{Node}
 use Rattle.best_first.specs.State.{state_number, start_at}
-use Rattle.best_first.specs.Table.{Table, closed_at}
+use Rattle.best_first.specs.Table.{Table}
 use Rattle.best_first.specs.Trace.{node_cell}
-use Rattle.goal_boxes.specs.Progress.{HasTaken}
 use Rattle.best_first.proofs.Progress.{exhausted, next_taken}
 use Rattle.plain_search.proofs.Concluding.{taken_free}
 use Rattle.plain_search.proofs.Posed.{fit}
@@ -22,8 +21,8 @@ offer_all-requires-clause-may g c = λ n h.
     let asked = boxed_asked grid g.K.Meant.boxes c.args.ends.from c.args.ends.to c.requires.whole
     c.requires.from c.requires.to in
     may_go_on g.K.Meant.boxes asked c.requires.taken c.reserve.new.self c.reserve.ensures.table
-    (ready_on {a = c.args.space.now} {b = c.reserve.new.self} grid c.requires.ready c.reserve.ensures.shape) n
-    (ap (λ (l : Table). slice_get l.nodes c.args.at) (sym c.reserve.ensures.table) ∙ h)
+    (ready_on {a = c.args.space.now} {b = c.reserve.new.self} grid c.requires.ready c.reserve.ensures.shape)
+    n h
 
 pub offer_all-requires-clause-boxes : goal.offer_all-requires-clause-boxes
 offer_all-requires-clause-boxes g c = λ n h.
@@ -40,14 +39,10 @@ state_at-requires g c =
     let grid = g.T.Terrain.grid c.args.t.now in
     let asked = boxed_asked grid g.K.Meant.boxes c.args.ends.from c.args.ends.to c.requires.whole
     c.requires.from c.requires.to in
-    let taken =
-    subst (λ (l : Table). HasTaken grid g.K.Meant.boxes c.args.ends.from c.args.ends.to c.args.at l
-    c.args.taken.now) (sym c.reserve.ensures.table) c.requires.taken in
     let read = ap (λ (ns : List Node). slice_get ns c.in-Some.next) (sym c.take_next.ensures.nodes)
     ∙ c.node.ensures in
-    let offered = has_offered g.K.Meant.boxes asked taken c.offer_all.new.space.table
-    (λ n h. c.requires.open_ended n (ap (λ (l : Table). slice_get l.nodes c.args.at)
-    (sym c.reserve.ensures.table) ∙ h)) c.offer_all.ensures.expanded in
+    let offered = has_offered g.K.Meant.boxes asked c.requires.taken c.reserve.new.self.table
+    c.offer_all.new.space.table c.reserve.ensures.table c.requires.open_ended c.offer_all.ensures.expanded in
     let on = next_taken (fit asked) offered c.in-Some.next c.node.result c.in-Some.ensures.first read in
     ap (λ (u : Cell). is_free grid u) c.cell.ensures ∙ taken_free asked on c.node.result read
 
@@ -56,12 +51,8 @@ returns-in-None-clause-goes_on g c =
     let grid = g.T.Terrain.grid c.args.t.now in
     let asked = boxed_asked grid g.K.Meant.boxes c.args.ends.from c.args.ends.to c.requires.whole
     c.requires.from c.requires.to in
-    let taken =
-    subst (λ (l : Table). HasTaken grid g.K.Meant.boxes c.args.ends.from c.args.ends.to c.args.at l
-    c.args.taken.now) (sym c.reserve.ensures.table) c.requires.taken in
-    let offered = has_offered g.K.Meant.boxes asked taken c.offer_all.new.space.table
-    (λ n h. c.requires.open_ended n (ap (λ (l : Table). slice_get l.nodes c.args.at)
-    (sym c.reserve.ensures.table) ∙ h)) c.offer_all.ensures.expanded in
+    let offered = has_offered g.K.Meant.boxes asked c.requires.taken c.reserve.new.self.table
+    c.offer_all.new.space.table c.reserve.ensures.table c.requires.open_ended c.offer_all.ensures.expanded in
     exhausted (fit asked) offered c.in-None.ensures.none
 
 pub returns-in_ok-push-in-Some-clause-goes_on : goal.returns-in_ok-push-in-Some-clause-goes_on
@@ -69,22 +60,14 @@ returns-in_ok-push-in-Some-clause-goes_on g c =
     let grid = g.T.Terrain.grid c.args.t.now in
     let asked = boxed_asked grid g.K.Meant.boxes c.args.ends.from c.args.ends.to c.requires.whole
     c.requires.from c.requires.to in
-    let taken =
-    subst (λ (l : Table). HasTaken grid g.K.Meant.boxes c.args.ends.from c.args.ends.to c.args.at l
-    c.args.taken.now) (sym c.reserve.ensures.table) c.requires.taken in
     let read = ap (λ (ns : List Node). slice_get ns c.in-Some.next) (sym c.take_next.ensures.nodes)
     ∙ c.node.ensures in
-    let offered = has_offered g.K.Meant.boxes asked taken c.offer_all.new.space.table
-    (λ n h. c.requires.open_ended n (ap (λ (l : Table). slice_get l.nodes c.args.at)
-    (sym c.reserve.ensures.table) ∙ h)) c.offer_all.ensures.expanded in
+    let offered = has_offered g.K.Meant.boxes asked c.requires.taken c.reserve.new.self.table
+    c.offer_all.new.space.table c.reserve.ensures.table c.requires.open_ended c.offer_all.ensures.expanded in
     let on = next_taken (fit asked) offered c.in-Some.next c.node.result c.in-Some.ensures.first read in
     let pushed : c.push.new.self
     ≡ c.args.taken.now ++ state_number grid.width (start_at (node_cell c.node.result)) ∷ []
     = c.in_ok-push-in-Some.ensures.pushed
     ∙ ap (λ (i : ℕ). c.args.taken.now ++ i ∷ []) (c.state_at.ensures
     ∙ ap (λ (u : Cell). state_number grid.width (start_at u)) c.cell.ensures) in
-    subst (λ (l : Table). HasTaken grid g.K.Meant.boxes c.args.ends.from c.args.ends.to c.in-Some.next l
-    c.push.new.self)
-    (sym c.in-Some.ensures.closed)
-    (subst (λ (ns : List ℕ). HasTaken grid g.K.Meant.boxes c.args.ends.from c.args.ends.to c.in-Some.next
-    (closed_at c.in-Some.next c.offer_all.new.space.table) ns) (sym pushed) on)
+    rw (c.in-Some.ensures.closed, pushed) on

@@ -24,7 +24,8 @@ returns-in_err-at c =
     let here : State = in_cells c.args.head c.loop-line.least c.loop-line.cells in
     let fault : CertFault = c.in_err-at.field-0.0 in
     let broken = list_fault member_on (λ cell. cell) c.args.head (in_cells c.args.head) c.loop-line.least
-    c.loop-line.cells line.bytes.now (rw other refl) c.in-Some-member_on.cell c.loop-line.number fault (sym c.member_on.ensures ∙ c.in-Some-member_on.is)
+    c.loop-line.cells line.bytes.now (rw other refl) c.in-Some-member_on.cell c.loop-line.number fault
+    (sym c.member_on.ensures ∙ c.in-Some-member_on.is)
     c.in_err-at.ensures in
     let begun = ap (λ (cells : List Cell). read_left (in_cells c.args.head 0 cells) c.args.lines)
     (sym c.new-cells.ensures) in

@@ -56,7 +56,8 @@ returns-in_default-value_on c =
     c.in-Some.ensures.steps
     (list_none value_on (λ entry. entry.0) c.args.head
     (in_values c.args.head c.args.cost c.loop-line.points) c.loop-line.least c.loop-line.values
-    line.bytes.now (rw other refl) c.loop-line.lines.number (sym c.value_on.ensures.value ∙ c.in_default-value_on.is)
+    line.bytes.now (rw other refl) c.loop-line.lines.number (sym c.value_on.ensures.value ∙
+    c.in_default-value_on.is)
     ∙ line_number _ _ (sym c.loop-line.invariant.number))
 
 pub returns-in_err-at : goal.returns-in_err-at
@@ -92,7 +93,8 @@ loop-line-preserved c =
     let grown = c.in_ok-push.ensures.pushed in
     let places = c.in_ok-at.ensures in
     let goes_on = list_goes value_on (λ entry. entry.0) head (in_values head c.args.cost c.loop-line.points)
-    c.loop-line.least values line.bytes.now (rw other refl) entry c.loop-line.number c.in_ok-at.at c.push.new.self
+    c.loop-line.least values line.bytes.now (rw other refl) entry c.loop-line.number c.in_ok-at.at
+    c.push.new.self
     (sym c.value_on.ensures.value ∙ c.in-Some-value_on.is) places grown in
     let more = short_next c.loop-line.lines c.next.new.self line c.in-Some.ensures.steps
     c.loop-line.invariant.short in
