@@ -10,7 +10,7 @@ use Rattle.grid_moves.specs.declared.Dir.{Dir}
 use Rattle.grid_moves.specs.Grid.{cell_number}
 use Rattle.grid_moves.specs.Move.{dir_number, is_dir, is_same}
 use Rattle.grid_moves.proofs.Legal.{is_same-itself}
-pub use Rattle.grid_moves.proofs.Dirs.{dir_number-few}
+use Rattle.grid_moves.proofs.Dirs.{dir_number-few}
 use Rattle.grid_moves.proofs.Places.{one_cell, number_below}
 use Rattle.plus_tables.specs.Tables.{TablesData, IsWhole, entry_place, entry_at, is_on, is_place, tables_with}
 

@@ -6,7 +6,7 @@ use Rattle.std.proofs.Common.{length-append}
 use Rattle.root2_cost.specs.declared.Cost.{Cost}
 use Rattle.grid_moves.specs.declared.Cell.{Cell}
 use Rattle.grid_moves.specs.Walk.{cost_of, last_of}
-pub use Rattle.grid_moves.proofs.Walks.{cost-joined, last-joined, walk-joined as walks-joined}
+use Rattle.grid_moves.proofs.Walks.{cost-joined}
 use Rattle.pruning.specs.Facts.{diagonal_places, IsSmaller, shorter, straighter, earlier}
 
 diagonals-joined : (x : Cell) (cells more : List Cell)

@@ -5,7 +5,7 @@ use Rattle.grid_moves.specs.declared.Cell.{Cell}
 use Rattle.grid_moves.specs.declared.Dir.{Dir}
 use Rattle.grid_moves.specs.Grid.{GridData, is_inside}
 use Rattle.grid_moves.specs.Move.{ahead}
-pub use Rattle.grid_moves.proofs.Places.{inside_from as is_inside-from, inside_is as inside_parts}
+use Rattle.grid_moves.proofs.Places.{inside_is}
 use Rattle.pruning.proofs.Bridging.{one_of}
 use Rattle.pruning.proofs.Running.{Trend, rising, level, falling, column_trend, row_trend, IsMoved, AreMoved}
 use Rattle.plus_tables.specs.Tables.{TablesData}
@@ -84,7 +84,7 @@ module _ (h : GridData) (t : TablesData) (d : Dir) where
               → ((w : Cell) (k : ℕ) → cell_after d (suc k) v ≡ Some w → waits w ≡ false) → IsRight h t v d)
               → IsRight h t u d
           by_inside v e true j rest =
-              let m = inside_parts h v j in
+              let m = inside_is h v j in
               let less = less_room h d u v (ahead_moved d u v e) m.0 m.1 in
               let ahead_right : IsRight h t v d = rest v j (omega arith)
               (λ w k r. none w (suc k) (after_before d (suc k) u v w e r)) in
