@@ -26,7 +26,6 @@ use Rattle.pruning.specs.Marked.{run_end}
 use Rattle.pruning.specs.Stop.{StopsAfter}
 use Rattle.pruning.proofs.Bridging.{legal_leads, one_of}
 use Rattle.pruning.proofs.Firsts.{FindsLeast-once}
-use Rattle.pruning.proofs.Packing.{dir_small}
 use Rattle.pruning.proofs.Table.{same_dir}
 use Rattle.search_run.specs.Run.{Taken, IsIn, here, there, IsRun, is_taken}
 use Rattle.search_run.proofs.Leastness.{least_offer-from, is_taken-member}
