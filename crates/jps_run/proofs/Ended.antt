@@ -15,6 +15,7 @@ use Rattle.jps_run.specs.Calls.{files_of, reads_input}
 use Rattle.jps_run.specs.Outcome.{Spell, IsOutput, answered, bad_line, bad_word, bad_text, done}
 use Rattle.line_work.specs.Sending.{IsAll, IsPart, AreLines, Wrote}
 use Rattle.line_work.proofs.Pieces.{nothing}
+use Rattle.jps_run.proofs.Opening.{retold}
 
 module _ (words : List (List ℕ)) (holds : List ℕ → Held) (input : Option (List ℕ))
     (out out_now err err_now : Outflow)
@@ -35,20 +36,7 @@ module _ (words : List (List ℕ)) (holds : List ℕ → Held) (input : Option (
     heard-by : (call : Call) {refusal : Option (List ℕ)}
         → (h : WroteHeard call holds out out_now input refusal)
         → AreHeard call holds input h.known.lines refusal
-    heard-by call h = record {
-      map = h.map;
-      tables = h.tables;
-      settings = h.settings;
-      is = h.is;
-      text = h.text;
-      behind = h.behind;
-      accepted = h.accepted;
-      read = h.read;
-      spelled = h.spelled;
-      session = h.session;
-      answers = h.answers;
-      known = h.known.stand;
-    }
+    heard-by call h = retold h h.known.stand
 
     -- the call was done
     pub call-comes : (call : Call) (status : ℕ) → Spell words call

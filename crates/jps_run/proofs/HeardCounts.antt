@@ -75,8 +75,8 @@ rising-begun first feeder input start begun none = record {
       (taken-none first start);
 }
 
-module _ (first job new : Answers) (feeder : LineFeeder) (input mid left : Option (List ℕ)) (start at now : ℕ)
-    (r : IsRising first job feeder input mid start at) where
+module _ {first job : Answers} {feeder : LineFeeder} {input mid : Option (List ℕ)} {start at : ℕ}
+    (new : Answers) (left : Option (List ℕ)) (now : ℕ) (r : IsRising first job feeder input mid start at) where
   -- a piece was heard whole
   pub rising-more : (feeder_now : LineFeeder) (count room : ℕ) (bytes piece : List ℕ)
       → Consumes mid left (take count bytes) → piece ≡ take (min count room) bytes → count ≤ room

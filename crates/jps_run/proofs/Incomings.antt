@@ -67,8 +67,8 @@ hearing-begun first feeder input buffer before begun none room = record {
   room = room;
 }
 
-module _ (first job : Answers) (feeder : LineFeeder) (input mid now : Inflow) (buffer : List ℕ)
-    (before at : Outflow) (h : IsHearing first job feeder input mid buffer before at) where
+module _ {first job : Answers} {feeder : LineFeeder} {input mid : Inflow} {buffer : List ℕ}
+    {before at : Outflow} (now : Inflow) (h : IsHearing first job feeder input mid buffer before at) where
   -- nothing more came in
   module _ (bytes : List ℕ) (read : Consumes mid.left now.left (take 0 bytes)) (ended : IsAtEnd now.left)
       (new : Answers) (after : Outflow) where

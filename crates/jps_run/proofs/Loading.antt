@@ -6,7 +6,7 @@ use Rattle.edit_replay.specs.declared.engine.Engine.TheVariants as engine
 use Rattle.word_list.specs.Settings.{has_tables, is_for_small_maps}
 use Rattle.word_list.specs.declared.request.Settings.{Settings}
 use Rattle.word_list.specs.declared.request.Pick.{Pick}
-use Rattle.word_list.specs.declared.request.Pick.TheVariants.{Plain, Jps, Block, Plus, Boxes, Moves}
+use Rattle.word_list.specs.declared.request.Pick.TheVariants.{Plus, Boxes, Moves}
 use Rattle.jps_run.specs.Answerers.{HasSession, IsBasisOn}
 use Rattle.jps_run.specs.Session.{PicksSession, by_of}
 use Rattle.jps_run.specs.Who.{Who, by_boxes, by_moves, by_session}

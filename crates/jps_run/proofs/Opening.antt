@@ -4,10 +4,13 @@ use Rattle.std.specs.Prelude.{Ok}
 use Rattle.io_edge.specs.Told.{Held}
 use Rattle.map_text.specs.Faults.{map_of}
 use Rattle.map_text.specs.Map.{Map}
+use Rattle.edit_replay.specs.Session.{SessionData}
 use Rattle.word_list.specs.Request.{Call}
+use Rattle.word_list.specs.declared.request.Show.{Show}
 use Rattle.call_files.specs.Files.{AreAccepted}
 use Rattle.line_work.specs.Sending.{IsText}
 use Rattle.jps_run.specs.Calls.{IsAnswered, files_of, searches}
+use Rattle.jps_run.specs.Live.{OnLive}
 use Rattle.jps_run.specs.Opened.{IsWorkOf, IsWorkOn}
 use Rattle.jps_run.specs.Parts.{OnLast, OnMap, Prints, Says}
 use Rattle.jps_run.specs.declared.work.Work.{Work}
@@ -80,4 +83,22 @@ on-last text m read loaded more known = record {
   is = refl;
   read = read;
   known = record { before = loaded; last = more; is = refl; known = known };
+}
+
+-- what is known of the session that answers what comes in is known of the call
+pub retold : {call : Call} {holds : List ℕ → Held} {K L : SessionData → Show → Type 0} (p : OnLive call holds K)
+    → L p.session p.settings.show → OnLive call holds L
+retold p known = record {
+  map = p.map;
+  tables = p.tables;
+  settings = p.settings;
+  is = p.is;
+  text = p.text;
+  behind = p.behind;
+  accepted = p.accepted;
+  read = p.read;
+  spelled = p.spelled;
+  session = p.session;
+  answers = p.answers;
+  known = known;
 }

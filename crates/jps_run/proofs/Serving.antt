@@ -21,26 +21,14 @@ use Rattle.jps_run.specs.declared.replies.answers.Answers.{Answers}
 use Rattle.line_work.specs.declared.stop.Stop.{Stop}
 use Rattle.jps_run.specs.declared.work.Work.{Work}
 use Rattle.line_work.proofs.Pieces.{nothing}
+use Rattle.jps_run.proofs.Opening.{retold}
 use Rattle.line_work.proofs.Stopping.{passed, ends-on}
 
 -- what is known of the session is known of the call
 pub on-live : (call : Call) (holds : List ℕ → Held) (job : Answers) → IsListener call holds job
     → (Known : SessionData → Show → Type 0) → Known job.session job.show → OnLive call holds Known
-on-live call holds job l Known k = record {
-  map = l.on.map;
-  tables = l.on.tables;
-  settings = l.on.settings;
-  is = l.on.is;
-  text = l.on.text;
-  behind = l.on.behind;
-  accepted = l.on.accepted;
-  read = l.on.read;
-  spelled = l.on.spelled;
-  session = l.on.session;
-  answers = l.on.answers;
-  known = subst (λ (show : Show). Known l.on.session show) l.on.known.1
-      (subst (λ (d : SessionData). Known d job.show) l.on.known.0 k);
-}
+on-live call holds job l Known k = retold l.on (subst (λ (show : Show). Known l.on.session show) l.on.known.1
+    (subst (λ (d : SessionData). Known d job.show) l.on.known.0 k))
 
 -- a session that answers what comes in was opened behind accepted files
 pub may-hear : (call : Call) (holds : List ℕ → Held) (job : Answers) → IsListener call holds job

@@ -1,6 +1,6 @@
 -- That the outcome of a call is the only one, which engines print the same, and what is written where a call
 -- stops.
-use Rattle.std.specs.Prelude.{◌≡◌, ◌≢◌, ⊤, ◌⊎◌, ℕ, Bool, true, false, List, take, Ok, Some}
+use Rattle.std.specs.Prelude.{◌≡◌, ◌≢◌, ⊤, ◌⊎◌, ℕ, Bool, true, List, take, Ok, Some}
 use Rattle.std.specs.List.{concat}
 use Rattle.io_edge.specs.Told.{Disk, Held, Inflow, Outflow, holding}
 use Rattle.io_edge.specs.Whole.{AppendsSome}
@@ -9,7 +9,6 @@ use Rattle.map_text.specs.Faults.{map_of}
 use Rattle.word_list.specs.Request.{Asked, Call, Scen, Drill}
 use Rattle.word_list.specs.Settings.{is_for_small_maps}
 use Rattle.word_list.specs.declared.request.Pick.{Pick}
-use Rattle.word_list.specs.declared.request.Pick.TheVariants as pick
 use Rattle.word_list.specs.declared.request.Show.{Show}
 use Rattle.word_list.specs.declared.request.Show.TheVariants as show
 use Rattle.line_work.specs.Sending.{Wrote}
@@ -19,6 +18,8 @@ use Rattle.outcome_laws.specs.Files.{AreTold}
 use Rattle.jps_run.specs.Calls.{files_of}
 use Rattle.jps_run.specs.Ending.{HasFailed, HasLines, HasPart}
 use Rattle.jps_run.specs.Outcome.{IsOutcome, Outcome, Spell}
+use Rattle.jps_run.specs.Session.{by_of}
+use Rattle.outcome_laws.specs.Oneness.{is_by_jumps}
 
 -- of each file that the words name it is told what stands under its name
 abbrev pub FilesAreTold : List (List ℕ) → (List ℕ → Held) → Type 0
@@ -34,12 +35,7 @@ OutcomesAreOne = (words : List (List ℕ)) (holds : List ℕ → Held) (script :
 
 -- the engines that jump
 abbrev pub is_jump : Pick → Bool
-is_jump pick.Plain = false
-is_jump pick.Jps = true
-is_jump pick.Block = true
-is_jump pick.Plus = true
-is_jump pick.Boxes = false
-is_jump pick.Moves = false
+is_jump pick = is_by_jumps (by_of pick)
 
 -- two calls ask for the same, but that each may pick an engine of its own
 pub record DifferInEngine (call other : Call) : Type 0 where

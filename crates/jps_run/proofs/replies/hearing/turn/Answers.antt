@@ -1,4 +1,4 @@
-use Rattle.std.proofs.Common.{◌≡◌, ◌+◌, ◌-◌, ◌<◌, ◌≤◌, ◌∙◌, ap, subst, length, take, min, List, ℕ, arith}
+use Rattle.std.proofs.Common.{◌≡◌, ◌+◌, ◌-◌, ◌<◌, ◌≤◌, subst, length, take, List, ℕ, arith}
 use Rattle.std.specs.Prelude.{Ok}
 use Rattle.std.specs.Io.KnownBytes.{Consumes}
 use Rattle.jps_run.proofs.Incomings.{end-heard, end-stopped, piece-stopped, long-refused, long-starved}
@@ -10,12 +10,15 @@ use Rattle.jps_run.proofs.replies.hearing.turn.Goals as goal
 room_is : (told taken : ℕ) → told ≡ taken → taken ≤ 67108864 → taken + (67108864 - told) ≡ 67108864
 room_is told taken same few = omega arith
 
+-- what is taken of it
+piece_is : (bytes also : List ℕ) (n m : ℕ) → n ≡ m → bytes ≡ also → take n bytes ≡ take m also
+piece_is bytes also n m e f = cc
+
 pub returns-in_err-status-in-Ok-eq0-clause-heard : goal.returns-in_err-status-in-Ok-eq0-clause-heard
 returns-in_err-status-in-Ok-eq0-clause-heard g c = λ first input before h.
     let mid = g.I.Source.inflow c.args.input.now in
     let now = g.I.Source.inflow c.read_into.new.input in
-    let at = g.O.Sink.outflow c.args.out.now in
-    end-stopped first c.args.job.now c.args.feeder.now input mid now c.args.buffer.now.items before at h
+    end-stopped now h
     c.read_into.new.buffer.items
     (subst (λ n. Consumes mid.left now.left (take n c.read_into.new.buffer.items)) c.in-Ok-eq0.field-0-test
     c.in-Ok-eq0.ensures.bytes.0)
@@ -31,8 +34,7 @@ pub returns-in_ok-status-in-Ok-eq0-clause-heard : goal.returns-in_ok-status-in-O
 returns-in_ok-status-in-Ok-eq0-clause-heard g c = λ first input before h.
     let mid = g.I.Source.inflow c.args.input.now in
     let now = g.I.Source.inflow c.read_into.new.input in
-    let at = g.O.Sink.outflow c.args.out.now in
-    end-heard first c.args.job.now c.args.feeder.now input mid now c.args.buffer.now.items before at h
+    end-heard now h
     c.read_into.new.buffer.items
     (subst (λ n. Consumes mid.left now.left (take n c.read_into.new.buffer.items)) c.in-Ok-eq0.field-0-test
     c.in-Ok-eq0.ensures.bytes.0)
@@ -47,8 +49,7 @@ pub returns-in_ok-status-in-Ok-eq0-clause-rose : goal.returns-in_ok-status-in-Ok
 returns-in_ok-status-in-Ok-eq0-clause-rose g c = λ first input start r.
     let mid = g.I.Source.inflow c.args.input.now in
     let now = g.I.Source.inflow c.read_into.new.input in
-    rising-ended first c.args.job.now c.hear_end.new.job c.args.feeder.now input mid.left now.left start
-    c.args.steps.now c.hear_end.new.steps r c.read_into.new.buffer.items
+    rising-ended c.hear_end.new.job now.left c.hear_end.new.steps r c.read_into.new.buffer.items
     (subst (λ n. Consumes mid.left now.left (take n c.read_into.new.buffer.items)) c.in-Ok-eq0.field-0-test
     c.in-Ok-eq0.ensures.bytes.0)
     (c.in-Ok-eq0.ensures.bytes.1 c.in-Ok-eq0.field-0-test
@@ -59,15 +60,12 @@ returns-in_ok-status-in-Ok-eq0-clause-rose g c = λ first input start r.
 
 pub returns-in_err-hear_piece-in-Ok-clause-heard : goal.returns-in_err-hear_piece-in-Ok-clause-heard
 returns-in_err-hear_piece-in-Ok-clause-heard g c = λ first input before h.
-    let at = g.O.Sink.outflow c.args.out.now in
-    piece-stopped first c.args.job.now c.args.feeder.now input (g.I.Source.inflow c.args.input.now)
-    (g.I.Source.inflow c.read_into.new.input) c.args.buffer.now.items before at h
-    c.in-Ok.count (67108864 - c.taken.result) c.read_into.new.buffer.items
+    piece-stopped (g.I.Source.inflow c.read_into.new.input) h c.in-Ok.count (67108864 - c.taken.result) c.read_into.new.buffer.items
     (take c.min.result c.deref.result.now)
     c.in-Ok.ensures.bytes.0
     (room_is c.taken.result c.args.feeder.now.taken c.taken.ensures.count c.requires.few)
-    (ap (λ n. take n c.deref.result.now) c.min.ensures
-    ∙ ap (λ (l : List ℕ). take (min c.in-Ok.count (67108864 - c.taken.result)) l) c.deref.ensures.value)
+    (piece_is c.deref.result.now c.read_into.new.buffer.items c.min.result _ c.min.ensures
+    c.deref.ensures.value)
     c.hear_piece.new.job (g.O.Sink.outflow c.hear_piece.new.out) _
     c.from_residual-in_err-hear_piece-in-Ok.result c.in_err-hear_piece-in-Ok.field-0.0
     (c.in_err-hear_piece-in-Ok.ensures.heard first h.text before h.heard)
@@ -75,30 +73,24 @@ returns-in_err-hear_piece-in-Ok-clause-heard g c = λ first input before h.
 
 pub returns-in_err-long_line-in-Ok-clause-heard : goal.returns-in_err-long_line-in-Ok-clause-heard
 returns-in_err-long_line-in-Ok-clause-heard g c = λ first input before h.
-    let at = g.O.Sink.outflow c.args.out.now in
-    long-starved first c.args.job.now c.args.feeder.now input (g.I.Source.inflow c.args.input.now)
-    (g.I.Source.inflow c.read_into.new.input) c.args.buffer.now.items before at h
-    c.in-Ok.count (67108864 - c.taken.result) c.read_into.new.buffer.items
+    long-starved (g.I.Source.inflow c.read_into.new.input) h c.in-Ok.count (67108864 - c.taken.result) c.read_into.new.buffer.items
     (take c.min.result c.deref.result.now)
     c.in-Ok.ensures.bytes.0
     (room_is c.taken.result c.args.feeder.now.taken c.taken.ensures.count c.requires.few)
-    (ap (λ n. take n c.deref.result.now) c.min.ensures
-    ∙ ap (λ (l : List ℕ). take (min c.in-Ok.count (67108864 - c.taken.result)) l) c.deref.ensures.value)
+    (piece_is c.deref.result.now c.read_into.new.buffer.items c.min.result _ c.min.ensures
+    c.deref.ensures.value)
     c.hear_piece.new.job c.hear_piece.new.feeder (g.O.Sink.outflow c.hear_piece.new.out)
     (c.in_ok-hear_piece-in-Ok.ensures.heard first h.text before h.heard) _
     c.from_residual-in_err-long_line-in-Ok.result c.from_residual-in_err-long_line-in-Ok.ensures.1
 
 pub returns-then-room-count-clause-heard : goal.returns-then-room-count-clause-heard
 returns-then-room-count-clause-heard g c = λ first input before h.
-    let at = g.O.Sink.outflow c.args.out.now in
-    long-refused first c.args.job.now c.args.feeder.now input (g.I.Source.inflow c.args.input.now)
-    (g.I.Source.inflow c.read_into.new.input) c.args.buffer.now.items before at h
-    c.in-Ok.count (67108864 - c.taken.result) c.read_into.new.buffer.items
+    long-refused (g.I.Source.inflow c.read_into.new.input) h c.in-Ok.count (67108864 - c.taken.result) c.read_into.new.buffer.items
     (take c.min.result c.deref.result.now)
     c.in-Ok.ensures.bytes.0
     (room_is c.taken.result c.args.feeder.now.taken c.taken.ensures.count c.requires.few)
-    (ap (λ n. take n c.deref.result.now) c.min.ensures
-    ∙ ap (λ (l : List ℕ). take (min c.in-Ok.count (67108864 - c.taken.result)) l) c.deref.ensures.value)
+    (piece_is c.deref.result.now c.read_into.new.buffer.items c.min.result _ c.min.ensures
+    c.deref.ensures.value)
     c.hear_piece.new.job c.hear_piece.new.feeder (g.O.Sink.outflow c.hear_piece.new.out)
     (c.in_ok-hear_piece-in-Ok.ensures.heard first h.text before h.heard)
     c.in_ok-long_line-in-Ok.field-0.items c.if-room-count.true c.in-Ok.ensures.bound
@@ -106,15 +98,12 @@ returns-then-room-count-clause-heard g c = λ first input before h.
 
 pub returns-else-room-count-clause-heard : goal.returns-else-room-count-clause-heard
 returns-else-room-count-clause-heard g c = λ first input before h.
-    let at = g.O.Sink.outflow c.args.out.now in
-    hearing-more first c.args.job.now c.args.feeder.now input (g.I.Source.inflow c.args.input.now)
-    (g.I.Source.inflow c.read_into.new.input) c.args.buffer.now.items before at h
-    c.in-Ok.count (67108864 - c.taken.result) c.read_into.new.buffer.items
+    hearing-more (g.I.Source.inflow c.read_into.new.input) h c.in-Ok.count (67108864 - c.taken.result) c.read_into.new.buffer.items
     (take c.min.result c.deref.result.now)
     c.in-Ok.ensures.bytes.0
     (room_is c.taken.result c.args.feeder.now.taken c.taken.ensures.count c.requires.few)
-    (ap (λ n. take n c.deref.result.now) c.min.ensures
-    ∙ ap (λ (l : List ℕ). take (min c.in-Ok.count (67108864 - c.taken.result)) l) c.deref.ensures.value)
+    (piece_is c.deref.result.now c.read_into.new.buffer.items c.min.result _ c.min.ensures
+    c.deref.ensures.value)
     c.hear_piece.new.job c.hear_piece.new.feeder (g.O.Sink.outflow c.hear_piece.new.out)
     (c.in_ok-hear_piece-in-Ok.ensures.heard first h.text before h.heard)
     c.if-room-count.false c.in-Ok.ensures.bound c.in_ok-hear_piece-in-Ok.ensures.counted
@@ -124,12 +113,10 @@ returns-else-room-count-clause-heard g c = λ first input before h.
 
 pub returns-else-room-count-clause-rose : goal.returns-else-room-count-clause-rose
 returns-else-room-count-clause-rose g c = λ first input start r.
-    rising-more first c.args.job.now c.hear_piece.new.job c.args.feeder.now input
-    (g.I.Source.inflow c.args.input.now).left (g.I.Source.inflow c.read_into.new.input).left start
-    c.args.steps.now c.hear_piece.new.steps r c.hear_piece.new.feeder
-    c.in-Ok.count (67108864 - c.taken.result) c.read_into.new.buffer.items
+    rising-more c.hear_piece.new.job (g.I.Source.inflow c.read_into.new.input).left c.hear_piece.new.steps r
+    c.hear_piece.new.feeder c.in-Ok.count (67108864 - c.taken.result) c.read_into.new.buffer.items
     (take c.min.result c.deref.result.now)
     c.in-Ok.ensures.bytes.0
-    (ap (λ n. take n c.deref.result.now) c.min.ensures
-    ∙ ap (λ (l : List ℕ). take (min c.in-Ok.count (67108864 - c.taken.result)) l) c.deref.ensures.value)
+    (piece_is c.deref.result.now c.read_into.new.buffer.items c.min.result _ c.min.ensures
+    c.deref.ensures.value)
     c.if-room-count.false c.in_ok-hear_piece-in-Ok.ensures.counted c.in_ok-hear_piece-in-Ok.ensures.rose
