@@ -1,5 +1,6 @@
 -- What is drawn, word by word.
-use Rattle.std.proofs.Common.{◌≡◌, ℕ, zero, suc, ◌+◌, ◌-◌, ◌*◌, ◌%◌, ◌<◌, ◌≤◌, true, eqb, ltb, cond, List, []}
+use Rattle.std.proofs.lemmas.Bool.Decides.{nat_tests}
+use Rattle.std.proofs.Common.{◌≡◌, ℕ, zero, suc, ◌+◌, ◌-◌, ◌*◌, ◌%◌, ◌<◌, ◌≤◌, true, eqb, List, []}
 use Rattle.std.proofs.Common.{◌∷◌, ◌++◌, map, length, drop, refl, ap, sym, ◌∙◌, inl, inr, arith}
 use Rattle.std.proofs.lemmas.Bool.{cases_Bool}
 use Rattle.std.proofs.lemmas.List.{append_assoc, append-nil, length-map}
@@ -19,9 +20,6 @@ pub record AreCells (cell : ℕ → ℕ) (count : ℕ) (start : Lcg) (done : ℕ
   pub all : cells ++ map cell (words_from (count - done) g) ≡ map cell (words_from count start)
 
 module _ (cell : ℕ → ℕ) (count : ℕ) (start : Lcg) where
-  pub no_cells : AreCells cell count start 0 [] start
-  no_cells = record { all = ap (λ (n : ℕ). map cell (words_from n start)) (omega arith) }
-
   module _ (done : ℕ) (cells : List ℕ) (g : Lcg) (are : AreCells cell count start done cells g) where
     pub cell_more : done < count
         → AreCells cell count start (done + 1) (cells ++ cell (pcg32 g).0 ∷ []) (pcg32 g).1
@@ -36,19 +34,12 @@ module _ (cell : ℕ → ℕ) (count : ℕ) (start : Lcg) where
 
     pub cells_all : count ≤ done → cells ≡ map cell (words_from count start)
     unfolding words_from
-    cells_all end =
-        let none : count - done ≡ 0 = omega arith in
-        sym (append-nil cells) ∙ ap (λ (n : ℕ). cells ++ map cell (words_from n g)) (sym none) ∙ are.all
+    cells_all end = grind (arith, nat_tests, append-nil)
 
 -- cells that are looked up are those of their words
 cell_by_kinds : (percent : ℕ) (kinds : List ℕ) → AreKinds percent kinds → (words : List ℕ)
     → map (cell_by kinds) words ≡ map (cell_of percent) words
-cell_by_kinds percent kinds are [] = refl
-cell_by_kinds percent kinds are (word ∷ words) =
-    let rest : word % 100 % 100 ≡ word % 100 = omega arith in
-    let here : cell_by kinds word ≡ cell_of percent word = are.each (word % 100) (omega arith)
-    ∙ ap (λ (n : ℕ). cond (ltb n percent) 64 46) rest in
-    rw here (ap (λ (cells : List ℕ). cell_of percent word ∷ cells) (cell_by_kinds percent kinds are words))
+cell_by_kinds percent kinds h words = grind (arith, nat_tests)
 
 -- the words after some words
 words_later : (n m : ℕ) (g : Lcg) → drop n (words_from (n + m) g) ≡ words_from m (after_words n g)
@@ -79,9 +70,6 @@ pub record AreCommands (count : ℕ) (start : Lcg) (done : ℕ) (commands : List
   pub all : commands ++ drawn_from (done + 1) (count - done) g ≡ drawn_from 1 count start
 
 module _ (count : ℕ) (start : Lcg) where
-  pub no_commands : AreCommands count start 0 [] start
-  no_commands = record { all = ap (λ (n : ℕ). drawn_from 1 n start) (omega arith) }
-
   module _ (done : ℕ) (commands : List Command) (g : Lcg)
       (are : AreCommands count start done commands g) where
     pub command_more : (command : Command) (new : Lcg) → Draws (done + 1) g command new → done < count
@@ -106,17 +94,11 @@ module _ (count : ℕ) (start : Lcg) where
 
     pub commands_all : count ≤ done → commands ≡ commands_of 1 count (words_from (words_needed 1 count) start)
     unfolding drawn_from commands_of
-    commands_all end =
-        let none : count - done ≡ 0 = omega arith in
-        sym (append-nil commands) ∙ ap (λ (n : ℕ). commands ++ drawn_from (done + 1) n g) (sym none) ∙ are.all
+    commands_all end = grind (arith, nat_tests, append-nil, drawn_from)
 
 -- so many words make a map
 terrain_of : (percent word : ℕ) → is_terrain (cell_of percent word) ≡ true
-terrain_of percent word =
-    elim (cases_Bool (ltb (word % 100) percent)) [
-      | inl blocked ↦ rw blocked refl
-      | inr free ↦ rw free refl
-    ]
+terrain_of percent word = grind (arith, nat_tests)
 
 all_terrain : (percent n : ℕ) (g : Lcg) → list_all is_terrain (map (cell_of percent) (words_from n g)) ≡ true
 unfolding words_from
@@ -155,10 +137,6 @@ cells_made seed w h percent kinds cells g width height are start drawn =
 
 -- a word is drawn, and then the others
 module _ (n : ℕ) (g : Lcg) {a : Lcg} {w : ℕ} (first : (w, a) ≡ pcg32 g) where
-  one_word : words_from (suc n) g ≡ w ∷ words_from n a
-  unfolding words_from
-  one_word = ap (λ (drawn : ℕ × Lcg). drawn.0 ∷ words_from n drawn.1) (sym first)
-
   one_after : after_words (suc n) g ≡ after_words n a
   unfolding after_words
   one_after = ap (λ (drawn : ℕ × Lcg). after_words n drawn.1) (sym first)
@@ -167,10 +145,7 @@ module _ (g : Lcg) {a b c d : Lcg} {w x y z : ℕ} (first : (w, a) ≡ pcg32 g)
     (second : (x, b) ≡ pcg32 a) (third : (y, c) ≡ pcg32 b) (fourth : (z, d) ≡ pcg32 c) where
   pub four_words : words_from 4 g ≡ w ∷ x ∷ y ∷ z ∷ []
   unfolding words_from
-  four_words =
-      one_word 3 g first ∙ ap (λ (l : List ℕ). w ∷ l) (one_word 2 a second
-      ∙ ap (λ (l : List ℕ). x ∷ l) (one_word 1 b third
-      ∙ ap (λ (l : List ℕ). y ∷ l) (one_word 0 c fourth)))
+  four_words = grind (arith, nat_tests)
 
   pub four_after : d ≡ after_words 4 g
   unfolding after_words

@@ -1,11 +1,12 @@
 -- Laws of "at most" on costs, and its part in chains with "less".
-use Rattle.std.proofs.Common.{◌≡◌, ℕ, ◌+◌, ◌*◌, ◌<◌, ◌≤◌, ◌⊎◌, inl, inr, arith, refl, sym, Bool, true, false}
+use Rattle.std.proofs.lemmas.Bool.Decides.{nat_tests}
+use Rattle.std.proofs.Common.{◌≡◌, ℕ, ◌+◌, ◌*◌, ◌<◌, ◌≤◌, ◌⊎◌, inl, inr, arith, sym}
 use Rattle.std.proofs.Common.{subst}
 use Rattle.root2_cost.specs.declared.Cost.{Cost}
-use Rattle.root2_cost.specs.Order.{is_less, IsLess, IsAtMost}
+use Rattle.root2_cost.specs.Order.{IsLess, IsAtMost}
 use Rattle.root2_cost.proofs.Squares.{square_grows, square_positive}
 use Rattle.root2_cost.proofs.Gaps.{both, first, second, differ}
-use Rattle.root2_cost.proofs.Less.{IsLess-irreflexive, IsLess-trans, IsLess-asymmetric, IsLess-total}
+use Rattle.root2_cost.proofs.Less.{IsLess-trans, IsLess-total}
 use Rattle.root2_cost.proofs.Less.{same_cost, gap_less}
 
 -- what is at most another is less, or the same
@@ -18,29 +19,17 @@ IsAtMost-cases p q h = elim (IsLess-total p q) [
 
 -- what is less is at most
 pub less_at_most : (p q : Cost) → IsLess p q → IsAtMost p q
-less_at_most p q h = by_test (is_less q p) refl
-  where
-    by_test : (t : Bool) → is_less q p ≡ t → IsAtMost p q
-    by_test true e = absurd (IsLess-asymmetric p q h e)
-    by_test false e = e
+less_at_most p q h = grind (arith, nat_tests)
 
 pub IsAtMost-refl : (p : Cost) → IsAtMost p p
-IsAtMost-refl p = by_test (is_less p p) refl
-  where
-    by_test : (t : Bool) → is_less p p ≡ t → IsAtMost p p
-    by_test true e = absurd (IsLess-irreflexive p e)
-    by_test false e = e
+IsAtMost-refl p = grind (arith, nat_tests)
 
 pub same_at_most : (p q : Cost) → p ≡ q → IsAtMost p q
 same_at_most p q e = subst (λ (r : Cost). IsAtMost p r) e (IsAtMost-refl p)
 
 -- a cost is at most another, or more
 pub IsAtMost-or_more : (p q : Cost) → IsAtMost p q ⊎ IsLess q p
-IsAtMost-or_more p q = by_test (is_less q p) refl
-  where
-    by_test : (t : Bool) → is_less q p ≡ t → IsAtMost p q ⊎ IsLess q p
-    by_test true e = inr e
-    by_test false e = inl e
+IsAtMost-or_more p q = grind (arith, nat_tests)
 
 -- no cost is both at most another and more
 pub IsAtMost-not_more : (p q : Cost) → IsAtMost p q → IsLess q p → ⊥
@@ -59,16 +48,10 @@ at_most_then_less p q r g h = elim (IsAtMost-cases p q g) [
 ]
 
 pub IsAtMost-trans : (p q r : Cost) → IsAtMost p q → IsAtMost q r → IsAtMost p r
-IsAtMost-trans p q r g h = elim (IsAtMost-cases p q g) [
-  | inl less ↦ less_at_most p r (less_then_at_most p q r less h)
-  | inr same ↦ subst (λ (c : Cost). IsAtMost c r) (sym same) h
-]
+IsAtMost-trans p q r h i = grind (arith, nat_tests, IsAtMost-cases, less_at_most, less_then_at_most)
 
 pub IsAtMost-antisymmetric : (p q : Cost) → IsAtMost p q → IsAtMost q p → p ≡ q
-IsAtMost-antisymmetric p q g h = elim (IsAtMost-cases p q g) [
-  | inl less ↦ absurd (IsAtMost-not_more q p h less)
-  | inr same ↦ same
-]
+IsAtMost-antisymmetric p q h i = grind (arith, nat_tests, IsAtMost-cases, IsAtMost-not_more)
 
 -- where the number of moves and the number of moves with diagonal ones counted twice are at most those
 -- of the other: 2 - √2 and √2 - 1, by which these count, are positive

@@ -1,5 +1,6 @@
 -- Differences of costs: each is a cost less a cost, so that their order is that of two sums of costs.
-use Rattle.std.proofs.Common.{◌≡◌, ℕ, suc, ◌+◌, ◌*◌, ◌^◌, ◌<◌, arith, ap, sym, ◌∙◌, subst}
+use Rattle.std.proofs.lemmas.Bool.Decides.{nat_tests}
+use Rattle.std.proofs.Common.{◌≡◌, ℕ, suc, ◌+◌, ◌*◌, ◌<◌, arith, ap, sym, ◌∙◌, subst}
 use Rattle.std.specs.Prelude.{ℤ, pos, negsuc, ◌+ℤ◌, ◌-ℤ◌, ◌*ℤ◌, ◌<ℤ◌}
 use Rattle.std.specs.Int.RustNames.{unsigned_abs}
 use Rattle.std.proofs.lemmas.Int.{ints}
@@ -12,7 +13,7 @@ use Rattle.root2_cost.specs.Signed.{IsSignedAtMost, RisesAtMost}
 use Rattle.root2_cost.specs.Rank.{rank_of, signed_rank, straight_rank, diagonal_rank}
 use Rattle.root2_cost.specs.Laws.{HasShortParts, HasShortSides}
 use Rattle.root2_cost.proofs.Less.{same_cost}
-use Rattle.root2_cost.proofs.AtMost.{less_at_most, IsAtMost-refl}
+use Rattle.root2_cost.proofs.AtMost.{less_at_most}
 use Rattle.root2_cost.proofs.Sums.{IsAtMost-add, IsAtMost-cancel_right}
 use Rattle.root2_cost.proofs.Ranking.{less_ranks, ranks_less}
 
@@ -28,8 +29,7 @@ down (negsuc n) = suc n
 
 parted : (z : ℤ) → z ≡ pos (up z) -ℤ pos (down z)
 unfolding up down
-parted (pos n) = omega (arith, ints)
-parted (negsuc n) = omega (arith, ints)
+parted z = grind (arith, nat_tests)
 
 -- what is above 0, and what is below
 abbrev gain : Signed → Cost
@@ -39,9 +39,7 @@ abbrev loss : Signed → Cost
 loss s = record { a = down s.a; b = down s.b }
 
 pub same_signed : (p q : Signed) → p.a ≡ q.a → p.b ≡ q.b → p ≡ q
-same_signed p q e f =
-    ap (λ (n : ℤ). let s : Signed = record { a = n; b = p.b } in s) e
-    ∙ ap (λ (n : ℤ). let s : Signed = record { a = q.a; b = n } in s) f
+same_signed p q e f = grind (arith, nat_tests)
 
 -- p less q where p is x less y and q is z less w
 pub record Is (s : Signed) (x y : Cost) : Type 0 where
@@ -98,9 +96,7 @@ signed_less-at_most p q h =
     less_is q p z w x y (is_parted q) (is_parted p) ∙ less_at_most (add_costs x w) (add_costs z y) less
 
 pub signed_at_most-refl : (p : Signed) → IsSignedAtMost p p
-signed_at_most-refl p =
-    less_is p p (gain p) (loss p) (gain p) (loss p) (is_parted p) (is_parted p)
-    ∙ IsAtMost-refl (add_costs (gain p) (loss p))
+signed_at_most-refl p = grind (arith, nat_tests)
 
 -- a difference with a cost more
 more_is : (s : Signed) (x y c : Cost) → Is s x y → Is (add_signed s (signed_of c)) (add_costs x c) y
@@ -139,8 +135,7 @@ telescope p q r =
 -- the rank of a difference is that of what is gained, less that of what is lost
 times : (z : ℤ) (k : ℕ) → z *ℤ pos k ≡ pos (up z * k) -ℤ pos (down z * k)
 unfolding up down
-times (pos n) k = omega (arith, ints)
-times (negsuc n) k = omega (arith, ints)
+times z k = grind (arith, nat_tests)
 
 signed_rank_is : (s : Signed) → signed_rank s ≡ pos (rank_of (gain s)) -ℤ pos (rank_of (loss s))
 signed_rank_is s =
@@ -158,22 +153,14 @@ signed_rank_is s =
 -- its parts are no longer than the value's
 up_below : (z : ℤ) (n : ℕ) → unsigned_abs z < n → up z < n
 unfolding up
-up_below (pos m) n h = h
-up_below (negsuc m) n h = omega arith
+up_below z n h = grind (arith, nat_tests)
 
 down_below : (z : ℤ) (n : ℕ) → unsigned_abs z < n → down z < n
 unfolding down
-down_below (pos m) n h = omega arith
-down_below (negsuc m) n h = h
+down_below z n h = grind (arith, nat_tests)
 
 short_sum : (p q : Signed) → HasShortSides p → HasShortSides q → HasShortParts (add_costs (gain p) (loss q))
-short_sum p q s t = record {
-  straight = sum (up_below p.a (2 ^ 30) s.straight) (down_below q.a (2 ^ 30) t.straight);
-  diagonal = sum (up_below p.b (2 ^ 30) s.diagonal) (down_below q.b (2 ^ 30) t.diagonal);
-}
-  where
-    sum : {m n : ℕ} → m < 2 ^ 30 → n < 2 ^ 30 → m + n < 2 ^ 31
-    sum {m} {n} g h = omega arith
+short_sum p q h i = grind (arith, nat_tests, up_below, down_below)
 
 rank_of-sum : (p q : Cost) → rank_of (add_costs p q) ≡ rank_of p + rank_of q
 rank_of-sum p q = omega arith
@@ -213,19 +200,12 @@ signed_ranks_less p q s t h =
 
 -- where nothing is paid nothing rises
 pub rises_nothing : (p : Signed) → RisesAtMost p no_cost p
-rises_nothing p =
-    let a : p.a -ℤ (p.a +ℤ pos 0) ≡ pos 0 = omega (arith, ints) in
-    let b : p.b -ℤ (p.b +ℤ pos 0) ≡ pos 0 = omega (arith, ints) in
-    ap (λ (n : ℤ). is_positive n (p.b -ℤ (p.b +ℤ pos 0))) a ∙ ap (λ (n : ℤ). is_positive (pos 0) n) b
+rises_nothing p = grind (arith, nat_tests)
 
 -- from nothing, a rise to a cost pays it
 pub rise_from_nothing : (paid cost : Cost) → RisesAtMost (signed_of no_cost) paid (signed_of cost)
     → IsAtMost cost paid
-rise_from_nothing paid cost h =
-    let none : (n : ℕ) → 0 + n ≡ n = λ n. omega arith in
-    ap (λ (n : ℕ). is_positive (pos cost.a -ℤ pos n) (pos cost.b -ℤ pos paid.b)) (sym (none paid.a))
-    ∙ ap (λ (n : ℕ). is_positive (pos cost.a -ℤ pos (0 + paid.a)) (pos cost.b -ℤ pos n)) (sym (none paid.b))
-    ∙ h
+rise_from_nothing paid cost h = grind (arith, nat_tests)
 
 -- the rank of a difference with a cost more
 pub signed_rank-more : (s : Signed) (c : Cost)

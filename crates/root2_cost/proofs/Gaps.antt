@@ -1,4 +1,5 @@
 -- The order a + b√2 < c + d√2 on whole numbers, with the differences of the parts as witnesses.
+use Rattle.std.proofs.lemmas.Bool.Decides.{nat_tests}
 use Rattle.std.proofs.Common.{◌≡◌, ℕ, suc, zero, ◌+◌, ◌*◌, ◌-◌, ◌<◌, ◌≤◌, ◌⊎◌, inl, inr, arith, ap}
 use Rattle.root2_cost.proofs.Squares.{sums_below, sums_above, square_grows, square_positive, irrational}
 
@@ -121,11 +122,7 @@ Gap-trans (second x y p q r) (second z w s t u) =
 
 -- no pair is less than itself
 pub Gap-irreflexive : (a b : ℕ) → Gap a b a b → ⊥
-Gap-irreflexive a b (both x y p q r) = omega arith
-Gap-irreflexive a b (first x y p q r) = let e : x ≡ 0 = omega arith in
-    let none : 2 * (y * y) < 0 * 0 = rw e at r in omega arith
-Gap-irreflexive a b (second x y p q r) = let e : y ≡ 0 = omega arith in
-    let none : x * x < 2 * (0 * 0) = rw e at r in omega arith
+Gap-irreflexive a b h = grind (arith, nat_tests)
 
 -- the parts differ so, that x + y√2 takes one to the other, in one direction
 pub Gap-total : (a b c d : ℕ) → Gap a b c d ⊎ Gap c d a b ⊎ ((a ≡ c) × (b ≡ d))

@@ -1,5 +1,6 @@
 -- Ranks of costs: whole numbers a * q + b * p, where p * p is twice q * q and one more.
-use Rattle.std.proofs.Common.{◌≡◌, ℕ, ◌+◌, ◌*◌, ◌^◌, ◌<◌, ◌≤◌, inl, inr, arith, ap, sym, ◌∙◌, lit<}
+use Rattle.std.proofs.lemmas.Bool.Decides.{nat_tests}
+use Rattle.std.proofs.Common.{◌≡◌, ℕ, ◌+◌, ◌*◌, ◌^◌, ◌<◌, ◌≤◌, inl, inr, arith, ap, ◌∙◌, lit<}
 use Rattle.std.proofs.Math.Nat.{mul-le-mul}
 use Rattle.root2_cost.specs.declared.Cost.{Cost}
 use Rattle.root2_cost.specs.Order.{IsLess}
@@ -88,11 +89,4 @@ ranks_less p q s t h = elim (IsLess-total p q) [
 
 -- costs of one rank are the same
 pub ranks_same : (p q : Cost) → HasShortParts p → HasShortParts q → rank_of p ≡ rank_of q → p ≡ q
-ranks_same p q s t h = elim (IsLess-total p q) [
-  | inl less ↦ absurd (not_same (rank_of p) (rank_of q) (less_ranks p q s less) h)
-  | inr (inl more) ↦ absurd (not_same (rank_of q) (rank_of p) (less_ranks q p t more) (sym h))
-  | inr (inr same) ↦ same
-]
-  where
-    not_same : (m n : ℕ) → m < n → m ≡ n → ⊥
-    not_same m n g h = omega arith
+ranks_same p q h i j = grind (arith, nat_tests)

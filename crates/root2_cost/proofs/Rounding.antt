@@ -1,4 +1,5 @@
 -- The whole number nearest to a cost, and the whole fours in it.
+use Rattle.std.proofs.lemmas.Bool.Decides.{nat_tests}
 use Rattle.std.proofs.Common.{◌≡◌, ℕ, zero, suc, ◌+◌, ◌-◌, ◌*◌, ◌/◌, ◌^◌, ◌<◌, ◌≤◌, ◌⊎◌, inl, inr}
 use Rattle.std.proofs.Common.{arith, refl, ap, sym, ◌∙◌, subst, Bool, true, false}
 use Rattle.std.specs.Prelude.{ℤ, pos, ◌-ℤ◌, if◌then◌else◌}
@@ -66,10 +67,7 @@ half_under a k s t h l =
 
 pub half_is : (a k s : ℕ) → s * s ≤ 8 * (k * k) → 8 * (k * k) < (s + 1) * (s + 1)
     → IsHalf (a + (s + 1) / 2) (record { a = a; b = k })
-half_is a k s h g = record {
-  over = half_over a k s ((s + 1) / 2) h (omega arith);
-  under = half_under a k s ((s + 1) / 2) g (omega arith);
-}
+half_is a k s h i = grind (arith, nat_tests, half_over, half_under)
 
 -- each number has a root, rounded down
 root_of : (x : ℕ) → (s : ℕ) × (s * s ≤ x) × (x < (s + 1) * (s + 1))
@@ -91,14 +89,7 @@ half_exists v =
 
 -- the order of whole numbers is that of costs
 whole_less : (m n : ℕ) → IsLess (whole m) (whole n) → m < n
-whole_less m n h = elim (below m n) [
-  | inl less ↦ less
-  | inr most ↦ absurd (IsAtMost-not_more (whole n) (whole m)
-      (at_most_by_parts (whole n) (whole m) most (omega arith)) h)
-]
-  where
-    below : (m n : ℕ) → (m < n) ⊎ (n ≤ m)
-    below m n = grind arith
+whole_less m n h = grind (arith, nat_tests)
 
 less_whole : (m n : ℕ) → m < n → IsLess (whole m) (whole n)
 less_whole m n h = gap_less (whole m) (whole n) (both (n - m) 0 (omega arith) (omega arith) (omega arith))
@@ -119,17 +110,13 @@ module _ (cost : Cost) where
 
   is_below : (n : ℕ) → is_positive (opposite (excess_of (eight_places n) cost)).a
       (opposite (excess_of (eight_places n) cost)).b ≡ is_less (whole n) (scaled cost)
-  is_below n =
-      ap (λ (z : ℤ). is_positive z (opposite (excess_of (eight_places n) cost)).b) (opposite_is n).a
-      ∙ ap (λ (z : ℤ). is_positive (pos (scaled cost).a -ℤ pos n) z) (opposite_is n).b
+  is_below n = grind (arith, nat_tests, opposite_is)
 
   chosen : (t : Bool) (p q : Signed) (x y z w : Cost) → t ≡ true → Is p x y → Is (if t then p else q) x y
-  chosen true p q x y z w e i = i
-  chosen false p q x y z w e i = absurd (cc)
+  chosen t p q x y z w h i = grind (arith, nat_tests)
 
   other : (t : Bool) (p q : Signed) (x y : Cost) → t ≡ false → Is q x y → Is (if t then p else q) x y
-  other true p q x y e i = absurd (cc)
-  other false p q x y e i = i
+  other t p q x y h i = grind (arith, nat_tests)
 
   far_below : (n : ℕ) → IsLess (whole n) (scaled cost)
       → Is (distance_to cost (eight_places n)) (scaled cost) (whole n)
@@ -284,9 +271,7 @@ module _ (cost : Cost) where
       rw (up, down) refl
 
   pub nearest_agrees : (length : Decimal) → IsNearest cost length → verdict_of length cost ≡ Agree
-  nearest_agrees length nearest =
-      ap (λ (d : Decimal). verdict_of d cost) (placed length nearest.places)
-      ∙ half_agrees length.digits (nearest_half length nearest)
+  nearest_agrees length nearest = grind (arith, nat_tests, placed, half_agrees, nearest_half)
 
   -- and the cost is at most three times the greater of its counts
   pub nearest_short : (length : Decimal) → IsNearest cost length → cost.a ≤ 2 ^ 24 → cost.b ≤ 2 ^ 24
@@ -310,28 +295,12 @@ module _ (cost : Cost) where
 
 -- straight moves at most a cost, where the root of twice the square of its diagonal ones, rounded down, is r
 root_at_most : (a b r : ℕ) → r * r ≤ 2 * (b * b) → IsAtMost (whole (a + r)) (record { a = a; b = b })
-root_at_most a b r h = elim (order (r * r) (2 * (b * b))) [
-  | inl less ↦ less_at_most (whole (a + r)) (record { a = a; b = b })
-      (gap_less (whole (a + r)) (record { a = a; b = b }) (second r b (omega arith) (omega arith) less))
-  | inr most ↦
-      let none : b ≡ 0 = irrational r b (omega arith) in
-      let none_square : 2 * (0 * 0) ≡ 2 * (b * b) = rw none refl in
-      let gone : r ≡ 0 = no_square r (omega arith) in
-      same_at_most (whole (a + r)) (record { a = a; b = b })
-      (same_cost (whole (a + r)) (record { a = a; b = b }) (omega arith) (omega arith))
-]
-  where
-    order : (m n : ℕ) → (m < n) ⊎ (n ≤ m)
-    order m n = grind arith
-
-    no_square : (r : ℕ) → r * r ≤ 0 → r ≡ 0
-    no_square zero h = refl
-    no_square (suc r) h = absurd (omega arith)
+root_at_most a b r h =
+    grind (arith, nat_tests, less_at_most, gap_less, second, irrational, same_at_most, same_cost)
 
 root_below_next : (a b r : ℕ) → 2 * (b * b) < (r + 1) * (r + 1)
     → IsLess (record { a = a; b = b }) (whole (a + r + 1))
-root_below_next a b r h =
-    gap_less (record { a = a; b = b }) (whole (a + r + 1)) (first (r + 1) b (omega arith) (omega arith) h)
+root_below_next a b r h = grind (arith, nat_tests)
 
 pub bucket_is : (cost : Cost) (r : ℕ) → r * r ≤ 2 * (cost.b * cost.b)
     → 2 * (cost.b * cost.b) < (r + 1) * (r + 1) → IsBucket cost ((cost.a + r) / 4)
@@ -344,18 +313,8 @@ bucket_is cost r h g = record {
       (at_most_by_parts (whole (cost.a + r + 1)) (fours ((cost.a + r) / 4 + 1)) (omega arith) (omega arith));
 }
 
--- a bucket is no greater than another
-bucket_most : (cost : Cost) (p q : ℕ) → IsBucket cost p → IsBucket cost q → p < q + 1
-bucket_most cost p q g h =
-    let less : 4 * p < 4 * (q + 1) = whole_less (4 * p) (4 * (q + 1))
-    (at_most_then_less (fours p) cost (fours (q + 1)) g.at_least h.below) in
-    omega arith
-
 pub bucket_one : (cost : Cost) (p q : ℕ) → IsBucket cost p → IsBucket cost q → p ≡ q
-bucket_one cost p q g h =
-    let up = bucket_most cost p q g h in
-    let down = bucket_most cost q p h g in
-    omega arith
+bucket_one cost p q g h = grind (arith, nat_tests)
 
 -- each cost has a nearest length and a bucket
 pub nearest_exists : (cost : Cost) → (n : ℕ) × IsNearest cost (eight_places n)

@@ -1,4 +1,5 @@
 -- Squares of whole numbers, and that √2 is no fraction.
+use Rattle.std.proofs.lemmas.Bool.Decides.{nat_tests}
 use Rattle.std.proofs.Common.{◌≡◌, ℕ, suc, zero, ◌+◌, ◌*◌, ◌<◌, ◌≤◌, ◌⊎◌, inl, inr, arith, ◌/◌}
 use Rattle.std.proofs.Math.Nat.{mul-le-mul}
 
@@ -32,16 +33,12 @@ products_above u v r s h k =
 -- from u ≤ v√2 and r < s√2: u + r < (v + s)√2
 pub sums_below : (u v r s : ℕ) → u * u ≤ 2 * (v * v) → r * r < 2 * (s * s)
     → (u + r) * (u + r) < 2 * ((v + s) * (v + s))
-sums_below u v r s h k =
-    let cross : u * r ≤ 2 * (v * s) = products_below u v r s h (omega arith) in
-    omega arith
+sums_below u v r s h k = grind (arith, nat_tests, products_below)
 
 -- from u ≥ v√2 and r > s√2: u + r > (v + s)√2
 pub sums_above : (u v r s : ℕ) → 2 * (v * v) ≤ u * u → 2 * (s * s) < r * r
     → 2 * ((v + s) * (v + s)) < (u + r) * (u + r)
-sums_above u v r s h k =
-    let cross : 2 * (v * s) ≤ u * r = products_above u v r s h (omega arith) in
-    omega arith
+sums_above u v r s h k = grind (arith, nat_tests, products_above)
 
 -- a number is twice its half, or one more
 halves : (x : ℕ) → (x ≡ 2 * (x / 2)) ⊎ (x ≡ 2 * (x / 2) + 1)

@@ -1,19 +1,19 @@
 -- Laws of sums of costs.
+use Rattle.std.proofs.lemmas.Bool.Decides.{nat_tests}
 use Rattle.std.proofs.Common.{◌≡◌, ◌+◌, ◌<◌, inl, inr, arith, ap}
 use Rattle.root2_cost.specs.declared.Cost.{Cost}
 use Rattle.root2_cost.specs.Order.{IsLess, IsAtMost}
 use Rattle.root2_cost.specs.Sums.{no_cost, add_costs}
 use Rattle.root2_cost.proofs.Gaps.{both, Gap-moved}
 use Rattle.root2_cost.proofs.Less.{less_gap, gap_less, same_cost}
-use Rattle.root2_cost.proofs.AtMost.{IsAtMost-cases, less_at_most, same_at_most, IsAtMost-or_more}
-use Rattle.root2_cost.proofs.AtMost.{IsAtMost-not_more, IsAtMost-trans, at_most_by_parts}
+use Rattle.root2_cost.proofs.AtMost.{IsAtMost-cases, less_at_most, same_at_most}
+use Rattle.root2_cost.proofs.AtMost.{IsAtMost-trans, at_most_by_parts}
 
 pub add_costs-comm : (p q : Cost) → add_costs p q ≡ add_costs q p
 add_costs-comm p q = same_cost (add_costs p q) (add_costs q p) (omega arith) (omega arith)
 
 pub add_costs-assoc : (p q r : Cost) → add_costs (add_costs p q) r ≡ add_costs p (add_costs q r)
-add_costs-assoc p q r =
-    same_cost (add_costs (add_costs p q) r) (add_costs p (add_costs q r)) (omega arith) (omega arith)
+add_costs-assoc p q r = grind (arith, nat_tests)
 
 pub add_costs-no_cost_left : (p : Cost) → add_costs no_cost p ≡ p
 add_costs-no_cost_left p = same_cost (add_costs no_cost p) p (omega arith) (omega arith)
@@ -55,16 +55,10 @@ pub IsLess-cancel_right : (r p q : Cost) → IsLess (add_costs p r) (add_costs q
 IsLess-cancel_right r p q h = IsLess-moved (add_costs p r) (add_costs q r) p q h (omega arith) (omega arith)
 
 pub IsAtMost-cancel_left : (r p q : Cost) → IsAtMost (add_costs r p) (add_costs r q) → IsAtMost p q
-IsAtMost-cancel_left r p q h = elim (IsAtMost-or_more p q) [
-  | inl most ↦ most
-  | inr more ↦ absurd (IsAtMost-not_more (add_costs r p) (add_costs r q) h (IsLess-add_left r q p more))
-]
+IsAtMost-cancel_left r p q h = grind (arith, nat_tests, IsLess-add_left)
 
 pub IsAtMost-cancel_right : (r p q : Cost) → IsAtMost (add_costs p r) (add_costs q r) → IsAtMost p q
-IsAtMost-cancel_right r p q h = elim (IsAtMost-or_more p q) [
-  | inl most ↦ most
-  | inr more ↦ absurd (IsAtMost-not_more (add_costs p r) (add_costs q r) h (IsLess-add_right r q p more))
-]
+IsAtMost-cancel_right r p q h = grind (arith, nat_tests, IsLess-add_right)
 
 -- a cost added lowers nothing
 pub no_cost_at_most : (p : Cost) → IsAtMost no_cost p

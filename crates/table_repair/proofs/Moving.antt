@@ -42,14 +42,6 @@ ahead_behind d u v h = moved_ahead (opposite d) v u (moved_back d u v (ahead_mov
 pub behind_ahead : (d : Dir) (u v : Cell) → ahead (opposite d) v ≡ Some u → ahead d u ≡ Some v
 behind_ahead d u v h = moved_ahead d u v (moved_forth d u v (ahead_moved (opposite d) v u h))
 
--- one move more
-further : (t : Trend) (k a z b : ℕ) → IsMoved t 1 a z → IsMoved t k z b → IsMoved t (k + 1) a b
-further t k a z b h i = grind (arith, nat_tests)
-
-pub moved_further : (d : Dir) (k : ℕ) (u v w : Cell) → AreMoved d 1 u v → AreMoved d k v w
-    → AreMoved d (k + 1) u w
-moved_further d k u v w p q = grind (arith, further, column_trend, row_trend)
-
 pub moved_nowhere : (d : Dir) (u : Cell) → AreMoved d 0 u u
 moved_nowhere d u = grind (arith, column_trend, row_trend, rising, level, falling)
 

@@ -1,3 +1,5 @@
+use Rattle.std.proofs.Common.{arith}
+use Rattle.std.proofs.lemmas.Bool.Decides.{nat_tests}
 use Rattle.std.proofs.Common.{◌≡◌, ℕ, ap}
 use Rattle.rand_pcg.specs.Lcg.{Lcg}
 use Rattle.rand_pcg.specs.Pcg.{pcg32}
@@ -16,6 +18,4 @@ loop-done-preserved c =
     c.loop-done.cells.items c.loop-done.generator c.loop-done.invariant c.loop-done-test.true)
 
 pub returns : goal.returns
-returns c =
-    cells_all (cell_by c.args.kinds.now) c.args.count c.args.generator.now c.loop-done._done
-    c.loop-done.cells.items c.loop-done.generator c.loop-done.invariant c.loop-done-test.false
+returns c = grind (arith, nat_tests, cells_all)

@@ -1,4 +1,6 @@
-use Rattle.std.proofs.Common.{ℕ, List, ap, ◌∙◌}
+use Rattle.std.proofs.Common.{arith}
+use Rattle.std.proofs.lemmas.Bool.Decides.{nat_tests}
+use Rattle.std.proofs.Common.{ℕ, List, ◌∙◌}
 use Rattle.map_text.specs.Map.{Map}
 use Rattle.map_maker.proofs.Drawn.{cells_made}
 use Rattle.map_maker.proofs.making.make.Goals as goal
@@ -15,8 +17,4 @@ invariant_of-result c =
 
 pub returns : goal.returns
 unfolding map_of_cells
-returns c =
-    let made = cells_made c.args.seed c.args.w c.args.h c.args.percent c.kinds_of-kinds.result c.of.result
-    c.seed_from_u64-generator.result c.requires.width c.requires.height c.kinds_of-kinds.ensures
-    c.seed_from_u64-generator.ensures (c.of.ensures ∙ c.in_ok-cells.ensures) in
-    ap (map_of_cells c.args.w c.args.h) made.made
+returns c = grind (arith, nat_tests)
