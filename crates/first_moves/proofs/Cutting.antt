@@ -1,8 +1,8 @@
 -- What runs tell of the members that were cut.
-use Rattle.std.proofs.Common.{inl, inr, ◌≡◌, ℕ, zero, suc, ◌+◌, ◌-◌, ◌<◌, ◌≤◌, arith, refl, ap, sym, ◌∙◌}
+use Rattle.std.proofs.Common.{◌≡◌, ℕ, zero, suc, ◌+◌, ◌-◌, ◌<◌, ◌≤◌, arith, refl, ap, sym, ◌∙◌}
 use Rattle.std.proofs.Common.{subst, true, false, List, [], ◌∷◌, ◌++◌, length, get_or, map, drop}
 use Rattle.std.proofs.Common.{append_assoc, add-one, drop-cons, length-append}
-use Rattle.std.specs.Prelude.{Option, Some, None, nat_lt, if◌then◌else◌}
+use Rattle.std.specs.Prelude.{Option, None, nat_lt, if◌then◌else◌}
 use Rattle.std.proofs.lemmas.Bool.{cases_lt}
 use Rattle.std.proofs.lemmas.Bool.Decides.{nat_tests}
 use Rattle.grid_moves.specs.declared.Dir.{Dir}
@@ -13,11 +13,7 @@ use Rattle.first_moves.specs.Runs.{is_same_move, runs_from, runs_of}
 
 -- equal members are one
 pub same_move : (m n : Option Dir) → is_same_move m n ≡ true → m ≡ n
-same_move None None h = refl
-same_move None (Some e) h = absurd (cc)
-same_move (Some d) None h = absurd (cc)
-same_move (Some d) (Some e) h =
-    ap (λ (c : Dir). Some c) (one_dir d e (grind (arith, nat_tests)))
+same_move m n h1 = grind (arith, nat_tests, one_dir)
 
 -- a run that begins at s, and those of what follows it
 abbrev runs_on : ℕ → ℕ → Option Dir → List (Option Dir) → List Run
@@ -55,19 +51,7 @@ member_from k m ms n h = let t : nat_lt n k ≡ false = grind (arith, nat_tests)
 -- one place later, where the first of them is m
 member_later : (k : ℕ) (m : Option Dir) (ms : List (Option Dir)) (n : ℕ)
     → member (k + 1) m ms n ≡ member k m (m ∷ ms) n
-member_later k m ms n = elim (cases_lt n k) [
-  | inl below ↦ member_below (k + 1) m ms n (omega arith) ∙ sym (member_below k m (m ∷ ms) n below)
-  | inr from ↦ elim (cases_lt k n) [
-    | inl above ↦
-        let less : n - k ≡ suc (n - (k + 1)) = omega arith in
-        member_from (k + 1) m ms n (omega arith)
-        ∙ sym (member_from k m (m ∷ ms) n from ∙ ap (λ (j : ℕ). get_or (m ∷ ms) j None) less)
-    | inr here ↦
-        let none : n - k ≡ 0 = omega arith in
-        member_below (k + 1) m ms n (omega arith)
-        ∙ sym (member_from k m (m ∷ ms) n from ∙ ap (λ (j : ℕ). get_or (m ∷ ms) j None) none)
-  ]
-]
+member_later k m ms n = grind (arith, nat_tests, cases_lt, member_below, member_from)
 
 -- run i begins at place n or before, unless it is the first one, and the next one after it
 pub record IsRunOf (runs : List Run) (n i : ℕ) (d : Run) : Type 0 where

@@ -1,4 +1,5 @@
 -- The walk of first moves.
+use Rattle.std.proofs.lemmas.Bool.Decides.{nat_tests}
 use Rattle.std.proofs.Common.{◌≡◌, ◌+◌, ◌*◌, ◌<◌, arith, refl, ap, sym, ◌∙◌, subst, Bool, true, false, List}
 use Rattle.std.proofs.Common.{[], ◌∷◌, ◌++◌}
 use Rattle.std.proofs.lemmas.List.{append_assoc}
@@ -194,14 +195,7 @@ no_move_by g s t none points free e n p =
 
 -- a test that cells differ
 pub apart_by : (u v : Cell) (r : Bool) → r ≡ not (is_same u v) → r ≡ true → u ≡ v → ⊥
-apart_by u v r n t e =
-    let same : is_same u v ≡ true = subst (λ (c : Cell). is_same u c ≡ true) e (is_same-itself u) in
-    let f : r ≡ false = n ∙ ap (λ (b : Bool). not b) same in
-    absurd (cc)
+apart_by u v r h1 h2 h3 = grind (arith, nat_tests, is_same-itself)
 
 pub same_by : (u v : Cell) (r : Bool) → r ≡ not (is_same u v) → r ≡ false → u ≡ v
-same_by u v r n f = is_same-cell u v (by_test (is_same u v) (sym n ∙ f))
-  where
-    by_test : (b : Bool) → not b ≡ false → b ≡ true
-    by_test true e = refl
-    by_test false e = absurd (cc)
+same_by u v r h1 h2 = grind (arith, nat_tests, is_same-cell)

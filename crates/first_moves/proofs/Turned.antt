@@ -1,5 +1,5 @@
 -- A walk turned round is a walk of the same cost, so what a least walk costs is the same both ways.
-use Rattle.std.proofs.Common.{◌≡◌, ℕ, arith, refl, ap, sym, ◌∙◌, subst, Bool, true, false, List, [], ◌∷◌}
+use Rattle.std.proofs.Common.{◌≡◌, ℕ, arith, refl, ap, sym, ◌∙◌, subst, true, List, [], ◌∷◌}
 use Rattle.std.specs.Prelude.{Option, Some, None, nat_eq}
 use Rattle.std.proofs.lemmas.Bool.Decides.{nat_tests}
 use Rattle.root2_cost.specs.declared.Cost.{Cost}
@@ -8,8 +8,8 @@ use Rattle.root2_cost.specs.Sums.{add_costs}
 use Rattle.root2_cost.proofs.Sums.{add_costs-assoc, add_costs-comm, add_costs-no_cost_left}
 use Rattle.root2_cost.proofs.Sums.{add_costs-no_cost_right}
 use Rattle.grid_moves.specs.declared.Cell.{Cell}
-use Rattle.grid_moves.specs.Grid.{GridData, is_free}
-use Rattle.grid_moves.specs.Move.{is_legal, corner_of, move_cost}
+use Rattle.grid_moves.specs.Grid.{GridData}
+use Rattle.grid_moves.specs.Move.{is_legal, move_cost}
 use Rattle.grid_moves.specs.Walk.{IsWalk, is_walk, cost_of, last_of}
 use Rattle.grid_moves.proofs.Besides.{passable-turned}
 use Rattle.grid_moves.proofs.Legal.{and_both, legal_is, is_legal-from}
@@ -17,33 +17,10 @@ use Rattle.grid_moves.proofs.Short.{walk_free}
 use Rattle.cost_waves.specs.Begin.{IsLeastCost, IsCostTo}
 
 pub legal_back : (g : GridData) (u v : Cell) → is_legal g u v ≡ true → is_legal g v u ≡ true
-legal_back g u v h =
-    let l = legal_is g u v h in
-    is_legal-from g v u (record {
-      source = l.target;
-      target = l.source;
-      passes = passable-turned g.corner (is_free g (corner_of v u)) (is_free g (corner_of u v)) ∙ l.passes;
-      x_low = l.x_high;
-      x_high = l.x_low;
-      y_low = l.y_high;
-      y_high = l.y_low;
-      differ = λ e f. l.differ (sym e) (sym f);
-    })
+legal_back g u v h1 = grind (arith, nat_tests, legal_is, is_legal-from, passable-turned)
 
 nat_eq-turned : (m n : ℕ) → nat_eq m n ≡ nat_eq n m
-nat_eq-turned m n = by_tests (nat_eq m n) (nat_eq n m) refl refl
-  where
-    by_tests : (a b : Bool) → nat_eq m n ≡ a → nat_eq n m ≡ b → nat_eq m n ≡ nat_eq n m
-    by_tests true true p q = p ∙ sym q
-    by_tests false false p q = p ∙ sym q
-    by_tests true false p q =
-        let e : m ≡ n = grind (arith, nat_tests) in
-        let t : nat_eq n m ≡ true = grind (arith, nat_tests) in
-        absurd (cc)
-    by_tests false true p q =
-        let e : n ≡ m = grind (arith, nat_tests) in
-        let t : nat_eq m n ≡ true = grind (arith, nat_tests) in
-        absurd (cc)
+nat_eq-turned m n = grind (arith, nat_tests)
 
 cost_back : (u v : Cell) → move_cost v u ≡ move_cost u v
 cost_back u v = rw (nat_eq-turned v.x u.x, nat_eq-turned v.y u.y) refl

@@ -11,14 +11,15 @@ use Rattle.std.proofs.lemmas.List.Elements.{Contains-append_left, Contains-appen
 use Rattle.std.proofs.lemmas.List.Elements.{Contains-append_cases}
 use Rattle.std.proofs.lemmas.List.Elements.{Contains-push, Contains-push_cases}
 use Rattle.std.proofs.lemmas.List.Sums.{sum_by-set}
+use Rattle.std.proofs.lemmas.Bool.{and_parts}
 use Rattle.grid_moves.specs.declared.Cell.{Cell}
 use Rattle.grid_moves.specs.declared.Dir.{Dir}
 use Rattle.grid_moves.specs.Grid.{GridData, cell_number, is_free, is_inside}
 use Rattle.grid_moves.specs.Move.{is_legal, legal_ahead, all_dirs}
 use Rattle.grid_moves.proofs.Ahead.{legal_ahead-is, legal_ahead-of}
 use Rattle.grid_moves.proofs.Legal.{legal_is}
-use Rattle.grid_moves.proofs.Places.{number_below}
-use Rattle.cost_waves.proofs.Keeping.{IsOn, is_on, free_on, same_or_apart, some_cell}
+use Rattle.grid_moves.proofs.Places.{free_below}
+use Rattle.cost_waves.proofs.Keeping.{IsOn, is_on, free_on, same_or_apart}
 use Rattle.cost_waves.proofs.Settling.{In, first, later, in_all}
 use Rattle.first_moves.proofs.Turned.{legal_back}
 use Rattle.joined_cells.specs.Flood.{Flood, flood_of, reached, reached_by, spread}
@@ -43,8 +44,7 @@ module _ (g : GridData) (label : ℕ) (some : label ≢ 0) (v : Cell) (free : is
     on = free_on g v free
 
     within : place < length labels
-    within = let b : place < g.height * g.width = number_below g.width g.height v on.column on.row in
-        omega arith
+    within = rw whole (free_below g v free)
 
     -- it alone
     now_labelled : label_at g (set labels place label) v ≡ label
@@ -58,11 +58,7 @@ module _ (g : GridData) (label : ℕ) (some : label ≢ 0) (v : Cell) (free : is
     stay_labelled c n = there c (λ e. n (ap (λ (k : ℕ). get_or labels k 0) e ∙ new))
 
     pub one_less : unlabelled (set labels place label) + 1 ≡ unlabelled labels
-    one_less =
-        let c = sum_by-set (λ (x : ℕ). if nat_eq x 0 then 1 else 0) labels place label 0 within in
-        let now : nat_eq label 0 ≡ false = grind (arith, nat_tests) in
-        let old : nat_eq (get_or labels place 0) 0 ≡ true = let e = new in grind (arith, nat_tests) in
-        let e = rw (now, old) at c in omega arith
+    one_less = grind (arith, nat_tests, sum_by-set, within)
 
   pub keeps_labelled : (cells : List Cell) → Keeps g label cells labels
       → Keeps g label (cells ++ (v ∷ [])) (set labels place label)
@@ -163,17 +159,13 @@ module _ (g : GridData) (label : ℕ) (some : label ≢ 0) (u : Cell) where
 
       name : IsNamed g v label
       name =
-          let i = free_on g u here.free in
-          let n = k.named u (inside u i) (λ z. some (sym here.has ∙ z)) in
+          let n = k.named u (and_parts (is_inside g u) _ here.free).0 (λ z. some (sym here.has ∙ z)) in
           record {
             first = n.first;
             free = n.free;
             is = sym here.has ∙ n.is;
             joined = joined_more g n.first u v n.joined l;
           }
-        where
-          inside : (c : Cell) → IsOn g c → is_inside g c ≡ true
-          inside c on = let x = on.column in let y = on.row in grind (arith, nat_tests)
 
       one_longer : length (f.waiting ++ (v ∷ [])) ≡ length f.waiting + 1
       one_longer = length-append f.waiting (v ∷ [])
@@ -245,7 +237,7 @@ module _ (g : GridData) (label : ℕ) (some : label ≢ 0) (u : Cell) where
       by_end (Some v) e others =
           let r = reaches v (legal_ahead-is g u v d e) f k in
           joined_to d dirs f (reached (cell_number g.width v) label v f) _ r.stay
-          (λ w a. let same : v ≡ w = some_cell v w (sym e ∙ a) in
+          (λ w a. let same : v ≡ w = cc in
           subst (λ (c : Cell). label_at g (reached (cell_number g.width v) label v f).labels c ≡ label) same
           r.end)
           r.weight (others (reached (cell_number g.width v) label v f) r.keeps)

@@ -7,7 +7,7 @@ use Rattle.std.specs.Char.{is_ascii_digit}
 use Rattle.std.specs.List.{list_all, onto_first, slice_split}
 use Rattle.std.specs.Option.{option_and_then, option_map}
 use Rattle.std.specs.Str.{bytes_eq}
-use Rattle.std.proofs.lemmas.Bool.{and_from, and_parts}
+use Rattle.std.proofs.lemmas.Bool.{and_from, and_parts, leb-true, le-leb}
 use Rattle.std.proofs.lemmas.Bool.Decides.{nat_tests}
 use Rattle.std.proofs.lemmas.List.{length-drop}
 use Rattle.root2_cost.specs.declared.Cost.{Cost}
@@ -16,7 +16,6 @@ use Rattle.potential_check.specs.Certificate.{are_points, are_sides, is_short, i
 use Rattle.potential_check.specs.Forms.{after_byte, after_word, cell_before, cell_in, cost_in}
 use Rattle.potential_check.specs.Forms.{ends_on, is_space, last_number, least_on, number_ahead, number_before}
 use Rattle.potential_check.specs.Forms.{points_in, points_on, size_on, two_numbers, value_on}
-use Rattle.potential_check.proofs.Entries.{le_is, le_true}
 use Rattle.potential_check.proofs.Leading.{AreDigits, no_digit, number_read, too_many, value_low}
 use Rattle.outcome_laws.proofs.Refusing.{less_or_not}
 
@@ -218,7 +217,7 @@ points_few line points short e =
     (after_word (codes "points ") line) points e in
     let cut = if_of (nat_le 7 (length line) && bytes_eq (take 7 line) (codes "points ")) (drop 7 line) rest.0
     rest.1 in
-    let long = le_is 7 (length line)
+    let long = leb-true 7 (length line)
     (and_parts (nat_le 7 (length line)) (bytes_eq (take 7 line) (codes "points ")) cut.0).0 in
     let left : length rest.0 ≡ length line - 7 =
     ap (λ (l : List ℕ). length l) (sym cut.1) ∙ length-drop 7 line in
@@ -229,4 +228,4 @@ points_few line points short e =
     let many = all.0 in
     and_from (nat_le 1 (length points) && nat_lt (length points) (2 ^ 30)) (list_all is_short points)
     (and_from (nat_le 1 (length points)) (nat_lt (length points) (2 ^ 30))
-    (le_true 1 (length points) (omega arith)) (lt_true (length points) (2 ^ 30) (omega arith))) all.1
+    (le-leb 1 (length points) (omega arith)) (lt_true (length points) (2 ^ 30) (omega arith))) all.1

@@ -20,18 +20,15 @@ use Rattle.potential_check.specs.Moves.{first_failing}
 use Rattle.potential_check.specs.Potential.{is_listed, potential_of, rises}
 use Rattle.potential_check.proofs.Judging.{judged_goal, judged_least, judged_listed, judged_move, judged_none}
 use Rattle.potential_check.proofs.Judging.{judged_open, judged_start, judged_unlisted, judged_walk}
-use Rattle.potential_check.proofs.Walks.{Tells, judged_broken, judged_elsewhere, judged_other, judged_right}
+use Rattle.potential_check.proofs.Walks.{judged_broken, judged_elsewhere, judged_other, judged_right}
 use Rattle.walk_judge.proofs.Judgements.{has_verdict}
 
 module _ (g : GridData) (s t : Cell) (cost : Cost) (points : List Cell) where
-  tells : (answer : Result Cost BadAt) → IsVerdict g points answer → Tells g s t cost points answer
-  tells answer is = record { walk = is.walk; ok = is.ok; bad = is.bad; err = is.err }
-
   -- the points stand for a right walk, or they are bad
   walk_judged : (bad : Option ℕ) × JudgesWalk g s t cost points bad
   walk_judged = by_start (begins_at s points) refl
     where
-      by_ends : (paid : Cost) → begins_at s points ≡ true → Tells g s t cost points (Ok paid) → (b : Bool)
+      by_ends : (paid : Cost) → begins_at s points ≡ true → IsVerdict g points (Ok paid) → (b : Bool)
           → (ends_at t points && is_cost paid cost) ≡ b → (bad : Option ℕ) × JudgesWalk g s t cost points bad
       by_ends paid begins told true e =
           let p = and_both (ends_at t points) (is_cost paid cost) e in
@@ -42,9 +39,9 @@ module _ (g : GridData) (s t : Cell) (cost : Cost) (points : List Cell) where
       by_answer : begins_at s points ≡ true → (answer : Result Cost BadAt) → IsVerdict g points answer
           → (bad : Option ℕ) × JudgesWalk g s t cost points bad
       by_answer begins (Ok paid) is =
-          by_ends paid begins (tells (Ok paid) is) (ends_at t points && is_cost paid cost) refl
+          by_ends paid begins is (ends_at t points && is_cost paid cost) refl
       by_answer begins (Err bad) is =
-          (Some bad.0, judged_broken g s t cost points bad begins (tells (Err bad) is))
+          (Some bad.0, judged_broken g s t cost points bad begins is)
 
       by_start : (b : Bool) → begins_at s points ≡ b → (bad : Option ℕ) × JudgesWalk g s t cost points bad
       by_start false off = (Some 0, judged_elsewhere g s t cost points off)

@@ -11,12 +11,12 @@ use Rattle.grid_moves.specs.Move.{legal_ahead}
 use Rattle.grid_moves.specs.Walk.{IsLeastWalk, cost_of}
 use Rattle.grid_moves.proofs.Short.{least_rest, walk_free}
 use Rattle.path_points.specs.Corners.{corners}
-use Rattle.path_points.proofs.Joined.{cost_counts}
+use Rattle.grid_moves.proofs.Walks.{steps-cost_of}
+use Rattle.grid_moves.proofs.Dirs.{one_dir}
 use Rattle.cost_waves.specs.Begin.{Begins}
 use Rattle.first_moves.specs.First.{IsFirstMove}
 use Rattle.first_moves.specs.Follow.{AreFirst, IsFollowed, LeadsTo}
 use Rattle.first_moves.proofs.Following.{no_move}
-use Rattle.first_moves.proofs.Picking.{same_dir}
 
 -- two least walks have as many moves
 same_moves : (g : GridData) (s t : Cell) (cells others : List Cell) → IsLeastWalk g s t cells
@@ -25,7 +25,7 @@ same_moves g s t cells others l m =
     let same : cost_of (s ∷ cells) ≡ cost_of (s ∷ others) =
     IsAtMost-antisymmetric (cost_of (s ∷ cells)) (cost_of (s ∷ others)) (l.least others m.walk)
     (m.least cells l.walk) in
-    sym (cost_counts s cells) ∙ ap (λ (c : Cost). c.a + c.b) same ∙ cost_counts s others
+    sym (steps-cost_of s cells) ∙ ap (λ (c : Cost). c.a + c.b) same ∙ steps-cost_of s others
 
 -- where no move is needed none begins a least walk, and where no walk leads there none does
 none_begins : (g : GridData) (s t : Cell) (d : Dir) → IsFirstMove g s t None → Begins g s t d → ⊥
@@ -34,7 +34,7 @@ none_begins g s t d (inl e) b =
     let none : (cost_of (s ∷ f.cells)).a + (cost_of (s ∷ f.cells)).b ≡ 0 =
     ap (λ (c : Cost). c.a + c.b) f.priced in
     let moves : (cost_of (s ∷ f.cells)).a + (cost_of (s ∷ f.cells)).b ≡ length f.cells =
-    cost_counts s f.cells in
+    steps-cost_of s f.cells in
     let as_many : length f.cells ≡ suc (length b.cells) =
     same_moves g s t f.cells (b.next ∷ b.cells) f.least b.least in
     absurd (omega (arith, none, moves, as_many))
@@ -43,7 +43,7 @@ none_begins g s t d (inr none) b = none (b.next ∷ b.cells) b.least.walk
 -- a first move is one
 one_dir : (g : GridData) (s t : Cell) (d e : Dir) → IsFirstMove g s t (Some d) → IsFirstMove g s t (Some e)
     → d ≡ e
-one_dir g s t d e p q = let low = p.1 e q.0 in let high = q.1 d p.0 in same_dir d e (omega (arith, low, high))
+one_dir g s t d e p q = let low = p.1 e q.0 in let high = q.1 d p.0 in one_dir d e (omega (arith, low, high))
 
 -- and so is that there is none
 pub one_first : (g : GridData) (s t : Cell) (a b : Option Dir) → IsFirstMove g s t a

@@ -15,13 +15,14 @@ use Rattle.grid_moves.specs.Walk.{cost_of}
 use Rattle.grid_moves.proofs.Ahead.{legal_ahead-is}
 use Rattle.grid_moves.proofs.Legal.{legal_is, same_cell}
 use Rattle.grid_moves.proofs.Short.{least_rest}
+use Rattle.grid_moves.proofs.Places.{inside_below}
 use Rattle.cost_waves.specs.Begin.{Begins, IsCostTo}
 use Rattle.cost_waves.proofs.Falling.{goes_over, least_by_move, least_on}
 use Rattle.first_moves.specs.First.{IsFirstMove, first_where}
 use Rattle.first_moves.specs.Row.{AreMoves, IsRow, MovesData}
 use Rattle.first_moves.specs.Runs.{runs_of}
 use Rattle.first_moves.specs.declared.row.Run.{Run}
-use Rattle.first_moves.proofs.Picking.{below_all, first_is}
+use Rattle.first_moves.proofs.Picking.{first_is}
 use Rattle.first_moves.proofs.Rows.{without_moves}
 use Rattle.grid_answers.specs.RunLines.{IsRunText, runs_text}
 use Rattle.outcome_laws.proofs.OfCell.{told_exists}
@@ -122,7 +123,7 @@ module _ (g : GridData) (s : Cell) (free : is_free g s ≡ true) where
   unfolding members move_to
   member_is t inside =
       subst (λ (o : Option Dir). IsFirstMove g s t o)
-      (sym (upto_at (g.height * g.width) move_to (cell_number g.width t) None (below_all g t inside)))
+      (sym (upto_at (g.height * g.width) move_to (cell_number g.width t) None (inside_below g t inside)))
       (subst (λ (c : Cell). IsFirstMove g s c (move_to (cell_number g.width t))) (numbered_is g t inside)
       (first_exists g s free (numbered g.width (cell_number g.width t))).1)
 
@@ -166,7 +167,7 @@ module _ (g : GridData) where
       let same : c ≡ s = numbered_is g s inside in
       let within : is_inside g c ≡ true = ap (λ (d : Cell). is_inside g d) same ∙ inside in
       subst (λ (runs : List Run). IsRow g s runs)
-      (sym (upto_at (g.height * g.width) row_with k [] (below_all g s inside)))
+      (sym (upto_at (g.height * g.width) row_with k [] (inside_below g s inside)))
       (subst (λ (d : Cell). IsRow g d (row_with k)) same ((row_of c (is_free g c) refl).1 within))
 
   pub moves_exist : (m : MovesData) × AreMoves g m

@@ -12,6 +12,7 @@ use Rattle.grid_moves.specs.Points.{estimate}
 use Rattle.grid_moves.specs.Reply.{are_free_ends}
 use Rattle.grid_moves.specs.Walk.{IsWalk}
 use Rattle.grid_moves.proofs.Legal.{free_inside}
+use Rattle.grid_moves.proofs.Walks.{last_free}
 use Rattle.path_points.specs.declared.points.Walk as points
 use Rattle.path_points.specs.Least.{IsLeastOrNone}
 use Rattle.cost_waves.specs.Begin.{IsCostTo}
@@ -22,7 +23,6 @@ use Rattle.plain_search.specs.declared.lists.Listed.TheVariants as listed
 use Rattle.plain_search.proofs.Answering as plainly
 use Rattle.potential_make.specs.Written.{certificate_text, claim_of}
 use Rattle.potential_make.proofs.Making.{accepted_text}
-use Rattle.walk_judge.proofs.Judgements.{last_free}
 use Rattle.grid_answers.specs.Certificates.{IsProof, apart, blocked, certified, outside}
 use Rattle.outcome_laws.proofs.Ground.{query_whole}
 use Rattle.outcome_laws.proofs.Least.{least_one}

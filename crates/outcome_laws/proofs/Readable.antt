@@ -4,7 +4,7 @@ use Rattle.std.proofs.Common.{List, [], ◌∷◌, ◌++◌, length}
 use Rattle.std.specs.Prelude.{Option, Some, None, Result, Ok, Err, nat_le, ◌&&◌, if◌then◌else◌, codes, ⊤}
 use Rattle.std.specs.List.{list_all}
 use Rattle.std.specs.Str.{bytes_eq}
-use Rattle.std.proofs.lemmas.Bool.{and_from, and_parts}
+use Rattle.std.proofs.lemmas.Bool.{and_from, and_parts, leb-true}
 use Rattle.root2_cost.specs.declared.Cost.{Cost}
 use Rattle.grid_moves.specs.declared.Cell.{Cell}
 use Rattle.grid_moves.specs.Grid.{cell_number}
@@ -19,7 +19,6 @@ use Rattle.potential_check.specs.Text.{at_ends, at_points, at_size}
 use Rattle.potential_check.specs.Text.{at_version, certificate_of, closed, ended, goes, in_cells, in_values}
 use Rattle.potential_check.specs.Text.{is_end, is_head, listed, misspelt, next, plain}
 use Rattle.potential_check.specs.Text.{read_from, read_left, spelled, unordered}
-use Rattle.potential_check.proofs.Entries.{le_is}
 use Rattle.potential_check.proofs.LinesLeft.{ascend_to, ascend_to-pushed, short_text, text_read}
 use Rattle.potential_check.proofs.Listing.{cells_of-pushed, claim_is, listed_is}
 use Rattle.potential_check.proofs.Words.{all_pushed}
@@ -60,7 +59,7 @@ listed_of head least c state after = by_place (lies_inside head.width head.heigh
         else misspelt) ≡ goes after
         → (b ≡ true) × (least ≤ cell_number head.width c) × (state ≡ after)
     by_place true e = let o = order_of (nat_le least (cell_number head.width c)) state after e in
-        (refl, le_is least (cell_number head.width c) o.0, o.1)
+        (refl, leb-true least (cell_number head.width c) o.0, o.1)
     by_place false e = absurd (cc)
 
 -- what was read may stand in a certificate
@@ -219,7 +218,7 @@ read_whole (line ∷ lines) n state p short m e =
         → ((after : State) → May after → read_from after (n + 1) lines ≡ Ok p → is_whole p ≡ true)
         → is_whole p ≡ true
     by_step (goes after) is read more =
-        more after (step_may line (le_is (length line) (2 ^ 30) rest.0) after state m is) read
+        more after (step_may line (leb-true (length line) (2 ^ 30) rest.0) after state m is) read
     by_step misspelt is read more = absurd (cc)
     by_step unordered is read more = absurd (cc)
 

@@ -14,16 +14,16 @@ use Rattle.first_moves.specs.declared.row.Run.{Run}
 use Rattle.first_moves.specs.First.{IsFirstMove}
 use Rattle.first_moves.specs.Row.{IsRow}
 use Rattle.first_moves.specs.Runs.{runs_of}
-use Rattle.first_moves.proofs.Picking.{same_dir}
 use Rattle.grid_moves.specs.declared.Cell.{Cell}
 use Rattle.grid_moves.specs.declared.Dir.{Dir}
 use Rattle.grid_moves.specs.Grid.{GridData, IsGrid, cell_number, is_free, is_inside}
 use Rattle.grid_moves.specs.Layers.{AreLayers, Layers, query_grid}
 use Rattle.grid_moves.specs.Walk.{cost_of}
-use Rattle.path_points.proofs.Joined.{cost_counts}
 use Rattle.grid_answers.specs.RunLines.{IsRunText, runs_text}
 use Rattle.outcome_laws.proofs.OfCell.{one_told}
 use Rattle.outcome_laws.proofs.Ground.{and_true, query_free, query_whole}
+use Rattle.grid_moves.proofs.Walks.{steps-cost_of}
+use Rattle.grid_moves.proofs.Dirs.{one_dir}
 
 lt_true : (m n : ℕ) → m < n → nat_lt m n ≡ true
 lt_true m n h = grind (arith, nat_tests)
@@ -37,7 +37,7 @@ module _ (g : GridData) (s : Cell) (free : is_free g s ≡ true) where
       (b.least.least [] (record { legal = free; ends = same }))
       (no_cost_at_most (cost_of (s ∷ b.next ∷ b.cells))) in
       let moves : 0 ≡ suc (length b.cells) =
-      ap (λ (c : Cost). c.a + c.b) (sym none) ∙ cost_counts s (b.next ∷ b.cells) in
+      ap (λ (c : Cost). c.a + c.b) (sym none) ∙ steps-cost_of s (b.next ∷ b.cells) in
       omega arith
 
   none_or_some : {A : Type 0} (t : Cell) (d : Dir) → IsFirstMove g s t None → Begins g s t d → A
@@ -51,7 +51,7 @@ module _ (g : GridData) (s : Cell) (free : is_free g s ≡ true) where
   one_move t (Some d) (Some e) is also =
       let low = is.1 e also.0 in
       let high = also.1 d is.0 in
-      ap (λ (c : Dir). Some c) (same_dir d e (omega arith))
+      ap (λ (c : Dir). Some c) (one_dir d e (omega arith))
 
   -- the cell of a number below that of cells
   abbrev numbered : ℕ → Cell

@@ -1,4 +1,5 @@
 -- Cells that are listed, and tries that are drawn.
+use Rattle.std.proofs.lemmas.Bool.Decides.{nat_tests}
 use Rattle.std.proofs.Common.{◌≡◌, ℕ, zero, suc, ◌+◌, ◌-◌, ◌*◌, ◌<◌, ◌≤◌, arith, refl, ap, sym, ◌∙◌}
 use Rattle.std.proofs.Common.{Bool, true, false, cond, List, [], ◌∷◌, ◌++◌, length, take, length-append}
 use Rattle.std.proofs.Common.{◌&&◌, length-take}
@@ -37,10 +38,7 @@ free_more ls x y n h e =
     ∙ ap (λ (v : Cell). free_below ls n ++ cond (is_free_ground ls v) (v ∷ []) []) c
 
 same_ends : (e f : Ends) → e.start ≡ f.start → e.goal ≡ f.goal → e ≡ f
-same_ends e f p q =
-    let first : e ≡ record { start = f.start; goal = e.goal } =
-    ap (λ (c : Cell). let u : Ends = record { start = c; goal = e.goal } in u) p in
-    first ∙ ap (λ (c : Cell). let u : Ends = record { start = f.start; goal = c } in u) q
+same_ends e f h1 h2 = grind (arith, nat_tests)
 
 take_none : (n : ℕ) → take {A = Ends} n [] ≡ []
 take_none zero = refl
@@ -118,11 +116,7 @@ module _ (keep : Ends → Bool) (cells : List Cell) (count : ℕ) (start : Lcg) 
 
     -- where as many were kept as are wanted, or no try is left, these are all
     pub drawn_enough : count ≤ length kept → kept ≡ take count (filter keep (tries_from cells most start))
-    drawn_enough enough =
-        let none : count - length kept ≡ 0 = omega arith in
-        sym (append-nil kept)
-        ∙ ap (λ (n : ℕ). kept ++ take n (filter keep (tries_from cells (most - tried) g))) (sym none)
-        ∙ are.all
+    drawn_enough h1 = grind (arith, nat_tests, append-nil)
 
     pub drawn_all : most ≤ tried → kept ≡ take count (filter keep (tries_from cells most start))
     unfolding words_from tries_by
@@ -135,12 +129,7 @@ module _ (keep : Ends → Bool) (cells : List Cell) (count : ℕ) (start : Lcg) 
 -- tests that tell of the same walks are one
 same_told : (ls : Layers) (j k : Cell → Cell → Bool) → ((s t : Cell) → IsTrue (j s t) ↔ HasWalk ls s t)
     → ((s t : Cell) → IsTrue (k s t) ↔ HasWalk ls s t) → (s t : Cell) → j s t ≡ k s t
-same_told ls j k p q s t = by_tests (j s t) (k s t) refl refl
-  where
-    by_tests : (a b : Bool) → j s t ≡ a → k s t ≡ b → j s t ≡ k s t
-    by_tests true b e f = e ∙ sym ((q s t).1 ((p s t).0 e))
-    by_tests false true e f = absurd (let g : j s t ≡ true = (p s t).1 ((q s t).0 f) in cc)
-    by_tests false false e f = e ∙ sym f
+same_told ls j k h1 h2 s t = grind (arith, nat_tests)
 
 pub kept_one : (ls : Layers) (seed count : ℕ) (these those : List Ends) → AreKept ls seed count these
     → AreKept ls seed count those → these ≡ those

@@ -1,4 +1,5 @@
 -- Lists that are sorted and stable.
+use Rattle.std.proofs.lemmas.Bool.Decides.{nat_tests}
 use Rattle.std.proofs.Common.{◌≡◌, ℕ, suc, ◌+◌, ◌<◌, ◌∙◌, sym, refl, ap, subst, arith, Bool, true}
 use Rattle.std.proofs.Common.{false, List, [], ◌∷◌, length, get_or, cond}
 use Rattle.std.specs.Cmp.{IsStrictWeakOrder}
@@ -31,11 +32,7 @@ less_told p q Greater e = sym (less_at_most q p e)
 -- same order
 module _ {X : Type 0} (lt : X → X → Bool) (ranks : IsStrictWeakOrder lt) where
   not_less : (x : X) → lt x x ≡ false
-  not_less x = by_test (lt x x) refl
-    where
-      by_test : (b : Bool) → lt x x ≡ b → lt x x ≡ false
-      by_test true e = ranks.one_way x x e
-      by_test false e = e
+  not_less x = grind (arith, nat_tests)
 
   ties_itself : (x : X) → ties lt x x ≡ true
   ties_itself x = rw (not_less x) refl
