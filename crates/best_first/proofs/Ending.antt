@@ -1,5 +1,5 @@
 -- Each search on a map has a run that ends, as its links lead to finitely many states.
-use Rattle.std.proofs.Common.{◌∙◌, ap, ◌≡◌, ℕ, zero, suc, ◌<◌, ◌⊎◌, inl, inr, refl, Bool, true, ◌||◌, List, []}
+use Rattle.std.proofs.Common.{◌∙◌, ap, ◌≡◌, ℕ, zero, suc, ◌<◌, ◌⊎◌, refl, Bool, true, ◌||◌, List, []}
 use Rattle.std.proofs.Common.{◌∷◌, ◌++◌, arith}
 use Rattle.std.proofs.lemmas.Bool.Decides.{nat_tests}
 use Rattle.std.specs.Prelude.{Option, Some, None}

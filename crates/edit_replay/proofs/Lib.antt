@@ -1,3 +1,4 @@
+pub mod Grounds
 pub mod Simple
 pub mod Edits
 pub mod Answering

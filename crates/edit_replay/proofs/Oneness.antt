@@ -1,5 +1,5 @@
 -- Two replies that are right and the runs of engines that both jump, or of the plain engine, are one reply.
-use Rattle.std.proofs.Common.{◌≡◌, ℕ, ◌⊎◌, inl, inr, refl, ap, sym, subst, ◌∙◌, Bool, true, false, ◌&&◌, ◌||◌}
+use Rattle.std.proofs.Common.{◌≡◌, ℕ, refl, ap, sym, subst, ◌∙◌, Bool, true, false, ◌&&◌}
 use Rattle.std.proofs.Common.{List, []}
 use Rattle.std.specs.Prelude.{MatchBool, MatchOption, if◌then◌else◌}
 use Rattle.std.proofs.lemmas.Bool.Decides.{when_true}
@@ -7,16 +7,16 @@ use Rattle.std.specs.Prelude as option
 use Rattle.std.specs.declared.option.Option.{Option}
 use Rattle.root2_cost.specs.declared.Cost.{Cost}
 use Rattle.grid_moves.specs.declared.Cell.{Cell}
-use Rattle.grid_moves.specs.Grid.{GridData, is_free, is_inside}
-use Rattle.grid_moves.specs.Layers.{AreLayers, Layers, in_one_layer, is_free_ground, is_on_map, query_grid}
+use Rattle.grid_moves.specs.Grid.{GridData, is_free}
+use Rattle.grid_moves.specs.Layers.{AreLayers, Layers, in_one_layer, is_on_map, query_grid}
 use Rattle.grid_moves.specs.Reply.{IsRight, are_free_ends}
-use Rattle.grid_moves.proofs.Layering.{is_inside-water}
 use Rattle.path_points.specs.declared.points.Walk as points
 use Rattle.best_first.specs.declared.found.Found.{Found}
 use Rattle.plain_search.specs.Answer as plain
 use Rattle.plain_search.proofs.Answering as plainly
 use Rattle.search_core.specs.Answer as jump
 use Rattle.search_core.proofs.Answering as jumping
+use Rattle.edit_replay.proofs.Grounds.{ends_free, ends_on}
 use Rattle.edit_replay.specs.Kept.{is_plain}
 use Rattle.edit_replay.specs.Replies.{answer_of, Finds, Exhausts, IsRunOn}
 use Rattle.edit_replay.specs.Session.{SessionData}
@@ -91,28 +91,6 @@ module _ (g : GridData) (s t : Cell) where
   runs_are_one engine.Plus = jump_runs
   runs_are_one engine.Block = jump_runs
 
-not_both : (b : Bool) → b ≡ true → b ≡ false → ⊥
-not_both b e f = let h : true ≡ false = sym e ∙ f in cc
-
-and_both : (a b : Bool) → (a && b) ≡ true → (a ≡ true) × (b ≡ true)
-and_both true b e = (refl, e)
-and_both false b e = absurd (cc)
-
-and_true : (a b : Bool) → a ≡ true → b ≡ true → (a && b) ≡ true
-and_true a b e f = rw (e, f) refl
-
-or_late : (a b : Bool) → b ≡ true → (a || b) ≡ true
-or_late true b e = refl
-or_late false b e = e
-
-or_early : (a b : Bool) → a ≡ true → (a || b) ≡ true
-or_early true b e = refl
-or_early false b e = absurd (cc)
-
-or_either : (a b : Bool) → (a || b) ≡ true → (a ≡ true) ⊎ (b ≡ true)
-or_either true b e = inl refl
-or_either false b e = inr e
-
 module _ (ls : Layers) (are : AreLayers ls) (s t : Cell) (e : Engine) where
   -- nothing was found by one run or nothing was searched
   one_none : (ms ns : List ℕ) → IsRunOn e (query_grid ls s) s t (None ms)
@@ -130,41 +108,9 @@ module _ (ls : Layers) (are : AreLayers ls) (s t : Cell) (e : Engine) where
   walk_or_none ps c ms ns one is also = (runs_are_one (query_grid ls s) s t e).apart ps c ms ns is
       (when_true (Exhausts e (query_grid ls s) s t ns) (ns ≡ []) one also)
 
-  -- ends in one layer are free
-  ends_free : in_one_layer ls s t ≡ true → are_free_ends ls s t ≡ true
-  ends_free one = by_water (is_free ls.water s) one
-    where
-      by_water : (b : Bool)
-          → (is_free (if b then ls.water else ls.land) s && is_free (if b then ls.water else ls.land) t)
-          ≡ true
-          → are_free_ends ls s t ≡ true
-      by_water true one = let p = and_both (is_free ls.water s) (is_free ls.water t) one in
-          and_true (is_free_ground ls s) (is_free_ground ls t)
-          (or_late (is_free ls.land s) (is_free ls.water s) p.0)
-          (or_late (is_free ls.land t) (is_free ls.water t) p.1)
-      by_water false one = let p = and_both (is_free ls.land s) (is_free ls.land t) one in
-          and_true (is_free_ground ls s) (is_free_ground ls t)
-          (or_early (is_free ls.land s) (is_free ls.water s) p.0)
-          (or_early (is_free ls.land t) (is_free ls.water t) p.1)
-
-  -- free ends lie on the map
-  ground_on : (c : Cell) → is_free_ground ls c ≡ true → is_on_map ls c ≡ true
-  ground_on c free = elim (or_either (is_free ls.land c) (is_free ls.water c) free) [
-    | inl f ↦ (and_both (is_inside ls.land c) _ f).0
-    | inr f ↦ sym (is_inside-water ls are c) ∙ (and_both (is_inside ls.water c) _ f).0
-  ]
-
-  ends_on : are_free_ends ls s t ≡ true → (is_on_map ls s && is_on_map ls t) ≡ true
-  ends_on free =
-      let p = and_both (is_free_ground ls s) (is_free_ground ls t) free in
-      and_true (is_on_map ls s) (is_on_map ls t) (ground_on s p.0) (ground_on t p.1)
-
   -- a right reply that searched, or that says blocked, has its ends on the map
   not_outside : {A : Type 0} → are_free_ends ls s t ≡ true → (is_on_map ls s && is_on_map ls t) ≡ false → A
-  not_outside free off = absurd (not_both (is_on_map ls s && is_on_map ls t) (ends_on free) off)
-
-  not_blocked : {A : Type 0} → are_free_ends ls s t ≡ true → are_free_ends ls s t ≡ false → A
-  not_blocked free shut = absurd (not_both (are_free_ends ls s t) free shut)
+  not_outside free off = absurd (let on = ends_on ls are s t free in cc)
 
   -- the reply is right, and the run of this engine
   record IsReplyBy (reply : Reply) : Type 0 where
@@ -175,19 +121,19 @@ module _ (ls : Layers) (are : AreLayers ls) (s t : Cell) (e : Engine) where
   one_reply (Walk ps c ms) (Walk qs d ns) p q =
       (runs_are_one (query_grid ls s) s t e).walks ps qs c d ms ns p.run q.run
   one_reply (Walk ps c ms) (None ns) p q = absurd (walk_or_none ps c ms ns p.right.0 p.run q.run)
-  one_reply (Walk ps c ms) Outside p q = not_outside (ends_free p.right.0) q.right
-  one_reply (Walk ps c ms) Blocked p q = not_blocked (ends_free p.right.0) q.right.1
+  one_reply (Walk ps c ms) Outside p q = not_outside (ends_free ls are s t p.right.0) q.right
+  one_reply (Walk ps c ms) Blocked p q = absurd (cc (ends_free ls are s t p.right.0, q.right.1))
   one_reply (None ms) (Walk qs d ns) p q = absurd (walk_or_none qs d ns ms q.right.0 q.run p.run)
   one_reply (None ms) (None ns) p q = one_none ms ns p.run q.run
   one_reply (None ms) Outside p q = not_outside p.right.0 q.right
-  one_reply (None ms) Blocked p q = not_blocked p.right.0 q.right.1
-  one_reply Outside (Walk qs d ns) p q = not_outside (ends_free q.right.0) p.right
+  one_reply (None ms) Blocked p q = absurd (cc (q.right.1))
+  one_reply Outside (Walk qs d ns) p q = not_outside (ends_free ls are s t q.right.0) p.right
   one_reply Outside (None ns) p q = not_outside q.right.0 p.right
   one_reply Outside Outside p q = refl
-  one_reply Outside Blocked p q = absurd (not_both (is_on_map ls s && is_on_map ls t) q.right.0 p.right)
-  one_reply Blocked (Walk qs d ns) p q = not_blocked (ends_free q.right.0) p.right.1
-  one_reply Blocked (None ns) p q = not_blocked q.right.0 p.right.1
-  one_reply Blocked Outside p q = absurd (not_both (is_on_map ls s && is_on_map ls t) p.right.0 q.right)
+  one_reply Outside Blocked p q = absurd (cc (q.right.0, p.right))
+  one_reply Blocked (Walk qs d ns) p q = absurd (cc (ends_free ls are s t q.right.0, p.right.1))
+  one_reply Blocked (None ns) p q = absurd (cc (p.right.1))
+  one_reply Blocked Outside p q = absurd (cc (p.right.0, q.right))
   one_reply Blocked Blocked p q = refl
 
 -- one engine for all that jump, and the plain one

@@ -1,4 +1,6 @@
 -- One step of the search, on each grid on which the query is served.
+use Rattle.std.proofs.lemmas.Bool.Decides.{nat_tests}
+use Rattle.std.proofs.lemmas.Grind.{common_steps}
 use Rattle.std.proofs.Common.{◌≡◌, ℕ, ◌+◌, ◌*◌, ◌<◌, ◌≤◌, ap, sym, ◌∙◌, subst, true, false, List, [], ◌∷◌}
 use Rattle.std.proofs.Common.{◌++◌, length, arith}
 use Rattle.std.specs.Prelude.{Option, Some, IsTrue, slice_get}
@@ -20,7 +22,7 @@ use Rattle.best_first.specs.Space.{SpaceData, KeepsShape}
 use Rattle.best_first.specs.State.{state_number, state_told}
 use Rattle.best_first.specs.Table.{Table, closed_at, IsFirstNode, NoneOpen}
 use Rattle.best_first.specs.Trace.{node_cell}
-use Rattle.search_core.specs.Counting.{most_for_state, IsCounted}
+use Rattle.search_core.specs.Counting.{IsCounted}
 use Rattle.search_core.specs.Jumps.{come_to, jump_links}
 use Rattle.search_core.specs.Jumping.{last_at, jumped, IsOffering, HasReached}
 use Rattle.search_core.specs.Answer.{IsExhausted}
@@ -37,9 +39,7 @@ pub counted_one : (most : Option MostSteps) (fewest n a b c : ℕ) → n ≤ 8
     → IsWithin most (λ told. told.allowed) a b → IsWithin most (λ told. n * told.stop) b c → a + fewest ≤ b
     → b ≤ c → IsCounted most fewest 1 a c
 counted_one most fewest n a b c few first then low on = record {
-  within = within_then most (λ told. told.allowed) (λ told. n * told.stop) (λ told. 1 * most_for_state told)
-      a b
-      c first then (λ told. let l = times n told.stop few in omega arith);
+  within = grind (arith, nat_tests, common_steps, within_then);
   at_least = omega arith;
 }
   where

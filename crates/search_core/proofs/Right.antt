@@ -1,8 +1,7 @@
 -- What the run of jumps answers is right: a least walk, or none exactly where no walk exists.
 use Rattle.std.proofs.lemmas.Bool.Decides.{nat_tests}
 use Rattle.std.proofs.lemmas.Grind.{common_steps}
-use Rattle.std.proofs.Common.{arith}
-use Rattle.std.proofs.Common.{◌≡◌, ℕ, refl, ap, sym, ◌∙◌, subst, true, List, [], ◌∷◌}
+use Rattle.std.proofs.Common.{arith, ◌≡◌, ℕ, refl, ap, sym, ◌∙◌, subst, true, List, [], ◌∷◌}
 use Rattle.std.specs.Prelude.{Option, map}
 use Rattle.root2_cost.specs.declared.Cost.{Cost}
 use Rattle.root2_cost.proofs.Most.{Most, Most-then, Most-same}

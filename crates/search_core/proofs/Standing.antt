@@ -1,7 +1,9 @@
 -- From the space of a search to what it answers, on a grid on which the query is served.
+use Rattle.std.proofs.lemmas.Bool.Decides.{nat_tests}
+use Rattle.std.proofs.lemmas.Grind.{common_steps}
 use Rattle.std.proofs.Common.{◌≡◌, ℕ, ◌+◌, ◌-◌, ◌*◌, ◌<◌, ◌≤◌, refl, ap, sym, ◌∙◌, subst, false, List, []}
 use Rattle.std.proofs.Common.{◌∷◌, ◌++◌, length, arith, mul-le-mul}
-use Rattle.std.specs.Prelude.{Option, Some, None, slice_get}
+use Rattle.std.specs.Prelude.{Some, slice_get}
 use Rattle.std.proofs.lemmas.Option.{same_Some}
 use Rattle.root2_cost.specs.declared.Cost.{Cost}
 use Rattle.root2_cost.specs.Rank.{rank_of}
@@ -107,8 +109,7 @@ module _ (Stands : GridData → Type 0) (s t : Cell) (g : GridData) (served : Is
         latest = h.has.last;
         earlier = h.has.earlier;
         best = least_offer (jump_rule g t) h.has.earlier;
-        is_at = subst (λ (k : Table). IsAt g s t (last_at t at n) h.has.last h.has.earlier
-            (least_offer (jump_rule g t) h.has.earlier) k) (sym table) first_at;
+        is_at = grind (arith, nat_tests, common_steps, first_at);
       }
 
       -- the state's cell is free, and it can be come to so
@@ -180,20 +181,13 @@ module _ (Stands : GridData → Type 0) (s t : Cell) (g : GridData) (served : Is
       → IsFirstNode k id → slice_get k.nodes id ≡ Some node → HasNext id node k taken
   has_next at k taken whole o id node first read =
       let has = next_taken (fit g s t whole served.from served.to) o id node first read in
-      let one : has.searching.node ≡ node =
-      ap (λ (q : Option Node). elim q as (λ _. Node) [ Some x ↦ x | None ↦ node ])
-      (sym has.searching.node_is ∙ read) in
-      let state : has.last.state ≡ state_told node.place =
-      sym has.searching.state ∙ ap (λ (m : Node). state_told m.place) one in
+      let one : has.searching.node ≡ node = grind (arith, nat_tests, common_steps, has) in
+      let state : has.last.state ≡ state_told node.place = grind (arith, nat_tests, common_steps, has) in
       let arrived = run_arrived g s t served.from (has.last ∷ has.earlier) has.searching.run has.last
       (here has.earlier) in
       let inside = free_inside g has.last.state.cell arrived.free in
       let cell : has.last.state.cell ≡ node_cell node = ap (λ (u : State). u.cell) state in
-      record {
-        has = has;
-        on = subst (λ (c : Cell). c.x < g.width) cell inside.0;
-        row = subst (λ (c : Cell). c.y < g.height) cell inside.1;
-      }
+      grind (arith, nat_tests, common_steps, has)
 
   pub reached_next : (id : ℕ) (node : Node) (old mid new : SpaceData) (before taken : List ℕ)
       → IsSpaceOf g old
@@ -202,10 +196,7 @@ module _ (Stands : GridData → Type 0) (s t : Cell) (g : GridData) (served : Is
       → taken ≡ before ++ state_number g.width (state_told node.place) ∷ [] → HasReached g s t id new taken
   reached_next id node old mid new before taken of shape shape_on next table numbers = record {
     of = same_shape g mid new (same_shape g old mid of shape) shape_on;
-    has = subst (λ (k : Table). HasTaken ByArrival g.width t (jump_links g t) s id k taken) (sym table)
-        (subst (λ (ns : List ℕ). HasTaken ByArrival g.width t (jump_links g t) s id (closed_at id mid.table)
-        ns)
-        (sym numbers) next.has);
+    has = grind (arith, nat_tests, common_steps);
   }
 
   module _ (at : ℕ) (space : SpaceData) (taken : List ℕ) (h : HasReached g s t at space taken) where

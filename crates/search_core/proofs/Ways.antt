@@ -1,8 +1,7 @@
 -- Chains of first stops are chains of links, and the way along the parents of a run is a chain.
 use Rattle.std.proofs.lemmas.Bool.Decides.{nat_tests}
 use Rattle.std.proofs.lemmas.Grind.{common_steps}
-use Rattle.std.proofs.Common.{arith}
-use Rattle.std.proofs.Common.{◌≡◌, ℕ, refl, ap, sym, ◌∙◌, subst, true, false, List, [], ◌∷◌, ◌++◌}
+use Rattle.std.proofs.Common.{arith, ◌≡◌, ℕ, refl, ap, sym, ◌∙◌, subst, true, false, List, [], ◌∷◌, ◌++◌}
 use Rattle.std.specs.Prelude.{Option, Some, None, map}
 use Rattle.std.proofs.lemmas.List.{map-append}
 use Rattle.root2_cost.specs.declared.Cost.{Cost}
@@ -18,8 +17,7 @@ use Rattle.pruning.specs.Chain.{start_state, run_cost, IsJump, IsChain, stays, j
 use Rattle.pruning.specs.Chain.{State as Stop}
 use Rattle.pruning.proofs.Stopping.{only_one_first_stop}
 use Rattle.search_run.specs.Run.{Taken, IsIn, here, there, IsRun, is_taken, way_to}
-use Rattle.search_run.specs.Chain.{Chain, IsConsistent}
-use Rattle.search_run.specs.Chain.{stays as links_nowhere, goes_on as links_on}
+use Rattle.search_run.specs.Chain.{Chain, IsConsistent, stays as links_nowhere, goes_on as links_on}
 use Rattle.search_run.proofs.Leastness.{least_offer-from, is_taken-member}
 use Rattle.best_first.specs.declared.state.State.{State}
 use Rattle.best_first.specs.State.{is_same_state, start_at}

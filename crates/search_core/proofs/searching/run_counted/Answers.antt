@@ -1,4 +1,7 @@
-use Rattle.std.specs.Prelude.{IfOk, Ok, Err}
+use Rattle.std.proofs.lemmas.Bool.Decides.{nat_tests}
+use Rattle.std.proofs.lemmas.Grind.{common_steps}
+use Rattle.std.proofs.Common.{arith}
+use Rattle.std.specs.Prelude.{IfOk}
 use Rattle.std.specs.declared.result.Result.{Result}
 use Rattle.grid_moves.specs.declared.Cell.{Cell}
 use Rattle.grid_moves.specs.Grid.{GridData}
@@ -13,8 +16,7 @@ use Rattle.search_core.proofs.searching.run_counted.Goals as goal
 all_least : {E : Type 0} (Stands : GridData → Type 0) (s t : Cell) (result : Result Found E)
     → IfOk result (λ f. OnEach Stands s t (λ g. IsJumpRun g s t f))
     → IfOk result (λ f. OnEach Stands s t (λ g. IsLeastOrNone g s t f.walk))
-all_least Stands s t (Ok f) run = λ g served. run_least g s t f served.from (run g served)
-all_least Stands s t (Err e) run = tt
+all_least Stands s t result h1 = grind (arith, nat_tests, common_steps, run_least)
 
 pub returns-clause-least : goal.returns-clause-least
 returns-clause-least g c =
