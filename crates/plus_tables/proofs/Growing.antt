@@ -43,7 +43,7 @@ row_read g y e row cells end long wide first last read =
     one_more : (k : ℕ) → k + 1 ≡ 1 + k
     one_more k = omega arith
 
--- as it is read
+-- a told entry, as it is read
 pub told_read : (legal mark : Bool) (next r : ℤ)
     → ((legal ≡ true → IsShort (to_z w16 (of_z w16 next))) → r ≡ told legal mark (to_z w16 (of_z w16 next)))
     → (legal ≡ true → IsShort next) → to_z w16 (of_z w16 r) ≡ told legal mark next
