@@ -4,6 +4,7 @@ use Rattle.std.specs.Prelude.{Some}
 use Rattle.grid_moves.specs.declared.Cell.{Cell}
 use Rattle.grid_moves.specs.declared.Dir.{Dir}
 use Rattle.grid_moves.specs.Grid.{GridData}
+pub use Rattle.grid_moves.proofs.Ahead.{legal_ahead-free as free_next}
 use Rattle.grid_moves.specs.Move.{beyond, legal_ahead}
 use Rattle.pruning.specs.Allowed.{can_move}
 use Rattle.jump_plain.proofs.Besides.{beyond_legal}

@@ -6,6 +6,7 @@ use Rattle.grid_moves.specs.declared.Corner.{Corner}
 use Rattle.grid_moves.specs.declared.Dir.{Dir}
 use Rattle.grid_moves.specs.Grid.{GridData, is_free}
 use Rattle.grid_moves.specs.Move.{legal_ahead, is_open, is_passable, may_cut, may_slip}
+pub use Rattle.grid_moves.proofs.Ahead.{legal_ahead-free as ahead_free}
 use Rattle.grid_moves.proofs.Legal.{and_both, legal_is, by_cut, passable-cut, passable-uncut}
 use Rattle.std.proofs.lemmas.Bool.{cond-true, cond-false}
 use Rattle.grid_moves.proofs.Besides.{passable-turned}

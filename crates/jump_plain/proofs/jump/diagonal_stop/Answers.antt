@@ -1,8 +1,7 @@
 use Rattle.std.proofs.Common.{true, false, arith, sym}
 use Rattle.grid_moves.specs.Grid.{GridData}
-use Rattle.grid_moves.proofs.Ahead.{legal_ahead-free}
 use Rattle.pruning.specs.First.{first_stop}
-use Rattle.jump_plain.proofs.Forcing.{sides_known}
+use Rattle.jump_plain.proofs.Forcing.{ahead_free, sides_known}
 use Rattle.pruning.proofs.Lengths.{run_length-next, run_length-few}
 use Rattle.jump_plain.proofs.Diagonal.{is_stop-read, stops_nowhere, stops_here, stops_later}
 use Rattle.jump_plain.proofs.jump.diagonal_stop.Goals as goal
@@ -19,12 +18,12 @@ overflow_add-moves g c =
 
 pub of-beside-requires-in-Some-clause-free : goal.of-beside-requires-in-Some-clause-free
 of-beside-requires-in-Some-clause-free g c =
-    legal_ahead-free (g.T.Terrain.grid c.args.t.now) c.run.cell c.in-Some.next.cell c.args.d
+    ahead_free (g.T.Terrain.grid c.args.t.now) c.run.cell c.in-Some.next.cell c.args.d
     (sym c.in-Some.ensures.legal)
 
 pub stops_at-requires-clause-free : goal.stops_at-requires-clause-free
 stops_at-requires-clause-free g c =
-    legal_ahead-free (g.T.Terrain.grid c.args.t.now) c.run.cell c.in-Some.next.cell c.args.d
+    ahead_free (g.T.Terrain.grid c.args.t.now) c.run.cell c.in-Some.next.cell c.args.d
     (sym c.in-Some.ensures.legal)
 
 pub stops_at-requires-clause-sides : goal.stops_at-requires-clause-sides
@@ -53,7 +52,7 @@ run-preserved g c =
     let grid : GridData = g.T.Terrain.grid c.args.t.now in
     let legal = sym c.in-Some.ensures.legal in
     record {
-      free = legal_ahead-free grid c.run.cell c.in-Some.next.cell c.args.d legal;
+      free = ahead_free grid c.run.cell c.in-Some.next.cell c.args.d legal;
       beside = c.of-beside-in-Some.ensures;
       stop = stops_later grid c.args.goal c.run.cell c.args.d c.run.moves
           (first_stop grid c.args.goal c.args.at c.args.d) c.run.invariant.stop c.in-Some.next.cell legal

@@ -1,7 +1,7 @@
 use Rattle.std.proofs.Common.{arith, ap, sym, ◌∙◌}
 use Rattle.grid_moves.specs.declared.Corner.{Corner}
 use Rattle.grid_moves.specs.Grid.{GridData}
-use Rattle.grid_moves.proofs.Ahead.{legal_ahead-free}
+use Rattle.jump_plain.proofs.Forcing.{ahead_free}
 use Rattle.jump_plain.specs.Reach.{mark_ahead, reach_of}
 use Rattle.pruning.proofs.Lengths.{run_length-next, run_length-few}
 use Rattle.jump_plain.proofs.Scanning.{mark_ahead-near, reached_end, reached_mark, reached_next, sides_begun}
@@ -22,7 +22,7 @@ run-init g c =
 pub of-requires-clause-free : goal.of-requires-clause-free
 of-requires-clause-free g c =
     let grid : GridData = g.T.Terrain.grid c.args.t.now in
-    legal_ahead-free grid c.run.cell c.in-Some.next c.args.d (sym c.in-Some.ensures)
+    ahead_free grid c.run.cell c.in-Some.next c.args.d (sym c.in-Some.ensures)
 
 pub overflow_add-result : goal.overflow_add-result
 overflow_add-result g c =
@@ -67,7 +67,7 @@ run-preserved g c =
     let grid : GridData = g.T.Terrain.grid c.args.t.now in
     let has = c.run.invariant.left in
     let legal = sym c.in-Some.ensures in
-    let free = legal_ahead-free grid c.run.cell c.in-Some.next c.args.d legal in
+    let free = ahead_free grid c.run.cell c.in-Some.next c.args.d legal in
     record {
       free = free;
       left = record {

@@ -1,13 +1,12 @@
 use Rattle.std.proofs.Common.{true, false, arith, refl, sym, ◌∙◌}
 use Rattle.std.specs.Prelude.{is_some}
 use Rattle.grid_moves.specs.declared.Dir.{Dir}
-use Rattle.grid_moves.proofs.Ahead.{legal_ahead-free}
 use Rattle.pruning.specs.First.{first_stop}
 use Rattle.jump_block.proofs.Directions.{parts}
 use Rattle.jump_plain.proofs.Besides.{beyond_stuck}
 use Rattle.pruning.proofs.Lengths.{run_length-next, run_length-few}
 use Rattle.jump_plain.proofs.Diagonal.{is_stop-read, stops_nowhere, stops_here, stops_later}
-use Rattle.jump_block.proofs.Diagonals.{legal_next}
+use Rattle.jump_block.proofs.Diagonals.{legal_next, free_next}
 use Rattle.jump_block.proofs.straight.Bits.diagonal.Goals as goal
 
 pub overflow_add-moves : goal.overflow_add-moves
@@ -40,7 +39,7 @@ stops_at-requires-clause-stands g c =
     let there = c.run.invariant.there grid are free in
     let legal = legal_next grid c.run.cell c.beyond-next.result c.args.d c.leads_near.result
     (c.leads_near.ensures.leads grid are there.free) c.run-test.true c.beyond-next.ensures in
-    let next = legal_ahead-free grid c.run.cell c.beyond-next.result c.args.d legal in
+    let next = free_next grid c.run.cell c.beyond-next.result c.args.d legal in
     (grid, are, next)
 
 pub returns-then-stops_at-clause-first : goal.returns-then-stops_at-clause-first
@@ -48,7 +47,7 @@ returns-then-stops_at-clause-first g c = λ grid are free.
     let there = c.run.invariant.there grid are free in
     let legal = legal_next grid c.run.cell c.beyond-next.result c.args.d c.leads_near.result
     (c.leads_near.ensures.leads grid are there.free) c.run-test.true c.beyond-next.ensures in
-    let next = legal_ahead-free grid c.run.cell c.beyond-next.result c.args.d legal in
+    let next = free_next grid c.run.cell c.beyond-next.result c.args.d legal in
     stops_here grid c.args.goal c.run.cell c.args.d c.run.moves
     (first_stop grid c.args.goal c.args.at c.args.d) there.stop c.beyond-next.result legal
     (is_stop-read grid c.args.goal c.args.d c.beyond-next.result c.requires.diagonal c.stops_at.result true
@@ -79,7 +78,7 @@ near_on_row-near-requires-in-run g c =
     let there = c.run.invariant.there grid are free in
     let legal = legal_next grid c.run.cell c.beyond-next.result c.args.d c.leads_near.result
     (c.leads_near.ensures.leads grid are there.free) c.run-test.true c.beyond-next.ensures in
-    record { stands = (grid, are, legal_ahead-free grid c.run.cell c.beyond-next.result c.args.d legal) }
+    record { stands = (grid, are, free_next grid c.run.cell c.beyond-next.result c.args.d legal) }
 
 pub run-preserved : goal.run-preserved
 run-preserved g c = record {
@@ -93,7 +92,7 @@ run-preserved g c = record {
       let there = c.run.invariant.there grid are free in
       let legal = legal_next grid c.run.cell c.beyond-next.result c.args.d c.leads_near.result
       (c.leads_near.ensures.leads grid are there.free) c.run-test.true c.beyond-next.ensures in
-      let next = legal_ahead-free grid c.run.cell c.beyond-next.result c.args.d legal in
+      let next = free_next grid c.run.cell c.beyond-next.result c.args.d legal in
       record {
         free = next;
         stop = stops_later grid c.args.goal c.run.cell c.args.d c.run.moves
