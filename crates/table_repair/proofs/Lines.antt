@@ -1,4 +1,5 @@
 -- What lies ahead on a line.
+use Rattle.std.proofs.lemmas.Bool.Decides.{nat_tests}
 use Rattle.std.proofs.Common.{◌≡◌, ℕ, zero, suc, ◌+◌, ◌-◌, ◌<◌, ◌≤◌, arith, Bool, true, false, refl, sym, ◌∙◌}
 use Rattle.std.specs.Prelude.{Option, Some, None, option_and_then}
 use Rattle.grid_moves.specs.declared.Cell.{Cell}

@@ -17,8 +17,8 @@ use Rattle.table_repair.specs.declared.walks.Walk.{Walk}
 use Rattle.table_repair.specs.Abreast.{is_at_one, no_cell, IsBehindOne, IsOnward, KeepAbreast, back_room}
 use Rattle.table_repair.specs.Abreast.{room_of}
 use Rattle.table_repair.specs.Mending.{IsRight, AreReady, Mends, FollowBut, either, goes_down}
-use Rattle.table_repair.proofs.Abreast.{abreast_none, abreast_next, abreast_then, at_both, at_first}
-use Rattle.table_repair.proofs.Abreast.{at_next, at_others, first_inside, first_right, or_either}
+use Rattle.table_repair.proofs.Abreast.{abreast_next, abreast_then, at_both, at_first}
+use Rattle.table_repair.proofs.Abreast.{at_next, at_others, or_either}
 use Rattle.table_repair.proofs.Moving.{ahead_moved}
 
 pub room_both : (h : GridData) (d : Dir) (xs ys : List Walk)

@@ -21,7 +21,7 @@ use Rattle.table_repair.specs.Mending.{IsRight, AreBesideRight, AreReady, IsMend
 use Rattle.table_repair.specs.Mending.{cell_after, behind_on}
 use Rattle.table_repair.proofs.Counting.{entry-with, entry-with_other, count-with, with_itself}
 use Rattle.table_repair.proofs.Lines.{behind_on-from, one_behind, after_before, after_moved}
-use Rattle.table_repair.proofs.Mends.{mends_none, still_mended, on_inside, ready_stays}
+use Rattle.table_repair.proofs.Mends.{still_mended, on_inside, ready_stays}
 
 -- what waits for this cell, and for those that wait later
 abbrev pub or_later : Cell → (Cell → Bool) → Cell → Bool
