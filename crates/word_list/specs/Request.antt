@@ -34,33 +34,54 @@ abbrev pub rows : List Named
 rows =
     record {
       name = codes "query";
-      row = record { command = command.Query; takes = File ∷ Number ∷ Number ∷ Number ∷ Number ∷ []; allows = Engine ∷ SmallMap ∷ TableFile ∷ Show ∷ Rule ∷ [] };
+      row = record {
+        command = command.Query;
+        takes = File ∷ Number ∷ Number ∷ Number ∷ Number ∷ [];
+        allows = Engine ∷ SmallMap ∷ TableFile ∷ Show ∷ Rule ∷ [];
+      };
       words = codes "MAP SX SY GX GY";
       says = codes "a least walk from the cell (SX,SY) to the cell (GX,GY) on the map" ∷ [];
     }
     ∷ record {
       name = codes "solve";
-      row = record { command = command.Solve; takes = File ∷ File ∷ []; allows = Engine ∷ TableFile ∷ Show ∷ Rule ∷ [] };
+      row = record {
+        command = command.Solve;
+        takes = File ∷ File ∷ [];
+        allows = Engine ∷ TableFile ∷ Show ∷ Rule ∷ [];
+      };
       words = codes "MAP SCRIPT";
       says = codes "one line for each command of the script: edits of the map, and queries" ∷ [];
     }
     ∷ record {
       name = codes "live";
-      row = record { command = command.Live; takes = File ∷ []; allows = Engine ∷ TableFile ∷ Show ∷ Rule ∷ [] };
+      row = record {
+        command = command.Live;
+        takes = File ∷ [];
+        allows = Engine ∷ TableFile ∷ Show ∷ Rule ∷ [];
+      };
       words = codes "MAP";
       says = codes "the same for a script on standard input, each command answered as it comes" ∷ [];
     }
     ∷ record {
       name = codes "scen";
-      row = record { command = command.Scen; takes = File ∷ File ∷ []; allows = Engine ∷ SmallMap ∷ TableFile ∷ Counts ∷ Rule ∷ [] };
+      row = record {
+        command = command.Scen;
+        takes = File ∷ File ∷ [];
+        allows = Engine ∷ SmallMap ∷ TableFile ∷ Counts ∷ Rule ∷ [];
+      };
       words = codes "MAP SCEN";
-      says = codes "a row for each entry of the scenario, its length judged by the least cost, and their sum; with show=taken" ∷ codes "also how many states each search took" ∷ [];
+      says =
+          codes "a row for each entry of the scenario, its length judged by the least cost, and their sum; with show=taken"
+          ∷ codes "also how many states each search took"
+          ∷ [];
     }
     ∷ record {
       name = codes "judge";
       row = record { command = command.Judge; takes = File ∷ File ∷ File ∷ []; allows = Rule ∷ [] };
       words = codes "MAP SCEN WALKS";
-      says = codes "a row for each entry: the walk that another program tells of it accepted, or why not, and their sum" ∷ [];
+      says =
+          codes "a row for each entry: the walk that another program tells of it accepted, or why not, and their sum"
+          ∷ [];
     }
     ∷ record {
       name = codes "lengths";
@@ -72,11 +93,17 @@ rows =
       name = codes "problems";
       row = record { command = command.Problems; takes = File ∷ Seed ∷ Count ∷ []; allows = Rule ∷ [] };
       words = codes "MAP SEED N";
-      says = codes "a scenario of N entries between free cells of the map that a walk joins, made from the number SEED" ∷ [];
+      says =
+          codes "a scenario of N entries between free cells of the map that a walk joins, made from the number SEED"
+          ∷ [];
     }
     ∷ record {
       name = codes "prove";
-      row = record { command = command.Prove; takes = File ∷ Number ∷ Number ∷ Number ∷ Number ∷ []; allows = Rule ∷ [] };
+      row = record {
+        command = command.Prove;
+        takes = File ∷ Number ∷ Number ∷ Number ∷ Number ∷ [];
+        allows = Rule ∷ [];
+      };
       words = codes "MAP SX SY GX GY";
       says = codes "a certificate that the cost of a least walk is least, or that there is no walk" ∷ [];
     }
@@ -96,19 +123,29 @@ rows =
       name = codes "drill";
       row = record { command = command.Drill; takes = Seed ∷ []; allows = Engine ∷ Rule ∷ [] };
       words = codes "SEED";
-      says = codes "150 edits and queries on the map of SEED, summed up in one line that is the same by each engine" ∷ [];
+      says =
+          codes "150 edits and queries on the map of SEED, summed up in one line that is the same by each engine"
+          ∷ [];
     }
     ∷ record {
       name = codes "draw";
-      row = record { command = command.Draw; takes = File ∷ Number ∷ Number ∷ Number ∷ Number ∷ []; allows = Engine ∷ Drawing ∷ Rule ∷ [] };
+      row = record {
+        command = command.Draw;
+        takes = File ∷ Number ∷ Number ∷ Number ∷ Number ∷ [];
+        allows = Engine ∷ Drawing ∷ Rule ∷ [];
+      };
       words = codes "MAP SX SY GX GY";
-      says = codes "a picture (SVG) of the map and of a least walk, and with show=trace of the cells of the taken states" ∷ [];
+      says =
+          codes "a picture (SVG) of the map and of a least walk, and with show=trace of the cells of the taken states"
+          ∷ [];
     }
     ∷ record {
       name = codes "costs";
       row = record { command = command.Costs; takes = File ∷ Number ∷ Number ∷ []; allows = Rule ∷ [] };
       words = codes "MAP X Y";
-      says = codes "the least cost from the cell (X,Y) to each cell, a line for each row: `A,B`, or `-` where no walk leads" ∷ [];
+      says =
+          codes "the least cost from the cell (X,Y) to each cell, a line for each row: `A,B`, or `-` where no walk leads"
+          ∷ [];
     }
     ∷ record {
       name = codes "tables";
@@ -120,13 +157,17 @@ rows =
       name = codes "boxes";
       row = record { command = command.Boxes; takes = File ∷ Number ∷ Number ∷ []; allows = Rule ∷ [] };
       words = codes "MAP X Y";
-      says = codes "for each direction the least box of cells to which some least walk from the cell (X,Y) begins so" ∷ [];
+      says =
+          codes "for each direction the least box of cells to which some least walk from the cell (X,Y) begins so"
+          ∷ [];
     }
     ∷ record {
       name = codes "moves";
       row = record { command = command.Moves; takes = File ∷ Number ∷ Number ∷ []; allows = Rule ∷ [] };
       words = codes "MAP X Y";
-      says = codes "the first move from the cell (X,Y) to each cell, a line for each run of cells with one first move" ∷ [];
+      says =
+          codes "the first move from the cell (X,Y) to each cell, a line for each run of cells with one first move"
+          ∷ [];
     }
     ∷ record {
       name = codes "--help";
