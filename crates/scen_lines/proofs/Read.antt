@@ -276,7 +276,19 @@ lines_first : (number place : ℕ) (entry : Named) (rest : List ℕ) → IsReada
     ≡ record { number = number; place = place; bytes = body_of entry }
     ∷ lines_from (number + 1) (place + length (line_of entry)) (pieces_of rest)
 lines_first number place entry rest is =
-    grind (arith, nat_tests, line_is, append_assoc, length-append, pieces_then, body_plain, kept_body)
+    let body = body_of entry in
+    let here : LineAt = record { number = number; place = place; bytes = body } in
+    let text : line_of entry ++ rest ≡ body ++ 10 ∷ rest =
+    ap (λ (t : List ℕ). t ++ rest) (line_is entry) ∙ append_assoc body (10 ∷ []) rest in
+    let long : length (line_of entry) ≡ length body + 1 =
+    ap length (line_is entry) ∙ length-append body (10 ∷ []) in
+    let next : place + length body + 1 ≡ place + length (line_of entry) = omega arith in
+    ap (λ (t : List ℕ). lines_from number place (pieces_of t)) text
+    ∙ ap (λ (pieces : List (List ℕ)). lines_from number place pieces)
+    (pieces_then ends_none no_feed body rest (body_plain entry is))
+    ∙ ap (λ (bytes : List ℕ). let line : LineAt = record { number = number; place = place; bytes = bytes } in
+    line ∷ lines_from (number + 1) (place + length body + 1) (pieces_of rest)) (kept_body entry)
+    ∙ ap (λ n. here ∷ lines_from (number + 1) n (pieces_of rest)) next
 
 lines_spell : (number place : ℕ) (entries : List Named) → AreReadable entries
     → SpellInOrder IsBlank IsEntry (lines_from number place (pieces_of (lines_of entries)))
