@@ -1,6 +1,6 @@
 -- Files are read one after the other.
 use Rattle.std.proofs.Common.{◌≡◌, ◌∙◌, ap, append-nil, append_assoc, refl, sym, subst, List, [], ◌∷◌, ◌++◌}
-use Rattle.std.proofs.Common.{ℕ, ◌≤◌, arith}
+use Rattle.std.proofs.Common.{ℕ, arith}
 use Rattle.std.specs.Prelude.{Result, IsErrAnd}
 use Rattle.io_edge.specs.Causes.{NoneFell}
 use Rattle.io_edge.specs.Told.{Disk, Held}

@@ -11,7 +11,7 @@ use Rattle.grid_moves.specs.declared.Dir.TheVariants.{N, NE, E, SE, S, SW, W, NW
 use Rattle.grid_moves.specs.Grid.{GridData, IsGrid, cell_number, is_inside}
 use Rattle.grid_moves.specs.Move.{dir_number, is_dir}
 use Rattle.grid_moves.proofs.Places.{number_below}
-use Rattle.pruning.proofs.Table.{at_dir, same_dir, same_bool, same_bool-is, by_test}
+use Rattle.pruning.proofs.Table.{at_dir, same_dir, by_test}
 use Rattle.plus_tables.specs.declared.heading.Heading.{Heading}
 use Rattle.plus_tables.specs.declared.heading.Heading.TheVariants.{Upwards, Downwards}
 use Rattle.plus_tables.specs.declared.lines.Line.{Line}
@@ -22,7 +22,6 @@ use Rattle.plus_tables.specs.Lines.{AreAhead, AreAlong}
 use Rattle.plus_tables.specs.Laid.{with_entry, with_cell, part, as_tables, rows_there, AreLaid}
 use Rattle.plus_tables.specs.Laid.{AreSwept, IsAlongRight, IsRowSwept}
 use Rattle.grid_moves.proofs.Dirs.{dir_number-few}
-use Rattle.plus_tables.proofs.Lining.{along_seen}
 use Rattle.plus_tables.specs.Entry.{table_entry}
 use Rattle.plus_tables.proofs.Growing.{number_stays}
 use Rattle.plus_tables.proofs.Short.{same_value, table_entry-short}

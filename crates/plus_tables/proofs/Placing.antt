@@ -7,8 +7,6 @@ use Rattle.std.proofs.lemmas.List.{get_or_read}
 use Rattle.std.proofs.lemmas.Bool.Decides.{nat_tests}
 use Rattle.grid_moves.specs.declared.Cell.{Cell}
 use Rattle.grid_moves.specs.declared.Dir.{Dir}
-use Rattle.grid_moves.specs.Grid.{cell_number}
-use Rattle.grid_moves.specs.Move.{dir_number, is_dir, is_same}
 use Rattle.grid_moves.proofs.Legal.{is_same-itself}
 use Rattle.grid_moves.proofs.Dirs.{dir_number-few}
 use Rattle.grid_moves.proofs.Places.{one_cell, number_below}

@@ -1,15 +1,13 @@
 -- Cells are places, and a legal move leads to the place ahead.
-use Rattle.std.proofs.Common.{◌≡◌, ℕ, zero, suc, arith, Bool, true, false, refl, ap, sym, ◌∙◌, subst, ◌||◌}
+use Rattle.std.proofs.Common.{◌≡◌, ℕ, arith, Bool, true, false, refl, ap, sym, ◌∙◌, subst}
 use Rattle.std.specs.Prelude.{ℤ, pos, negsuc, ◌+ℤ◌, Option, Some, None, option_and_then, is_some}
-use Rattle.std.specs.Prelude.{if◌then◌else◌, ⊤, nat_eq}
-use Rattle.std.proofs.lemmas.Int.{ints}
+use Rattle.std.specs.Prelude.{if◌then◌else◌}
 use Rattle.std.proofs.lemmas.Bool.Decides.{nat_tests}
-use Rattle.root2_cost.specs.declared.Cost.{Cost}
 use Rattle.grid_moves.specs.declared.Cell.{Cell}
 use Rattle.grid_moves.specs.declared.Dir.{Dir}
 use Rattle.grid_moves.specs.Grid.{GridData, is_free}
 use Rattle.grid_moves.specs.Move.{ahead, column_ahead, row_ahead, is_legal, is_passable, legal_ahead}
-use Rattle.grid_moves.specs.Move.{is_open, is_free_cell, move_cost}
+use Rattle.grid_moves.specs.Move.{is_open}
 use Rattle.grid_moves.proofs.Ahead.{ahead_of}
 use Rattle.grid_moves.proofs.Legal.{and_both, legal_is, same_cell}
 use Rattle.pruning.specs.declared.Arrival.{Arrival}

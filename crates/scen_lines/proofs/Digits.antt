@@ -1,16 +1,16 @@
 -- What numbers and lengths that were written are read as.
-use Rattle.std.proofs.Common.{◌≡◌, ℕ, suc, ◌+◌, ◌-◌, ◌*◌, ◌/◌, ◌^◌, ◌<◌, true, false, List, [], ◌∷◌, ◌++◌}
-use Rattle.std.proofs.Common.{length, drop, map, refl, ap, ◌∙◌, append_assoc, arith, ◌≤◌}
+use Rattle.std.proofs.Common.{◌≡◌, ℕ, suc, ◌+◌, ◌/◌, ◌^◌, ◌<◌, true, false, List, [], ◌∷◌, ◌++◌}
+use Rattle.std.proofs.Common.{length, drop, refl, ap, ◌∙◌, append_assoc, arith}
 use Rattle.std.specs.Prelude.{codes, decimal, Some, position}
-use Rattle.std.specs.Char.{is_ascii_digit, digit_value}
+use Rattle.std.specs.Char.{is_ascii_digit}
 use Rattle.std.specs.List.{list_all, position_or_len}
 use Rattle.std.specs.Str.Parse.{digits_value_after}
 use Rattle.std.proofs.lemmas.Bool.{and_parts, le-leb, lt-ltb}
 use Rattle.std.proofs.lemmas.Bool.Decides.{nat_tests}
 use Rattle.std.proofs.lemmas.List.{length-append}
 use Rattle.std.proofs.Math.Seq.{take-append_seam}
-use Rattle.text_line.specs.Numbers.{is_number, number_of, value_of}
-use Rattle.text_line.proofs.Digits.{after_append, digit_value_is}
+use Rattle.text_line.specs.Numbers.{is_number, number_of}
+use Rattle.text_line.proofs.Digits.{after_append}
 use Rattle.text_line.proofs.Written.{AreDigits, nine_digits, are_digits}
 use Rattle.scen_text.specs.Lengths.{length_of, is_point}
 use Rattle.root2_cost.specs.Length.{eight_places}

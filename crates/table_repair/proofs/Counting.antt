@@ -7,7 +7,6 @@ use Rattle.std.proofs.lemmas.Bool.Decides.{Decides-int_eq, nat_tests}
 use Rattle.std.proofs.lemmas.List.{set-get_or}
 use Rattle.grid_moves.specs.declared.Cell.{Cell}
 use Rattle.grid_moves.specs.declared.Dir.{Dir}
-use Rattle.grid_moves.specs.Move.{dir_number}
 use Rattle.grid_moves.proofs.Places.{one_place, one_cell, number_below}
 use Rattle.grid_moves.proofs.Dirs.{dir_number-few, one_dir}
 use Rattle.plus_tables.specs.Tables.{TablesData, IsWhole, entry_place, entry_at, tables_with, is_on}

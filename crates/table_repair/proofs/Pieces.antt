@@ -5,7 +5,6 @@ use Rattle.std.proofs.Common.{refl, sym, ◌∙◌, ◌||◌, List, [], ◌∷�
 use Rattle.grid_moves.specs.declared.Cell.{Cell}
 use Rattle.grid_moves.specs.declared.Dir.{Dir}
 use Rattle.grid_moves.specs.Grid.{GridData, is_inside}
-use Rattle.grid_moves.proofs.Legal.{and_both}
 use Rattle.grid_moves.proofs.Places.{inside_from}
 use Rattle.pruning.specs.Turns.{is_diagonal}
 use Rattle.pruning.proofs.Running.{AreMoved}
@@ -16,7 +15,7 @@ use Rattle.table_repair.specs.Abreast.{is_at_one}
 use Rattle.table_repair.specs.Mending.{IsRight, Mends, CanSweep, Sweeps, either, is_in_row}
 use Rattle.table_repair.proofs.Abreast.{at_both}
 use Rattle.table_repair.proofs.Lines.{after_moved, right_ahead}
-use Rattle.table_repair.proofs.Mends.{mends_wider, follow_more}
+use Rattle.table_repair.proofs.Mends.{mends_wider}
 use Rattle.table_repair.proofs.Rows.{and_true, not_true}
 use Rattle.table_repair.proofs.Sweeping.{Swept, swept_more, among_from}
 use Rattle.table_repair.proofs.Walking.{false_or}

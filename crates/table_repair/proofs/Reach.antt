@@ -15,7 +15,6 @@ use Rattle.pruning.proofs.Running.{AreMoved}
 use Rattle.table_repair.specs.declared.span.Span.{Span}
 use Rattle.table_repair.specs.Mending.{is_among, is_in, span_beside, widened, span_next, is_in_reach}
 use Rattle.table_repair.specs.Mending.{goes_right, goes_down, NoneAhead}
-use Rattle.table_repair.proofs.Moving.{is_near-parts}
 use Rattle.table_repair.proofs.Lines.{after_moved}
 use Rattle.table_repair.proofs.Sweeping.{among_parts, among_from}
 use Rattle.table_repair.proofs.Rows.{and_true, not_true}

@@ -7,7 +7,7 @@ use Rattle.grid_moves.specs.declared.Cell.{Cell}
 use Rattle.grid_moves.specs.declared.Dir.{Dir}
 use Rattle.grid_moves.specs.Grid.{GridData, is_inside}
 use Rattle.grid_moves.specs.Move.{is_same}
-use Rattle.grid_moves.proofs.Legal.{and_both, is_same-cell, is_same-itself, same_cell}
+use Rattle.grid_moves.proofs.Legal.{and_both, is_same-cell}
 use Rattle.grid_moves.proofs.Places.{inside_from}
 use Rattle.plus_tables.specs.Tables.{TablesData}
 use Rattle.table_repair.specs.declared.span.Span.{Span}

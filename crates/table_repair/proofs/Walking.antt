@@ -11,7 +11,6 @@ use Rattle.grid_moves.specs.Move.{ahead, is_same, legal_ahead}
 use Rattle.grid_moves.proofs.Legal.{is_same-cell, is_same-itself}
 use Rattle.pruning.proofs.Bridging.{one_of, legal_leads}
 use Rattle.pruning.proofs.Running.{IsMoved, column_trend, row_trend}
-use Rattle.grid_moves.specs.declared.Dir.TheVariants.{N, NE, E, SE, S, SW, W, NW}
 use Rattle.grid_moves.proofs.Places.{inside_is}
 use Rattle.plus_tables.specs.Entry.{table_entry}
 use Rattle.plus_tables.specs.Tables.{TablesData, IsWhole, AreTablesOf, RestsRight, is_on, entry_at}
@@ -20,7 +19,7 @@ use Rattle.table_repair.specs.Counted.{places_differing}
 use Rattle.table_repair.specs.Mending.{IsRight, AreBesideRight, AreReady, IsMended, Mends, FollowBut}
 use Rattle.table_repair.specs.Mending.{cell_after, behind_on}
 use Rattle.table_repair.proofs.Counting.{entry-with, entry-with_other, count-with, with_itself}
-use Rattle.table_repair.proofs.Lines.{behind_on-from, one_behind, after_before, after_moved}
+use Rattle.table_repair.proofs.Lines.{behind_on-from, one_behind, after_moved}
 use Rattle.table_repair.proofs.Mends.{still_mended, on_inside, ready_stays}
 
 -- what waits for this cell, and for those that wait later

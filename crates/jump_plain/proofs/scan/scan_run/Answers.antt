@@ -3,7 +3,7 @@ use Rattle.std.proofs.lemmas.Grind.{common_steps}
 use Rattle.std.proofs.Common.{arith, sym}
 use Rattle.grid_moves.specs.Grid.{GridData}
 use Rattle.grid_moves.proofs.Ahead.{legal_ahead-free}
-use Rattle.jump_plain.specs.Reach.{mark_ahead, reach_of}
+use Rattle.jump_plain.specs.Reach.{reach_of}
 use Rattle.pruning.proofs.Lengths.{run_length-next, run_length-few}
 use Rattle.jump_plain.proofs.Scanning.{mark_ahead-near, reached_end, reached_mark, reached_next, sides_begun}
 use Rattle.jump_plain.proofs.Scanning.{sides_shut}
