@@ -41,9 +41,9 @@ none_begins g s t d (inl e) b =
 none_begins g s t d (inr none) b = none (b.next ∷ b.cells) b.least.walk
 
 -- a first move is one
-one_dir : (g : GridData) (s t : Cell) (d e : Dir) → IsFirstMove g s t (Some d) → IsFirstMove g s t (Some e)
+one_move : (g : GridData) (s t : Cell) (d e : Dir) → IsFirstMove g s t (Some d) → IsFirstMove g s t (Some e)
     → d ≡ e
-one_dir g s t d e p q = let low = p.1 e q.0 in let high = q.1 d p.0 in one_dir d e (omega (arith, low, high))
+one_move g s t d e p q = let low = p.1 e q.0 in let high = q.1 d p.0 in one_dir d e (omega (arith, low, high))
 
 -- and so is that there is none
 pub one_first : (g : GridData) (s t : Cell) (a b : Option Dir) → IsFirstMove g s t a
@@ -51,7 +51,7 @@ pub one_first : (g : GridData) (s t : Cell) (a b : Option Dir) → IsFirstMove g
 one_first g s t None None p q = refl
 one_first g s t None (Some e) p q = absurd (none_begins g s t e p q.0)
 one_first g s t (Some d) None p q = absurd (none_begins g s t d q p.0)
-one_first g s t (Some d) (Some e) p q = ap (λ (x : Dir). Some x) (one_dir g s t d e p q)
+one_first g s t (Some d) (Some e) p q = ap (λ (x : Dir). Some x) (one_move g s t d e p q)
 
 some_cell : (u v : Cell) → Some u ≡ Some v → u ≡ v
 some_cell u v e = ap (λ (o : Option Cell). elim o as (λ _. Cell) [ Some c ↦ c | None ↦ u ]) e
