@@ -60,7 +60,7 @@ some_cell u v e = ap (λ (o : Option Cell). elim o as (λ _. Cell) [ Some c ↦ 
 one_next : (g : GridData) (s t u v : Cell) → LeadsTo g s t u → LeadsTo g s t v → u ≡ v
 one_next g s t u v l m =
     some_cell u v
-    (sym l.ahead ∙ ap (λ (d : Dir). legal_ahead g s d) (one_dir g s t l.dir m.dir l.first m.first)
+    (sym l.ahead ∙ ap (λ (d : Dir). legal_ahead g s d) (one_move g s t l.dir m.dir l.first m.first)
     ∙ m.ahead)
 
 -- and on over one way
