@@ -104,7 +104,7 @@ class Build:
         self.sums = {}
         self.waiting, self.running, self.done = list(self.names), {}, set()
         self.took, self.wanted, self.began, self.said = {}, 0, time.monotonic(), 0
-        self.failed = None
+        self.failed, self.why = None, b""
         self.changed = threading.Condition()
 
     def below(self, name):
@@ -183,8 +183,11 @@ class Build:
             ran.returncode = os.waitstatus_to_exitcode(status)
         with self.changed:
             self.took[name] = self.took.get(name, 0) + usage.ru_utime + usage.ru_stime
+            told = f"== {name}\n".encode() + told
             with open(self.log, "ab") as log:
-                log.write(f"== {name}\n".encode() + told + f"{name} {round(self.took[name])}\n".encode())
+                log.write(told + f"{name} {round(self.took[name])}\n".encode())
+            if ran.returncode != 0:
+                self.why = self.why or told
         return ran.returncode == 0
 
     def make(self, name, jobs, nice):
@@ -264,17 +267,20 @@ class Build:
         self.waiting = [it for it in self.waiting if it not in self.done]
         try:
             with self.changed:
-                while self.waiting or self.running:
-                    if not self.failed:
-                        self.start()
-                    elif not self.running:
-                        break
+                while not self.failed and (self.waiting or self.running):
+                    self.start()
                     self.tell()
                     self.changed.wait(1)
         finally:
             for pid in [it for _, pids, _ in self.running.values() for it in pids]:
                 with contextlib.suppress(ProcessLookupError):
                     os.killpg(pid, signal.SIGKILL)
+        with self.changed:
+            while self.running:
+                self.changed.wait(1)
+        # The log ends with what stopped the build, whatever ended behind it.
+        with open(self.log, "ab") as log:
+            log.write(self.why)
         if sys.stderr.isatty():
             sys.stderr.write("\n")
         return not self.failed
