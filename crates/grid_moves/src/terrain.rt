@@ -1,6 +1,6 @@
 //! What a search asks of a grid, and the legal moves on it.
 
-ghost use Rattle.std.specs.Prelude.{◌≡◌, ℕ, ◌+◌, ◌*◌, ◌<◌, ◌≤◌, IfSome, false, length, nat_eq, slice_index_or};
+ghost use Rattle.std.specs.Prelude.{◌≡◌, ℕ, ◌+◌, ◌*◌, ◌<◌, ◌≤◌, IfSome, false, true, length, nat_eq, slice_index_or};
 ghost use Rattle.std.specs.Int.{bit_at};
 ghost use Rattle.grid_moves.specs.Grid as grids;
 ghost use Rattle.grid_moves.specs.Grid.{GridData, IsGrid, is_free, cell_number};
@@ -30,6 +30,11 @@ pub trait Terrain {
     /// Whether the cell is free; none outside is.
     fn free(&self, c: Cell) -> bool
         ensures { result ≡ is_free (grid self.now) c };
+
+    /// Whether the cell ahead of one on the map is free; what lies outside the map is blocked.
+    fn open(&self, c: Cell, d: Dir) -> bool
+        requires inside { grids.is_inside (grid self.now) c ≡ true }
+        ensures { result ≡ spec.is_open (grid self.now) c d };
 
     /// Reads the cells of a row, from the left: for each column `true` where the cell is free. None of a row
     /// outside is. `row` has exactly a place for each column.

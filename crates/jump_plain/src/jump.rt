@@ -2,7 +2,7 @@
 
 ghost use Rattle.std.specs.Prelude.{◌≡◌, ◌&&◌, ◌||◌, false, true, IfSome, is_some, option_map};
 ghost use Rattle.grid_moves.specs.Grid.{IsGrid, is_free};
-ghost use Rattle.grid_moves.specs.Move.{is_same, legal_ahead};
+ghost use Rattle.grid_moves.specs.Move.{is_open, is_same, legal_ahead};
 ghost use Rattle.pruning.specs.Turns as turns;
 ghost use Rattle.pruning.specs.Turns.{is_diagonal};
 ghost use Rattle.pruning.specs.Marked.{is_forced};
@@ -13,7 +13,7 @@ ghost use Rattle.jump_plain.specs.Reach as spec;
 use crate::beside::Sides;
 use crate::ruled::Ruled;
 use crate::scan::{Reach, scan, scan_with};
-use grid_moves::{Cell, Corner, Dir, Terrain, beyond, is_open, is_passable, may_cut};
+use grid_moves::{Cell, Corner, Dir, Terrain, beyond, is_passable, may_cut};
 use pruning::{Side, forced, turn};
 
 /// The number of moves in a straight direction that lead from one cell to another, or 0 where none do.
@@ -74,8 +74,8 @@ impl Components {
         ensures { result ≡ spec.components_of (T.grid t.now) c d }
     {
         Components {
-            right: is_open(t, c, turn(Side::Right, d)),
-            left: is_open(t, c, turn(Side::Left, d)),
+            right: t.open(c, turn(Side::Right, d)),
+            left: t.open(c, turn(Side::Left, d)),
         }
     }
 }
@@ -113,10 +113,11 @@ pub struct Next {
 
 // Whether a diagonal move is legal: it passes, and the cell that it leads to is free.
 #[inline(always)]
-fn leads_on<T: Terrain>(t: &T, passes: bool, to: Cell) -> bool
-    ensures { result ≡ (is_free (T.grid t.now) to && passes) }
+fn leads_on<T: Terrain>(t: &T, passes: bool, at: Cell, d: Dir) -> bool
+    requires { is_free (T.grid t.now) at ≡ true }
+    ensures { result ≡ (is_open (T.grid t.now) at d && passes) }
 {
-    passes && t.free(to)
+    passes && t.open(at, d)
 }
 
 // Whether both hold.
@@ -137,9 +138,9 @@ pub fn diagonal_ahead<T: Terrain>(t: &T, at: Cell, d: Dir, beside: Components) -
     ensures legal { option_map (λ n. n.cell) result ≡ legal_ahead (T.grid t.now) at d }
     ensures clear { IfSome result (λ n. n.clear ≡ true → is_forced (T.grid t.now) n.cell d ≡ false) }
 {
-    let cell = beyond(at, d);
     let clear = both(beside.right, beside.left);
-    if leads_on(t, is_passable(t.corner(), beside.left, beside.right), cell) {
+    if leads_on(t, is_passable(t.corner(), beside.left, beside.right), at, d) {
+        let cell = beyond(at, d);
         Some(Next { cell, clear })
     } else {
         None

@@ -3,7 +3,7 @@
 ghost use Rattle.pruning.specs.Numbered as numbered;
 ghost use Rattle.jump_plain.specs.Ruled.{ruled_by};
 
-use grid_moves::{Cell, Corner, Terrain};
+use grid_moves::{Cell, Corner, Dir, Terrain};
 use pruning::rule_of_number;
 
 /// A grid under the rule of this number, which is a constant in all that is done on it.
@@ -33,5 +33,10 @@ impl<'a, const RULE: usize, T: Terrain> Terrain for Ruled<'a, RULE, T> {
     #[inline(always)]
     fn free(&self, c: Cell) -> bool {
         self.terrain.free(c)
+    }
+
+    #[inline(always)]
+    fn open(&self, c: Cell, d: Dir) -> bool {
+        self.terrain.open(c, d)
     }
 }

@@ -1,11 +1,12 @@
 use Rattle.std.proofs.lemmas.Bool.Decides.{nat_tests}
 use Rattle.std.proofs.lemmas.Grind.{common_steps}
 use Rattle.std.proofs.Common.{arith}
-use Rattle.jump_plain.proofs.Besides.{beyond_legal, beyond_stuck, beyond_straight}
+use Rattle.pruning.proofs.Moves.{can_move-straight}
+use Rattle.jump_plain.proofs.Besides.{beyond_legal, beyond_stuck}
 use Rattle.jump_plain.proofs.beside.straight_ahead.Goals as goal
 
-pub returns-then-free : goal.returns-then-free
-returns-then-free g c = grind (arith, nat_tests, common_steps, beyond_legal, beyond_straight)
+pub returns-then-open : goal.returns-then-open
+returns-then-open g c = grind (arith, nat_tests, common_steps, beyond_legal, can_move-straight)
 
-pub returns-else-free : goal.returns-else-free
-returns-else-free g c = grind (arith, nat_tests, common_steps, beyond_stuck, beyond_straight)
+pub returns-else-open : goal.returns-else-open
+returns-else-open g c = grind (arith, nat_tests, common_steps, beyond_stuck, can_move-straight)
