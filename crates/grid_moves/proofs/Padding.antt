@@ -7,7 +7,7 @@ use Rattle.std.proofs.lemmas.Nat.{div-add-mod', div_below, mod_below, row_fits, 
 use Rattle.std.proofs.Common.{◌≡◌, ℕ, zero, suc, ◌+◌, ◌*◌, ◌/◌, ◌%◌, ◌<◌, ◌≤◌, ◌⊎◌, inl, inr, arith, refl, ap, sym}
 use Rattle.std.proofs.Common.{subst, ◌∙◌, Bool, true, false, ◌&&◌, List, length, get_or, set, replicate, take, drop}
 use Rattle.std.proofs.Common.{get_or-set_other, get_or-set_same, length-set}
-use Rattle.std.specs.Prelude.{slice_index_or, nat_le}
+use Rattle.std.specs.Prelude.{Option, Some, None, slice_index_or, nat_le}
 use borrow.Rule.Slice.PartMut.{put_mid}
 use Rattle.grid_moves.specs.declared.Cell.{Cell}
 use Rattle.grid_moves.specs.declared.Corner.{Corner}
@@ -15,7 +15,7 @@ use Rattle.grid_moves.specs.declared.Dir.{Dir}
 use Rattle.grid_moves.specs.declared.Dir.TheVariants.{N, NE, E, SE, S, SW, W, NW}
 use Rattle.grid_moves.specs.declared.Ground.{Ground}
 use Rattle.grid_moves.specs.Grid.{GridData, AreCells, is_free, is_inside, is_ground, ground_of, layer_of, grid_with}
-use Rattle.grid_moves.specs.Move.{is_open, is_same}
+use Rattle.grid_moves.specs.Move.{ahead, is_open, is_same}
 use Rattle.grid_moves.specs.Padded.{place_of, places, told, column_of, row_of, listed, inner, grid_in, AreTold}
 use Rattle.grid_moves.specs.Padded.{IsPadded}
 use Rattle.grid_moves.proofs.Edited.{is_free-with_same, is_free-with_other, is_grid-with}
@@ -128,6 +128,32 @@ told_ahead g (suc x) y W = refl
 told_ahead g zero y NW = refl
 told_ahead g (suc x) zero NW = refl
 told_ahead g (suc x) (suc y) NW = refl
+
+-- where it stands on the map
+abbrev found : ℕ → Option Cell → ℕ
+found w None = 0
+found w (Some v) = place_of w (suc v.x) (suc v.y)
+
+pub place_there : (w x y : ℕ) (d : Dir) (v : Cell) → ahead d (record { x = x; y = y }) ≡ Some v
+    → place_of w (column_of d x) (row_of d y) ≡ place_of w (suc v.x) (suc v.y)
+place_there w x y d v = by_dir x y d
+  where
+    by_dir : (x y : ℕ) (d : Dir) → ahead d (record { x = x; y = y }) ≡ Some v
+        → place_of w (column_of d x) (row_of d y) ≡ place_of w (suc v.x) (suc v.y)
+    by_dir x zero N e = absurd (cc)
+    by_dir x (suc y) N e = ap (λ (o : Option Cell). found w o) e
+    by_dir x zero NE e = absurd (cc)
+    by_dir x (suc y) NE e = ap (λ (o : Option Cell). found w o) e
+    by_dir x y E e = ap (λ (o : Option Cell). found w o) e
+    by_dir x y SE e = ap (λ (o : Option Cell). found w o) e
+    by_dir x y S e = ap (λ (o : Option Cell). found w o) e
+    by_dir zero y SW e = absurd (cc)
+    by_dir (suc x) y SW e = ap (λ (o : Option Cell). found w o) e
+    by_dir zero y W e = absurd (cc)
+    by_dir (suc x) y W e = ap (λ (o : Option Cell). found w o) e
+    by_dir zero y NW e = absurd (cc)
+    by_dir (suc x) zero NW e = absurd (cc)
+    by_dir (suc x) (suc y) NW e = ap (λ (o : Option Cell). found w o) e
 
 column_near : (d : Dir) (x w : ℕ) → x < w → column_of d x ≤ w + 1
 column_near d x w h = grind (arith, nat_tests)

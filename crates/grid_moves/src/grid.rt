@@ -41,13 +41,13 @@ fn place_of(width: u16, c: Cell) -> usize
     (c.y as usize + 1) * (width as usize + 1) + c.x as usize + 1
 }
 
-// The place of the cell ahead, which may stand on the border.
+// The place of the cell ahead, which may stand on the border, told that of the cell.
 #[inline(always)]
-fn place_ahead(width: u16, c: Cell, d: Dir) -> usize
+fn place_to(width: u16, place: usize, c: Cell, d: Dir) -> usize
+    requires { place ≡ padded.place_of width (suc c.x) (suc c.y) }
     ensures { result ≡ padded.place_of width (padded.column_of d c.x) (padded.row_of d c.y) }
 {
     let row = width as usize + 1;
-    let place = place_of(width, c);
     match d {
         Dir::N => place - row,
         Dir::NE => place - row + 1,
@@ -189,6 +189,8 @@ impl Grid {
 impl Terrain for Grid {
     ghost grid = { λ g. g };
 
+    ghost place_of = { λ g c. padded.place_of g.width (suc c.x) (suc c.y) };
+
     fn width(&self) -> u16 {
         self.width
     }
@@ -206,8 +208,18 @@ impl Terrain for Grid {
     }
 
     #[inline(always)]
-    fn open(&self, c: Cell, d: Dir) -> bool {
-        self.cells[place_ahead(self.width, c, d)]
+    fn place(&self, c: Cell) -> usize {
+        place_of(self.width, c)
+    }
+
+    #[inline(always)]
+    fn place_ahead(&self, place: usize, c: Cell, d: Dir) -> usize {
+        place_to(self.width, place, c, d)
+    }
+
+    #[inline(always)]
+    fn open_by(&self, place: usize, c: Cell, d: Dir) -> bool {
+        self.cells[place_to(self.width, place, c, d)]
     }
 
     fn read_row(&self, y: u16, row: &mut [bool]) {

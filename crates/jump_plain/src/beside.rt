@@ -24,7 +24,19 @@ pub fn straight_ahead<T: Terrain>(t: &T, c: Cell, d: Dir) -> Option<Cell>
     requires whole { IsGrid (T.grid t.now) }
     ensures { result ≡ legal_ahead (T.grid t.now) c d }
 {
-    if t.open(c, d) {
+    straight_by(t, t.place(c), c, d)
+}
+
+// The same, told the cell's place.
+#[inline(always)]
+pub(crate) fn straight_by<T: Terrain>(t: &T, place: usize, c: Cell, d: Dir) -> Option<Cell>
+    requires told { place ≡ T.place_of t.now c }
+    requires straight { is_diagonal d ≡ false }
+    requires free { is_free (T.grid t.now) c ≡ true }
+    requires whole { IsGrid (T.grid t.now) }
+    ensures { result ≡ legal_ahead (T.grid t.now) c d }
+{
+    if t.open_by(place, c, d) {
         Some(beyond(c, d))
     } else {
         None
@@ -39,9 +51,19 @@ impl Sides {
         requires whole { IsGrid (T.grid t.now) }
         ensures { result ≡ spec.sides_of (T.grid t.now) c d }
     {
+        Sides::by(t, t.place(c), c, d)
+    }
+
+    // The same, told the cell's place.
+    #[inline(always)]
+    pub(crate) fn by<T: Terrain>(t: &T, place: usize, c: Cell, d: Dir) -> Sides
+        requires told { place ≡ T.place_of t.now c }
+        requires free { is_free (T.grid t.now) c ≡ true }
+        ensures { result ≡ spec.sides_of (T.grid t.now) c d }
+    {
         Sides {
-            right: t.open(c, quarter(Side::Right, d)),
-            left: t.open(c, quarter(Side::Left, d)),
+            right: t.open_by(place, c, quarter(Side::Right, d)),
+            left: t.open_by(place, c, quarter(Side::Left, d)),
         }
     }
 

@@ -15,6 +15,8 @@ pub(crate) struct Ruled<'a, const RULE: usize, T: Terrain> {
 impl<'a, const RULE: usize, T: Terrain> Terrain for Ruled<'a, RULE, T> {
     ghost grid = { λ r. ruled_by (numbered.rule_of_number RULE) (T.grid r.terrain.now) };
 
+    ghost place_of = { λ r c. T.place_of r.terrain.now c };
+
     #[inline(always)]
     fn width(&self) -> u16 {
         self.terrain.width()
@@ -36,7 +38,17 @@ impl<'a, const RULE: usize, T: Terrain> Terrain for Ruled<'a, RULE, T> {
     }
 
     #[inline(always)]
-    fn open(&self, c: Cell, d: Dir) -> bool {
-        self.terrain.open(c, d)
+    fn place(&self, c: Cell) -> usize {
+        self.terrain.place(c)
+    }
+
+    #[inline(always)]
+    fn place_ahead(&self, place: usize, c: Cell, d: Dir) -> usize {
+        self.terrain.place_ahead(place, c, d)
+    }
+
+    #[inline(always)]
+    fn open_by(&self, place: usize, c: Cell, d: Dir) -> bool {
+        self.terrain.open_by(place, c, d)
     }
 }

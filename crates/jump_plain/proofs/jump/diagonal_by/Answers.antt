@@ -7,7 +7,7 @@ use Rattle.pruning.specs.Turns.{turn}
 use Rattle.jump_plain.specs.declared.jump.Components.{Components}
 use Rattle.jump_plain.proofs.Besides.{beyond_diagonal, beyond_legal, beyond_stuck}
 use Rattle.jump_plain.proofs.Forcing.{clear_past}
-use Rattle.jump_plain.proofs.jump.diagonal_ahead.Goals as goal
+use Rattle.jump_plain.proofs.jump.diagonal_by.Goals as goal
 
 pub returns-then-leads_on-clause-legal : goal.returns-then-leads_on-clause-legal
 returns-then-leads_on-clause-legal g c = grind (arith, nat_tests, common_steps, beyond_diagonal, beyond_legal)
