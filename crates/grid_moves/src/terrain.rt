@@ -6,7 +6,7 @@ ghost use Rattle.grid_moves.specs.Grid as grids;
 ghost use Rattle.grid_moves.specs.Grid.{GridData, IsGrid, is_free, cell_number};
 ghost use Rattle.grid_moves.specs.Move as spec;
 
-use crate::moves::{beyond, cell_ahead};
+use crate::moves::cell_ahead;
 use crate::{Cell, Corner, Dir};
 
 /// A grid as a search sees it: sides of 1 to 4096 cells, a corner rule, and which cells are free.
@@ -133,17 +133,6 @@ pub fn is_inside<T: Terrain>(t: &T, c: Cell) -> bool
     ensures whole { IsGrid (T.grid t.now) }
 {
     c.x < t.width() && c.y < t.height()
-}
-
-/// Whether the cell and all around it lie on the map: where that is tested, the compiler knows it of each
-/// cell that is read then.
-#[inline(always)]
-pub fn is_inner<T: Terrain>(t: &T, c: Cell) -> bool
-    requires column { c.x < 65535 }
-    requires row { c.y < 65535 }
-    ensures { result ≡ spec.is_inner (T.grid t.now) c }
-{
-    is_inside(t, beyond(c, Dir::NW)) && is_inside(t, c) && is_inside(t, beyond(c, Dir::SE))
 }
 
 /// Whether the move is legal.
