@@ -1,7 +1,5 @@
 -- What lies beyond a cell: whether the move there is legal.
-use Rattle.std.proofs.lemmas.Bool.Decides.{nat_tests}
-use Rattle.std.proofs.lemmas.Grind.{common_steps}
-use Rattle.std.proofs.Common.{arith, ◌≡◌, Bool, true, false, ◌&&◌, ap, sym, ◌∙◌}
+use Rattle.std.proofs.Common.{◌≡◌, Bool, true, false, ◌&&◌, ap, sym, ◌∙◌}
 use Rattle.std.specs.Prelude.{Some, None}
 use Rattle.grid_moves.specs.declared.Cell.{Cell}
 use Rattle.grid_moves.specs.declared.Corner.{Corner}
@@ -27,5 +25,7 @@ pub beyond_diagonal : (g : GridData) (c : Cell) (d : Dir) → is_free g c ≡ tr
     → (rule : Corner) → rule ≡ g.corner → (right left passes legal : Bool)
     → right ≡ is_open g c (turn Right d) → left ≡ is_open g c (turn Left d)
     → passes ≡ is_passable rule left right → legal ≡ (is_open g c d && passes) → can_move g c d ≡ legal
-beyond_diagonal g c d k h rule r right left passes legal i j p l =
-    grind (arith, nat_tests, common_steps, can_move-diagonal)
+beyond_diagonal g c d k h rule r right left passes legal i j p l = can_move-diagonal g c d k h
+    ∙ sym (l ∙ ap (λ (b : Bool). is_open g c d && b) (p ∙ ap (λ (q : Corner). is_passable q left right) r
+    ∙ ap (λ (b : Bool). is_passable g.corner b right) j
+    ∙ ap (λ (b : Bool). is_passable g.corner (is_open g c (turn Left d)) b) i))
