@@ -1,5 +1,5 @@
 -- The free cells beside a free cell are those that legal moves lead to.
-use Rattle.std.proofs.Common.{◌≡◌, ℕ, zero, suc, ◌+◌, ◌≤◌, ◌⊎◌, inl, inr, arith, refl, ap, sym, ◌∙◌}
+use Rattle.std.proofs.Common.{◌≡◌, ℕ, zero, suc, ◌+◌, ◌≤◌, arith, refl, ap, sym, ◌∙◌}
 use Rattle.std.proofs.Common.{Bool, true, false, ◌&&◌}
 use Rattle.std.specs.Prelude.{Option, Some, None, is_some, option_and_then, unwrap_or, if◌then◌else◌}
 use Rattle.std.proofs.lemmas.Bool.Decides.{nat_tests}
@@ -10,13 +10,13 @@ use Rattle.grid_moves.specs.declared.Dir.{Dir}
 use Rattle.grid_moves.specs.declared.Dir.TheVariants.{N, NE, E, SE, S, SW, W, NW}
 use Rattle.grid_moves.specs.declared.around.Around.{Around}
 use Rattle.grid_moves.specs.declared.ring.Ring.{Ring}
-use Rattle.grid_moves.specs.Grid.{GridData, IsGrid, is_free}
-use Rattle.grid_moves.specs.Move.{is_legal, are_neighbours, is_free_cell, is_open, is_passable, beyond}
+use Rattle.grid_moves.specs.Grid.{GridData, is_free}
+use Rattle.grid_moves.specs.Move.{is_legal, are_neighbours, is_open, is_passable, beyond}
 use Rattle.grid_moves.specs.Move.{legal_ahead, column_ahead, row_ahead}
 use Rattle.grid_moves.specs.Ring.{ring_told, is_free_on, leads_on}
 use Rattle.grid_moves.specs.Around.{IsAround, end_of, if_open, is_open_to}
 use Rattle.grid_moves.proofs.Ahead.{legal_ahead-is}
-use Rattle.grid_moves.proofs.Legal.{legal_is, free_inside}
+use Rattle.grid_moves.proofs.Legal.{legal_is}
 
 abbrev cell : ℕ → ℕ → Cell
 cell x y = record { x = x; y = y }
@@ -29,23 +29,6 @@ cell_by x y = cell (unwrap_or x 65535) (unwrap_or y 65535)
 
 abbrev legal_to : GridData → Cell → Option Cell → Option Cell
 legal_to g c o = option_and_then (λ v. if is_legal g c v then Some v else None) o
-
--- what lies beyond the border is not free
-pub free_beyond : (g : GridData) → IsGrid g → (c : Cell) (d : Dir) → is_free g (beyond d c) ≡ is_open g c d
-free_beyond g whole c d = by_parts (column_ahead d c.x) (row_ahead d c.y)
-  where
-    off_map : (v : Cell) → (4096 ≤ v.x) ⊎ (4096 ≤ v.y) → (b : Bool) → is_free g v ≡ b → is_free g v ≡ false
-    off_map v h false e = e
-    off_map v h true e = absurd (
-        let i = free_inside g v e in
-        let wide = whole.sides.narrow in
-        let high = whole.sides.low in
-        elim h [ inl l ↦ omega arith | inr l ↦ omega arith ])
-
-    by_parts : (x y : Option ℕ) → is_free g (cell_by x y) ≡ is_free_cell g (cell_of x y)
-    by_parts (Some x) (Some y) = refl
-    by_parts (Some x) None = off_map (cell x 65535) (inr (omega arith)) (is_free g (cell x 65535)) refl
-    by_parts None y = off_map (cell_by None y) (inl (omega arith)) (is_free g (cell_by None y)) refl
 
 -- where the move is legal it leads beyond
 pub legal_beyond : (g : GridData) (c : Cell) (d : Dir) (b : Bool) → b ≡ is_some (legal_ahead g c d)

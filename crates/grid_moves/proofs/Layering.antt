@@ -29,7 +29,7 @@ within : (inside a b : Bool) → (a && b) ≡ false → ((inside && a) && (insid
 within true a b e = e
 within false a b e = refl
 
-is_grid-layer : (ground : Ground) (corner : Corner) (width height : ℕ) (bytes : List ℕ)
+pub is_grid-layer : (ground : Ground) (corner : Corner) (width height : ℕ) (bytes : List ℕ)
     → AreCells width height bytes → IsGrid (layer_of ground corner width height bytes)
 is_grid-layer ground corner width height bytes cells = record {
   sides = cells.sides;

@@ -11,3 +11,5 @@ pub mod Dirs
 pub mod Walks
 pub mod Costs
 pub mod Eight
+pub mod Parts
+pub mod Padding

@@ -9,3 +9,4 @@ pub mod Reply
 pub mod Laws
 pub mod Ring
 pub mod Around
+pub mod Padded

@@ -10,7 +10,7 @@ use Rattle.grid_moves.specs.declared.Dir.{Dir}
 use Rattle.grid_moves.specs.declared.Dir.TheVariants.{N, NE, E, SE, S, SW, W, NW}
 use Rattle.grid_moves.specs.declared.Corner.{Corner}
 use Rattle.grid_moves.specs.declared.Corner.TheVariants.{Never, One, Both}
-use Rattle.grid_moves.specs.Grid.{GridData, grid_of, is_free, is_inside}
+use Rattle.grid_moves.specs.Grid.{GridData, grid_of, is_free}
 use Rattle.grid_moves.specs.Examples.{pillar}
 
 -- the numbers differ by at most one
@@ -135,10 +135,6 @@ ahead d c = option_and_then (λ x. option_and_then (λ y. Some (record { x = x; 
 abbrev pub beyond : Dir → Cell → Cell
 beyond d c = record { x = unwrap_or (column_ahead d c.x) 65535; y = unwrap_or (row_ahead d c.y) 65535 }
 
--- the cell and all around it lie on the map
-abbrev pub is_inner : GridData → Cell → Bool
-is_inner g c = is_inside g (beyond NW c) && is_inside g c && is_inside g (beyond SE c)
-
 -- the cell behind, from which a move in this direction comes, if there is one
 abbrev pub behind : Dir → Cell → Option Cell
 behind d c = ahead (opposite d) c
@@ -197,10 +193,3 @@ open_diagonal = refl
 -- before the first column and row lies what is on no map
 pub beyond_the_corner : beyond NW (record { x = 0; y = 0 }) ≡ record { x = 65535; y = 65535 }
 beyond_the_corner = refl
-
--- of the pillar's map the middle alone is an inner cell
-pub the_middle_is_inner : is_inner (pillar Never) (record { x = 1; y = 1 }) ≡ true
-the_middle_is_inner = refl
-
-pub a_side_is_not : is_inner (pillar Never) (record { x = 0; y = 1 }) ≡ false
-a_side_is_not = refl

@@ -3,13 +3,13 @@
 //! The cells beside a diagonal move are the ends of straight moves. All eight are read with no branch on
 //! what is found, since whether a cell is free is seldom foreseen by the processor.
 
-ghost use Rattle.std.specs.Prelude.{◌≡◌, ◌<◌, ◌&&◌, true};
-ghost use Rattle.grid_moves.specs.Grid.{IsGrid, is_free};
+ghost use Rattle.std.specs.Prelude.{◌≡◌, ◌&&◌, true};
+ghost use Rattle.grid_moves.specs.Grid.{IsGrid, is_free, is_inside};
 ghost use Rattle.grid_moves.specs.Move as moves;
 ghost use Rattle.grid_moves.specs.Around.{IsAround, end_of};
 
 use crate::moves::before;
-use crate::terrain::{is_inner, is_open, is_passable};
+use crate::terrain::is_passable;
 use crate::{Cell, Corner, Dir, Terrain};
 
 /// Which moves from a cell are legal, by direction, and the columns and rows that they lead to.
@@ -78,11 +78,10 @@ impl Passages {
 // Whether the cell in a diagonal direction is free and the move passes, with no branch on either.
 #[inline(always)]
 fn is_open_past<T: Terrain>(t: &T, c: Cell, d: Dir, passes: bool) -> bool
-    requires column { c.x < 65535 }
-    requires row { c.y < 65535 }
+    requires { is_inside (T.grid t.now) c ≡ true }
     ensures { result ≡ (moves.is_open (T.grid t.now) c d && passes) }
 {
-    passes & is_open(t, c, d)
+    passes & t.open(c, d)
 }
 
 impl Around {
@@ -97,10 +96,10 @@ impl Around {
     {
         let (left, right) = (before(c.x), c.x + 1);
         let (up, down) = (before(c.y), c.y + 1);
-        let n = is_open(t, c, Dir::N);
-        let e = is_open(t, c, Dir::E);
-        let s = is_open(t, c, Dir::S);
-        let w = is_open(t, c, Dir::W);
+        let n = t.open(c, Dir::N);
+        let e = t.open(c, Dir::E);
+        let s = t.open(c, Dir::S);
+        let w = t.open(c, Dir::W);
         let pass = Passages::between(t.corner(), n, e, s, w);
         Around {
             left,
@@ -119,18 +118,7 @@ impl Around {
     }
 }
 
-// The legal moves from a free cell, for the rare cells at the border of the map.
-#[inline(never)]
-fn moves_on_border<T: Terrain>(t: &T, c: Cell) -> Around
-    requires free { is_free (T.grid t.now) c ≡ true }
-    requires whole { IsGrid (T.grid t.now) }
-    ensures around { IsAround (T.grid t.now) c result }
-    ensures ends { (d : _) → end_of result c d ≡ moves.beyond d c }
-{
-    Around::of(t, c)
-}
-
-/// The legal moves from a free cell. Of an inner one the compiler knows that all around it lies on the map.
+/// The legal moves from a free cell.
 #[inline(always)]
 pub fn moves_around<T: Terrain>(t: &T, c: Cell) -> Around
     requires free { is_free (T.grid t.now) c ≡ true }
@@ -138,9 +126,5 @@ pub fn moves_around<T: Terrain>(t: &T, c: Cell) -> Around
     ensures around { IsAround (T.grid t.now) c result }
     ensures ends { (d : _) → end_of result c d ≡ moves.beyond d c }
 {
-    if is_inner(t, c) {
-        Around::of(t, c)
-    } else {
-        moves_on_border(t, c)
-    }
+    Around::of(t, c)
 }

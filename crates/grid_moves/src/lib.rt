@@ -25,8 +25,7 @@ pub use moves::{
 pub use ring::Ring;
 pub use std::alloc::AllocError as NoMemory;
 pub use terrain::{
-    Terrain, is_inner, is_inside, is_legal, is_open, is_passable, may_cut, may_slip, number_of,
-    passable_bits, step,
+    Terrain, is_inside, is_legal, is_passable, may_cut, may_slip, number_of, passable_bits, step,
 };
 
 /// A cell: its column `x`, counted to the right, and its row `y`, counted downwards, both from 0.

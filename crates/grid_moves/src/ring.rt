@@ -5,7 +5,7 @@ ghost use Rattle.grid_moves.specs.Grid.{IsGrid, is_free};
 ghost use Rattle.grid_moves.specs.Move as moves;
 ghost use Rattle.grid_moves.specs.Ring as spec;
 
-use crate::terrain::{is_open, is_passable};
+use crate::terrain::is_passable;
 use crate::{Cell, Corner, Dir, Terrain};
 
 /// Which of the eight cells around a cell are free, by the direction to them. None outside the map is.
@@ -30,14 +30,14 @@ impl Ring {
         ensures { (d : _) → spec.is_free_on result d ≡ moves.is_open (T.grid t.now) at d }
     {
         Ring {
-            n: is_open(t, at, Dir::N),
-            ne: is_open(t, at, Dir::NE),
-            e: is_open(t, at, Dir::E),
-            se: is_open(t, at, Dir::SE),
-            s: is_open(t, at, Dir::S),
-            sw: is_open(t, at, Dir::SW),
-            w: is_open(t, at, Dir::W),
-            nw: is_open(t, at, Dir::NW),
+            n: t.open(at, Dir::N),
+            ne: t.open(at, Dir::NE),
+            e: t.open(at, Dir::E),
+            se: t.open(at, Dir::SE),
+            s: t.open(at, Dir::S),
+            sw: t.open(at, Dir::SW),
+            w: t.open(at, Dir::W),
+            nw: t.open(at, Dir::NW),
         }
     }
 

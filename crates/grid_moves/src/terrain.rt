@@ -1,17 +1,22 @@
 //! What a search asks of a grid, and the legal moves on it.
 
-ghost use Rattle.std.specs.Prelude.{◌≡◌, ℕ, ◌+◌, ◌*◌, ◌<◌, ◌≤◌, IfSome, false, length, nat_eq, slice_index_or};
+ghost use Rattle.std.specs.Prelude.{◌≡◌, ℕ, ◌+◌, ◌*◌, ◌<◌, ◌≤◌, Some, IfSome, false, true, length, nat_eq, slice_index_or};
 ghost use Rattle.std.specs.Int.{bit_at};
 ghost use Rattle.grid_moves.specs.Grid as grids;
 ghost use Rattle.grid_moves.specs.Grid.{GridData, IsGrid, is_free, cell_number};
 ghost use Rattle.grid_moves.specs.Move as spec;
 
-use crate::moves::{beyond, cell_ahead};
+use crate::moves::cell_ahead;
 use crate::{Cell, Corner, Dir};
 
 /// A grid as a search sees it: sides of 1 to 4096 cells, a corner rule, and which cells are free.
 pub trait Terrain {
+    ghost use Rattle.grid_moves.specs.declared.Cell.{Cell};
+
     ghost grid: { Self → GridData };
+
+    /// Where a cell stands: a number of the grid's own, by which what lies around the cell is read.
+    ghost place_of: { Self → Cell → ℕ };
 
     /// The number of columns.
     fn width(&self) -> u16
@@ -30,6 +35,31 @@ pub trait Terrain {
     /// Whether the cell is free; none outside is.
     fn free(&self, c: Cell) -> bool
         ensures { result ≡ is_free (grid self.now) c };
+
+    /// The place of a cell.
+    fn place(&self, c: Cell) -> usize
+        ensures { result ≡ place_of self.now c };
+
+    /// The place of the cell ahead, told that of a cell on the map.
+    fn place_ahead(&self, place: usize, c: Cell, d: Dir) -> usize
+        requires inside { grids.is_inside (grid self.now) c ≡ true }
+        requires told { place ≡ place_of self.now c }
+        ensures { (v : _) → spec.ahead d c ≡ Some v → result ≡ place_of self.now v };
+
+    /// Whether the cell ahead of one on the map is free, told its place; what lies outside the map is blocked.
+    fn open_by(&self, place: usize, c: Cell, d: Dir) -> bool
+        requires inside { grids.is_inside (grid self.now) c ≡ true }
+        requires told { place ≡ place_of self.now c }
+        ensures { result ≡ spec.is_open (grid self.now) c d };
+
+    /// The same, where the place is reckoned first.
+    #[inline(always)]
+    fn open(&self, c: Cell, d: Dir) -> bool
+        requires inside { grids.is_inside (grid self.now) c ≡ true }
+        ensures { result ≡ spec.is_open (grid self.now) c d }
+    {
+        self.open_by(self.place(c), c, d)
+    }
 
     /// Reads the cells of a row, from the left: for each column `true` where the cell is free. None of a row
     /// outside is. `row` has exactly a place for each column.
@@ -103,29 +133,6 @@ pub fn is_inside<T: Terrain>(t: &T, c: Cell) -> bool
     ensures whole { IsGrid (T.grid t.now) }
 {
     c.x < t.width() && c.y < t.height()
-}
-
-/// Whether the cell and all around it lie on the map: where that is tested, the compiler knows it of each
-/// cell that is read then.
-#[inline(always)]
-pub fn is_inner<T: Terrain>(t: &T, c: Cell) -> bool
-    requires column { c.x < 65535 }
-    requires row { c.y < 65535 }
-    ensures { result ≡ spec.is_inner (T.grid t.now) c }
-{
-    is_inside(t, beyond(c, Dir::NW)) && is_inside(t, c) && is_inside(t, beyond(c, Dir::SE))
-}
-
-/// Whether the cell ahead is free; what lies outside the map is blocked.
-#[inline(always)]
-pub fn is_open<T: Terrain>(t: &T, c: Cell, d: Dir) -> bool
-    requires column { c.x < 65535 }
-    requires row { c.y < 65535 }
-    ensures { result ≡ spec.is_open (T.grid t.now) c d }
-{
-    // (by the clause of `width` the grid is whole)
-    let _whole = t.width();
-    t.free(beyond(c, d))
 }
 
 /// Whether the move is legal.

@@ -1,18 +1,16 @@
 -- What lies beyond a cell: whether the move there is legal.
-use Rattle.std.proofs.lemmas.Bool.Decides.{nat_tests}
-use Rattle.std.proofs.lemmas.Grind.{common_steps}
-use Rattle.std.proofs.Common.{arith, ◌≡◌, Bool, true, false, ◌&&◌, ap, sym, ◌∙◌}
+use Rattle.std.proofs.Common.{◌≡◌, Bool, true, false, ◌&&◌, ap, sym, ◌∙◌}
 use Rattle.std.specs.Prelude.{Some, None}
 use Rattle.grid_moves.specs.declared.Cell.{Cell}
 use Rattle.grid_moves.specs.declared.Corner.{Corner}
 use Rattle.grid_moves.specs.declared.Dir.{Dir}
-use Rattle.grid_moves.specs.Grid.{GridData, IsGrid, is_free}
+use Rattle.grid_moves.specs.Grid.{GridData, is_free}
 use Rattle.grid_moves.specs.Move.{beyond, is_open, is_passable, legal_ahead}
-use Rattle.grid_moves.proofs.Besides.{free_beyond, legal_beyond}
+use Rattle.grid_moves.proofs.Besides.{legal_beyond}
 use Rattle.pruning.specs.declared.turns.Side.TheVariants.{Right, Left}
 use Rattle.pruning.specs.Turns.{turn, is_diagonal}
 use Rattle.pruning.specs.Allowed.{can_move}
-use Rattle.pruning.proofs.Moves.{can_move-straight, can_move-diagonal}
+use Rattle.pruning.proofs.Moves.{can_move-diagonal}
 
 -- where the move ahead is legal it leads beyond
 pub beyond_legal : (g : GridData) (c v : Cell) (d : Dir) → v ≡ beyond d c → can_move g c d ≡ true
@@ -22,16 +20,12 @@ beyond_legal g c v d e h = sym (legal_beyond g c d true (sym h)) ∙ ap (λ (w :
 pub beyond_stuck : (g : GridData) (c : Cell) (d : Dir) → can_move g c d ≡ false → legal_ahead g c d ≡ None
 beyond_stuck g c d h = sym (legal_beyond g c d false (sym h))
 
-module _ (g : GridData) (whole : IsGrid g) where
-  -- a straight one is legal where the cell is free
-  pub beyond_straight : (c v : Cell) (d : Dir) → is_free g c ≡ true → is_diagonal d ≡ false → v ≡ beyond d c
-      → can_move g c d ≡ is_free g v
-  beyond_straight c v d k h e = grind (arith, nat_tests, common_steps, can_move-straight, free_beyond)
-
-  -- a diagonal one where it passes, too
-  pub beyond_diagonal : (c v : Cell) (d : Dir) → is_free g c ≡ true → is_diagonal d ≡ true
-      → v ≡ beyond d c → (rule : Corner) → rule ≡ g.corner → (right left passes legal : Bool)
-      → right ≡ is_open g c (turn Right d) → left ≡ is_open g c (turn Left d)
-      → passes ≡ is_passable rule left right → legal ≡ (is_free g v && passes) → can_move g c d ≡ legal
-  beyond_diagonal c v d k h e rule r right left passes legal i j p l =
-      grind (arith, nat_tests, common_steps, can_move-diagonal, free_beyond)
+-- a diagonal one is legal where the cell is free, and it passes
+pub beyond_diagonal : (g : GridData) (c : Cell) (d : Dir) → is_free g c ≡ true → is_diagonal d ≡ true
+    → (rule : Corner) → rule ≡ g.corner → (right left passes legal : Bool)
+    → right ≡ is_open g c (turn Right d) → left ≡ is_open g c (turn Left d)
+    → passes ≡ is_passable rule left right → legal ≡ (is_open g c d && passes) → can_move g c d ≡ legal
+beyond_diagonal g c d k h rule r right left passes legal i j p l = can_move-diagonal g c d k h
+    ∙ sym (l ∙ ap (λ (b : Bool). is_open g c d && b) (p ∙ ap (λ (q : Corner). is_passable q left right) r
+    ∙ ap (λ (b : Bool). is_passable g.corner b right) j
+    ∙ ap (λ (b : Bool). is_passable g.corner (is_open g c (turn Left d)) b) i))

@@ -6,7 +6,7 @@ ghost use Rattle.grid_moves.specs.Move.{legal_ahead};
 ghost use Rattle.pruning.specs.Turns.{is_diagonal};
 ghost use Rattle.jump_plain.specs.Beside as spec;
 
-use grid_moves::{Cell, Dir, Terrain, beyond, is_open};
+use grid_moves::{Cell, Dir, Terrain, beyond};
 use pruning::{Side, quarter, turn};
 
 /// Which of the two cells at right angles to a direction are free.
@@ -24,8 +24,23 @@ pub fn straight_ahead<T: Terrain>(t: &T, c: Cell, d: Dir) -> Option<Cell>
     requires whole { IsGrid (T.grid t.now) }
     ensures { result ≡ legal_ahead (T.grid t.now) c d }
 {
-    let v = beyond(c, d);
-    if t.free(v) { Some(v) } else { None }
+    straight_by(t, t.place(c), c, d)
+}
+
+// The same, told the cell's place.
+#[inline(always)]
+pub(crate) fn straight_by<T: Terrain>(t: &T, place: usize, c: Cell, d: Dir) -> Option<Cell>
+    requires told { place ≡ T.place_of t.now c }
+    requires straight { is_diagonal d ≡ false }
+    requires free { is_free (T.grid t.now) c ≡ true }
+    requires whole { IsGrid (T.grid t.now) }
+    ensures { result ≡ legal_ahead (T.grid t.now) c d }
+{
+    if t.open_by(place, c, d) {
+        Some(beyond(c, d))
+    } else {
+        None
+    }
 }
 
 impl Sides {
@@ -36,9 +51,19 @@ impl Sides {
         requires whole { IsGrid (T.grid t.now) }
         ensures { result ≡ spec.sides_of (T.grid t.now) c d }
     {
+        Sides::by(t, t.place(c), c, d)
+    }
+
+    // The same, told the cell's place.
+    #[inline(always)]
+    pub(crate) fn by<T: Terrain>(t: &T, place: usize, c: Cell, d: Dir) -> Sides
+        requires told { place ≡ T.place_of t.now c }
+        requires free { is_free (T.grid t.now) c ≡ true }
+        ensures { result ≡ spec.sides_of (T.grid t.now) c d }
+    {
         Sides {
-            right: is_open(t, c, quarter(Side::Right, d)),
-            left: is_open(t, c, quarter(Side::Left, d)),
+            right: t.open_by(place, c, quarter(Side::Right, d)),
+            left: t.open_by(place, c, quarter(Side::Left, d)),
         }
     }
 
@@ -50,8 +75,8 @@ impl Sides {
         ensures { result ≡ spec.sides_ahead (T.grid t.now) c d }
     {
         Sides {
-            right: is_open(t, c, turn(Side::Right, d)),
-            left: is_open(t, c, turn(Side::Left, d)),
+            right: t.open(c, turn(Side::Right, d)),
+            left: t.open(c, turn(Side::Left, d)),
         }
     }
 

@@ -2,7 +2,7 @@
 
 ghost use Rattle.std.specs.Prelude.{◌≡◌, ◌&&◌, ◌||◌, false, true, IfSome, is_some, option_map};
 ghost use Rattle.grid_moves.specs.Grid.{IsGrid, is_free};
-ghost use Rattle.grid_moves.specs.Move.{is_same, legal_ahead};
+ghost use Rattle.grid_moves.specs.Move.{is_open, is_same, legal_ahead};
 ghost use Rattle.pruning.specs.Turns as turns;
 ghost use Rattle.pruning.specs.Turns.{is_diagonal};
 ghost use Rattle.pruning.specs.Marked.{is_forced};
@@ -13,7 +13,7 @@ ghost use Rattle.jump_plain.specs.Reach as spec;
 use crate::beside::Sides;
 use crate::ruled::Ruled;
 use crate::scan::{Reach, scan, scan_with};
-use grid_moves::{Cell, Corner, Dir, Terrain, beyond, is_open, is_passable, may_cut};
+use grid_moves::{Cell, Corner, Dir, Terrain, beyond, is_passable, may_cut};
 use pruning::{Side, forced, turn};
 
 /// The number of moves in a straight direction that lead from one cell to another, or 0 where none do.
@@ -73,9 +73,19 @@ impl Components {
         requires whole { IsGrid (T.grid t.now) }
         ensures { result ≡ spec.components_of (T.grid t.now) c d }
     {
+        Components::by(t, t.place(c), c, d)
+    }
+
+    // The same, told the cell's place.
+    #[inline(always)]
+    fn by<T: Terrain>(t: &T, place: usize, c: Cell, d: Dir) -> Components
+        requires told { place ≡ T.place_of t.now c }
+        requires free { is_free (T.grid t.now) c ≡ true }
+        ensures { result ≡ spec.components_of (T.grid t.now) c d }
+    {
         Components {
-            right: is_open(t, c, turn(Side::Right, d)),
-            left: is_open(t, c, turn(Side::Left, d)),
+            right: t.open_by(place, c, turn(Side::Right, d)),
+            left: t.open_by(place, c, turn(Side::Left, d)),
         }
     }
 }
@@ -113,10 +123,12 @@ pub struct Next {
 
 // Whether a diagonal move is legal: it passes, and the cell that it leads to is free.
 #[inline(always)]
-fn leads_on<T: Terrain>(t: &T, passes: bool, to: Cell) -> bool
-    ensures { result ≡ (is_free (T.grid t.now) to && passes) }
+fn leads_on<T: Terrain>(t: &T, passes: bool, place: usize, at: Cell, d: Dir) -> bool
+    requires told { place ≡ T.place_of t.now at }
+    requires free { is_free (T.grid t.now) at ≡ true }
+    ensures { result ≡ (is_open (T.grid t.now) at d && passes) }
 {
-    passes && t.free(to)
+    passes && t.open_by(place, at, d)
 }
 
 // Whether both hold.
@@ -137,9 +149,35 @@ pub fn diagonal_ahead<T: Terrain>(t: &T, at: Cell, d: Dir, beside: Components) -
     ensures legal { option_map (λ n. n.cell) result ≡ legal_ahead (T.grid t.now) at d }
     ensures clear { IfSome result (λ n. n.clear ≡ true → is_forced (T.grid t.now) n.cell d ≡ false) }
 {
-    let cell = beyond(at, d);
+    diagonal_by(t, t.place(at), at, d, beside)
+}
+
+// The same, told the cell's place.
+#[inline(always)]
+fn diagonal_by<T: Terrain>(
+    t: &T,
+    place: usize,
+    at: Cell,
+    d: Dir,
+    beside: Components,
+) -> Option<Next>
+    requires told { place ≡ T.place_of t.now at }
+    requires diagonal { is_diagonal d ≡ true }
+    requires free { is_free (T.grid t.now) at ≡ true }
+    requires whole { IsGrid (T.grid t.now) }
+    requires beside { beside ≡ spec.components_of (T.grid t.now) at d }
+    ensures legal { option_map (λ n. n.cell) result ≡ legal_ahead (T.grid t.now) at d }
+    ensures clear { IfSome result (λ n. n.clear ≡ true → is_forced (T.grid t.now) n.cell d ≡ false) }
+{
     let clear = both(beside.right, beside.left);
-    if leads_on(t, is_passable(t.corner(), beside.left, beside.right), cell) {
+    if leads_on(
+        t,
+        is_passable(t.corner(), beside.left, beside.right),
+        place,
+        at,
+        d,
+    ) {
+        let cell = beyond(at, d);
         Some(Next { cell, clear })
     } else {
         None
@@ -179,17 +217,18 @@ fn finds_on_line<T: Terrain>(t: &T, at: Cell, d: Dir, goal: Cell) -> bool
     straight_stop(t, at, d, goal).is_some()
 }
 
-// Whether a straight jump finds a stop, told the sides that its scan begins with: a mark, or else the goal,
-// which can lie on its line alone.
+// Whether a straight jump finds a stop, told the cell's place and the sides that its scan begins with: a mark,
+// or else the goal, which can lie on its line alone.
 #[inline(always)]
-fn finds_stop<T: Terrain>(t: &T, at: Cell, d: Dir, goal: Cell, sides: Sides) -> bool
+fn finds_stop<T: Terrain>(t: &T, place: usize, at: Cell, d: Dir, goal: Cell, sides: Sides) -> bool
+    requires told { place ≡ T.place_of t.now at }
     requires straight { is_diagonal d ≡ false }
     requires free { is_free (T.grid t.now) at ≡ true }
     requires whole { IsGrid (T.grid t.now) }
     requires sides { sides ≡ spec.first_sides (T.grid t.now).corner (T.grid t.now) at d }
     ensures { result ≡ is_some (first.first_stop (T.grid t.now) goal at d) }
 {
-    if scan_with(t, at, d, sides).marked {
+    if scan_with(t, place, at, d, sides).marked {
         return true;
     }
     if is_on_line(d, at, goal) {
@@ -198,10 +237,18 @@ fn finds_stop<T: Terrain>(t: &T, at: Cell, d: Dir, goal: Cell, sides: Sides) -> 
     false
 }
 
-// Whether a diagonal jump stops at a cell, told which cells ahead of it are free: it is the goal, or a
-// neighbour is forced there, or a straight jump in a component finds a stop.
+// Whether a diagonal jump stops at a cell, told its place and which cells ahead of it are free: it is the goal,
+// or a neighbour is forced there, or a straight jump in a component finds a stop.
 #[inline(always)]
-fn stops_at<T: Terrain>(t: &T, next: Next, d: Dir, goal: Cell, beside: Components) -> bool
+fn stops_at<T: Terrain>(
+    t: &T,
+    place: usize,
+    next: Next,
+    d: Dir,
+    goal: Cell,
+    beside: Components,
+) -> bool
+    requires told { place ≡ T.place_of t.now next.cell }
     requires diagonal { is_diagonal d ≡ true }
     requires free { is_free (T.grid t.now) next.cell ≡ true }
     requires whole { IsGrid (T.grid t.now) }
@@ -216,8 +263,8 @@ fn stops_at<T: Terrain>(t: &T, next: Next, d: Dir, goal: Cell, beside: Component
     let left = sides_after(t.corner(), beside, Side::Left);
     next.cell == goal
         || is_forced_at(t, next, d)
-        || finds_stop(t, next.cell, turn(Side::Right, d), goal, right)
-        || finds_stop(t, next.cell, turn(Side::Left, d), goal, left)
+        || finds_stop(t, place, next.cell, turn(Side::Right, d), goal, right)
+        || finds_stop(t, place, next.cell, turn(Side::Left, d), goal, left)
 }
 
 // After how many moves a diagonal jump stops.
@@ -229,12 +276,14 @@ fn diagonal_stop<T: Terrain>(t: &T, at: Cell, d: Dir, goal: Cell) -> Option<u16>
     ensures { result ≡ first.first_stop (T.grid t.now) goal at d }
 {
     let mut cell = at;
-    let mut beside = Components::of(t, at, d);
+    let mut place = t.place(at);
+    let mut beside = Components::by(t, place, at, d);
     let mut moves = 0;
-    'run: while let Some(next) = diagonal_ahead(t, cell, d, beside) {
+    'run: while let Some(next) = diagonal_by(t, place, cell, d, beside) {
         moves += 1;
-        beside = Components::of(t, next.cell, d);
-        if stops_at(t, next, d, goal, beside) {
+        place = t.place_ahead(place, cell, d);
+        beside = Components::by(t, place, next.cell, d);
+        if stops_at(t, place, next, d, goal, beside) {
             return Some(moves);
         }
         cell = next.cell;

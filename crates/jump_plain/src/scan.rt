@@ -21,9 +21,8 @@ ghost use Rattle.pruning.specs.First.{run_length};
 ghost use Rattle.jump_plain.specs.Beside as besides;
 ghost use Rattle.jump_plain.specs.Reach as spec;
 
-use crate::beside::{Sides, straight_ahead};
-use grid_moves::{Cell, Corner, Dir, Terrain, beyond, is_inside, may_cut, may_slip};
-use pruning::{Side, quarter};
+use crate::beside::{Sides, straight_by};
+use grid_moves::{Cell, Corner, Dir, Terrain, may_cut, may_slip};
 
 /// How far a scan along a straight run reaches.
 #[derive(Clone, Copy)]
@@ -97,9 +96,11 @@ fn ends_marked<T: Terrain>(t: &T, at: Cell, d: Dir, shut: u8) -> bool
     may_slip(t.corner()) && opens(shut, free_bits(Sides::ahead(t, at, d)))
 }
 
-// Scans along the legal run from a free cell in a straight direction, told the sides to begin with.
+/// Scans along the legal run from a free cell in a straight direction, told its place and the sides to begin
+/// with: to the first cell with a forced neighbour, or else to the run's end. The cell itself is not looked at.
 #[inline(always)]
-fn scan_run<T: Terrain>(t: &T, at: Cell, d: Dir, sides: Sides) -> Reach
+pub fn scan_with<T: Terrain>(t: &T, place: usize, at: Cell, d: Dir, sides: Sides) -> Reach
+    requires told { place ≡ T.place_of t.now at }
     requires straight { is_diagonal d ≡ false }
     requires free { is_free (T.grid t.now) at ≡ true }
     requires whole { IsGrid (T.grid t.now) }
@@ -108,9 +109,11 @@ fn scan_run<T: Terrain>(t: &T, at: Cell, d: Dir, sides: Sides) -> Reach
 {
     let mut shut = shut_bits(free_bits(sides));
     let mut cell = at;
+    let mut place = place;
     let mut moves = 0;
-    'run: while let Some(next) = straight_ahead(t, cell, d) {
-        let free = free_bits(Sides::of(t, next, d));
+    'run: while let Some(next) = straight_by(t, place, cell, d) {
+        place = t.place_ahead(place, cell, d);
+        let free = free_bits(Sides::by(t, place, next, d));
         if opens(shut, free) {
             return Reach {
                 moves: moves + mark_ahead(t.corner()),
@@ -127,39 +130,6 @@ fn scan_run<T: Terrain>(t: &T, at: Cell, d: Dir, sides: Sides) -> Reach
     }
 }
 
-// The same, for the rare runs along the border of the map.
-#[inline(never)]
-fn scan_border<T: Terrain>(t: &T, at: Cell, d: Dir, sides: Sides) -> Reach
-    requires straight { is_diagonal d ≡ false }
-    requires free { is_free (T.grid t.now) at ≡ true }
-    requires whole { IsGrid (T.grid t.now) }
-    requires sides { sides ≡ spec.first_sides (T.grid t.now).corner (T.grid t.now) at d }
-    ensures { result ≡ spec.reach_of (T.grid t.now) at d }
-{
-    scan_run(t, at, d, sides)
-}
-
-/// Scans along the legal run from a free cell in a straight direction, told the sides to begin with: to the
-/// first cell with a forced neighbour, or else to the run's end. The cell itself is not looked at.
-///
-/// Where both lines beside the run lie on the map, the compiler knows it in all of the loop.
-#[inline(always)]
-pub fn scan_with<T: Terrain>(t: &T, at: Cell, d: Dir, sides: Sides) -> Reach
-    requires straight { is_diagonal d ≡ false }
-    requires free { is_free (T.grid t.now) at ≡ true }
-    requires whole { IsGrid (T.grid t.now) }
-    requires sides { sides ≡ spec.first_sides (T.grid t.now).corner (T.grid t.now) at d }
-    ensures { result ≡ spec.reach_of (T.grid t.now) at d }
-{
-    let right = beyond(at, quarter(Side::Right, d));
-    let left = beyond(at, quarter(Side::Left, d));
-    if is_inside(t, at) && is_inside(t, right) && is_inside(t, left) {
-        scan_run(t, at, d, sides)
-    } else {
-        scan_border(t, at, d, sides)
-    }
-}
-
 /// The same, where the sides are read first.
 #[inline(always)]
 pub fn scan<T: Terrain>(t: &T, at: Cell, d: Dir) -> Reach
@@ -169,5 +139,5 @@ pub fn scan<T: Terrain>(t: &T, at: Cell, d: Dir) -> Reach
     ensures { result ≡ spec.reach_of (T.grid t.now) at d }
 {
     let sides = first_sides(t, t.corner(), at, d);
-    scan_with(t, at, d, sides)
+    scan_with(t, t.place(at), at, d, sides)
 }

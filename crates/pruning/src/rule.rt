@@ -30,7 +30,7 @@ use crate::Arrival;
 use crate::packed::Packed;
 use crate::turns::{Side, is_diagonal, quarter, rear, turn};
 use arrayvec::ArrayVec;
-use grid_moves::{Cell, Corner, Dir, Ring, Terrain, dir_number, is_inner, may_cut};
+use grid_moves::{Cell, Corner, Dir, Ring, Terrain, dir_number, may_cut};
 
 /// Whether the directions are one.
 #[inline(always)]
@@ -212,16 +212,6 @@ fn allowed_around<T: Terrain>(t: &T, at: Cell, by: Arrival) -> Packed
     allowed_on(t.corner(), Ring::of(t, at), by)
 }
 
-// The same, for the rare cells on the border of the map.
-#[inline(never)]
-fn allowed_on_border<T: Terrain>(t: &T, at: Cell, by: Arrival) -> Packed
-    requires free { IsTrue (is_free (T.grid t.now) at) }
-    requires whole { IsGrid (T.grid t.now) }
-    ensures rule { result ≡ spec.allowed_dirs (T.grid t.now) at by }
-{
-    allowed_around(t, at, by)
-}
-
 /// The allowed directions at a free cell, in increasing order.
 ///
 /// At the start these are the legal moves. After a move they are the same direction, after a diagonal
@@ -236,18 +226,14 @@ pub fn allowed<T: Terrain>(t: &T, at: Cell, by: Arrival) -> ArrayVec<Dir, 8>
     allowed_word(t, at, by).to_list()
 }
 
-/// The same in one word. Where the cells around lie on the map, the compiler knows that each of them does.
+/// The same in one word.
 pub fn allowed_word<T: Terrain>(t: &T, at: Cell, by: Arrival) -> Packed
     requires free { IsTrue (is_free (T.grid t.now) at) }
     ensures rule { result ≡ spec.allowed_dirs (T.grid t.now) at by }
 {
     // (by the clause of `width` the grid is whole)
     let _whole = t.width();
-    if is_inner(t, at) {
-        allowed_around(t, at, by)
-    } else {
-        allowed_on_border(t, at, by)
-    }
+    allowed_around(t, at, by)
 }
 
 // Whether a neighbour on this side is forced at a free cell after a move, with no branch on the cells around.

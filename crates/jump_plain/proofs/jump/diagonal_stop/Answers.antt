@@ -5,6 +5,7 @@ use Rattle.grid_moves.specs.Grid.{GridData}
 use Rattle.grid_moves.proofs.Ahead.{legal_ahead-free}
 use Rattle.pruning.specs.First.{first_stop}
 use Rattle.jump_plain.proofs.Forcing.{sides_known}
+use Rattle.pruning.proofs.Bridging.{legal_leads}
 use Rattle.pruning.proofs.Lengths.{run_length-next, run_length-few}
 use Rattle.jump_plain.proofs.Diagonal.{is_stop-read, stops_nowhere, stops_here, stops_later}
 use Rattle.jump_plain.proofs.jump.diagonal_stop.Goals as goal
@@ -12,8 +13,20 @@ use Rattle.jump_plain.proofs.jump.diagonal_stop.Goals as goal
 pub overflow_add-moves : goal.overflow_add-moves
 overflow_add-moves g c = grind (arith, nat_tests, common_steps, run_length-next, run_length-few)
 
-pub of-beside-requires-in-Some-clause-free : goal.of-beside-requires-in-Some-clause-free
-of-beside-requires-in-Some-clause-free g c = grind (arith, nat_tests, common_steps, legal_ahead-free)
+pub by-beside-requires-in-Some-clause-free : goal.by-beside-requires-in-Some-clause-free
+by-beside-requires-in-Some-clause-free g c = grind (arith, nat_tests, common_steps, legal_ahead-free)
+
+pub stops_at-requires-clause-told : goal.stops_at-requires-clause-told
+stops_at-requires-clause-told g c =
+    let grid : GridData = g.T.Terrain.grid c.args.t.now in
+    c.place_ahead-place.ensures c.in-Some.next.cell
+    (legal_leads grid c.run.cell c.in-Some.next.cell c.args.d (sym c.in-Some.ensures.legal)).ahead_is
+
+pub by-beside-requires-in-Some-clause-told : goal.by-beside-requires-in-Some-clause-told
+by-beside-requires-in-Some-clause-told g c =
+    let grid : GridData = g.T.Terrain.grid c.args.t.now in
+    c.place_ahead-place.ensures c.in-Some.next.cell
+    (legal_leads grid c.run.cell c.in-Some.next.cell c.args.d (sym c.in-Some.ensures.legal)).ahead_is
 
 pub stops_at-requires-clause-free : goal.stops_at-requires-clause-free
 stops_at-requires-clause-free g c = grind (arith, nat_tests, common_steps, legal_ahead-free)
@@ -38,8 +51,10 @@ run-preserved g c =
     let grid : GridData = g.T.Terrain.grid c.args.t.now in
     let legal = sym c.in-Some.ensures.legal in
     record {
+      told = c.place_ahead-place.ensures c.in-Some.next.cell
+          (legal_leads grid c.run.cell c.in-Some.next.cell c.args.d legal).ahead_is;
       free = legal_ahead-free grid c.run.cell c.in-Some.next.cell c.args.d legal;
-      beside = c.of-beside-in-Some.ensures;
+      beside = c.by-beside-in-Some.ensures;
       stop = stops_later grid c.args.goal c.run.cell c.args.d c.run.moves
           (first_stop grid c.args.goal c.args.at c.args.d) c.run.invariant.stop c.in-Some.next.cell legal
           (is_stop-read grid c.args.goal c.args.d c.in-Some.next.cell c.requires.diagonal

@@ -5,12 +5,13 @@ use Rattle.jump_plain.specs.Reach.{components_of}
 use Rattle.jump_plain.proofs.Diagonal.{later}
 use Rattle.jump_plain.proofs.jump.diagonal_stop.Given as goal
 
--- the cell is so many moves on, what is known of it is so, and the first stop in all is that from there,
+-- the cell is so many moves on, the place is its own, what is known of it is so, and the first stop in all is that from there,
 -- after these
 abbrev pub invariant-run : goal.invariant-run
 invariant-run g l =
     let grid = g.T.Terrain.grid l.t in
     record {
+      told : l.place ≡ g.T.Terrain.place_of l.t l.cell;
       free : is_free grid l.cell ≡ true;
       beside : l.beside ≡ components_of grid l.cell l.d;
       stop : first_stop grid l.goal l.fn.at l.d

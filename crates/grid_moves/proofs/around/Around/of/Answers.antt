@@ -10,16 +10,16 @@ returns-clause-around g c =
       right = c.args.c.x + 1;
       up = c.before-up.result;
       down = c.args.c.y + 1;
-      n = c.is_open-n.result;
+      n = c.open-n.result;
       ne = c.is_open_past.result;
-      e = c.is_open-e.result;
+      e = c.open-e.result;
       se = c.is_open_past-2.result;
-      s = c.is_open-s.result;
+      s = c.open-s.result;
       sw = c.is_open_past-3.result;
-      w = c.is_open-w.result;
+      w = c.open-w.result;
       nw = c.is_open_past-4.result;
     })
-    c.is_open-n.ensures c.is_open-e.ensures c.is_open-s.ensures c.is_open-w.ensures
+    c.open-n.ensures c.open-e.ensures c.open-s.ensures c.open-w.ensures
     pass.result.ne pass.result.se pass.result.sw pass.result.nw
     pass.ensures.ne pass.ensures.se pass.ensures.sw pass.ensures.nw
     c.is_open_past.ensures c.is_open_past-2.ensures c.is_open_past-3.ensures c.is_open_past-4.ensures

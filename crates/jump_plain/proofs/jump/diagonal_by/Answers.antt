@@ -7,7 +7,7 @@ use Rattle.pruning.specs.Turns.{turn}
 use Rattle.jump_plain.specs.declared.jump.Components.{Components}
 use Rattle.jump_plain.proofs.Besides.{beyond_diagonal, beyond_legal, beyond_stuck}
 use Rattle.jump_plain.proofs.Forcing.{clear_past}
-use Rattle.jump_plain.proofs.jump.diagonal_ahead.Goals as goal
+use Rattle.jump_plain.proofs.jump.diagonal_by.Goals as goal
 
 pub returns-then-leads_on-clause-legal : goal.returns-then-leads_on-clause-legal
 returns-then-leads_on-clause-legal g c = grind (arith, nat_tests, common_steps, beyond_diagonal, beyond_legal)
@@ -17,8 +17,7 @@ returns-then-leads_on-clause-clear g c =
     let grid : GridData = g.T.Terrain.grid c.args.t.now in
     let right = ap (λ (b : Components). b.right) c.requires.beside in
     let left = ap (λ (b : Components). b.left) c.requires.beside in
-    let can = beyond_diagonal grid c.requires.whole c.args.at c.beyond-cell.result c.args.d
-    c.requires.free c.requires.diagonal c.beyond-cell.ensures c.corner.result c.corner.ensures
+    let can = beyond_diagonal grid c.args.at c.args.d c.requires.free c.requires.diagonal c.corner.result c.corner.ensures
     c.args.beside.right c.args.beside.left c.is_passable.result c.leads_on.result right left
     c.is_passable.ensures c.leads_on.ensures in
     let legal = beyond_legal grid c.args.at c.beyond-cell.result c.args.d c.beyond-cell.ensures
