@@ -6,7 +6,7 @@ use Rattle.std.specs.Prelude.{ℤ, Some, filter}
 use Rattle.std.proofs.lemmas.List.Elements.{filter_agree}
 use Rattle.grid_moves.specs.declared.Cell.{Cell}
 use Rattle.grid_moves.specs.declared.Corner.{Corner}
-use Rattle.grid_moves.specs.declared.Corner.TheVariants.{Never}
+use Rattle.grid_moves.specs.declared.Corner.TheVariants.{Never, One, Both}
 use Rattle.grid_moves.specs.declared.Dir.{Dir}
 use Rattle.grid_moves.specs.declared.Dir.TheVariants.{N, NE, E, SE, S, SW, W, NW}
 use Rattle.grid_moves.specs.Grid.{GridData, is_free}
@@ -74,6 +74,20 @@ by_move r entry at d e off = by_cut r
 told_kept : (r : Corner) (blocked : Dir → Bool) (by : Arrival) (e : Dir)
     → is_kept (told_rule r) blocked by e ≡ is_kept r blocked by e
 told_kept r blocked by e = grind (arith, nat_tests)
+
+-- under `one` all is told as under `both`
+pub allowed_cut : (r : Corner) (entry : Cell → Dir → ℤ) (at : Cell) (by : Arrival) → may_cut r ≡ true
+    → allowed_by Both entry at by ≡ allowed_by r entry at by
+allowed_cut Never entry at by h = absurd (cc)
+allowed_cut One entry at Start h = refl
+allowed_cut One entry at (By d) h = refl
+allowed_cut Both entry at by h = refl
+
+pub allowed_uncut : (r : Corner) (entry : Cell → Dir → ℤ) (at : Cell) (by : Arrival) → may_cut r ≡ false
+    → allowed_by Never entry at by ≡ allowed_by r entry at by
+allowed_uncut Never entry at by h = refl
+allowed_uncut One entry at by h = absurd (cc)
+allowed_uncut Both entry at by h = absurd (cc)
 
 -- a ring of which each cell was told by another test that agrees
 pub ring_told_by : (test free : Dir → Bool) → ((e : Dir) → test e ≡ free e) → (n ne e se s sw w nw : Bool)

@@ -1,5 +1,4 @@
-use Rattle.std.proofs.lemmas.Bool.Decides.{nat_tests}
-use Rattle.std.proofs.Common.{◌<◌, refl, arith, length, ap, ◌∙◌}
+use Rattle.std.proofs.Common.{◌≡◌, ◌<◌, refl, arith, length, ap, ◌∙◌}
 use Rattle.std.proofs.lemmas.List.{with_items_is}
 use Rattle.grid_moves.specs.declared.Dir.TheVariants.{N, NE, E, W, NW}
 use Rattle.grid_moves.specs.Grid.{GridData}
@@ -103,4 +102,18 @@ returns-clause-told g c = λ h y ready around.
     }
 
 pub returns-clause-long : goal.returns-clause-long
-returns-clause-long g c = grind (arith, nat_tests, with_items_is)
+returns-clause-long g c =
+    let long = c.requires.long in
+    let ahead : length c.tell_ahead.new.out ≡ length c.args.this.now.ahead.items = omega arith in
+    let east : length c.tell_ahead-2.new.out ≡ length c.args.this.now.ahead_east.items = omega arith in
+    let west : length c.tell_ahead-3.new.out ≡ length c.args.this.now.ahead_west.items = omega arith in
+    record {
+      ahead = ap length (with_items_is c.args.this.now.ahead c.tell_ahead.new.out (omega arith)) ∙ ahead
+          ∙ long.ahead;
+      ahead_east = ap length (with_items_is c.args.this.now.ahead_east c.tell_ahead-2.new.out (omega arith))
+          ∙ east ∙ long.ahead_east;
+      ahead_west = ap length (with_items_is c.args.this.now.ahead_west c.tell_ahead-3.new.out (omega arith))
+          ∙ west ∙ long.ahead_west;
+      east = long.east;
+      west = long.west;
+    }
