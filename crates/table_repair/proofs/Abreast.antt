@@ -17,7 +17,7 @@ use Rattle.table_repair.specs.Mending.{cell_after}
 use Rattle.table_repair.proofs.Lines.{after_before}
 use Rattle.table_repair.proofs.Mends.{mends_wider, mends_then, still_mended, right_stays}
 use Rattle.table_repair.proofs.Mends.{ready_stays, follow_more}
-use Rattle.table_repair.proofs.Walking.{or_left, or_right}
+use Rattle.table_repair.proofs.Walking.{or_false, false_or, or_left, or_right}
 
 -- `||` of three, none of which holds
 or_joined : (a b c : Bool) → (a || (b || c)) ≡ false → ((a || b) || c) ≡ false
@@ -162,7 +162,11 @@ module _ {h : GridData} {d : Dir} {starts : Cell → Bool} {old now : TablesData
 pub abreast_ends : {h : GridData} {d : Dir} {starts : Cell → Bool} {old now : TablesData}
     {walks : List Walk} {n : ℕ}
     → KeepAbreast h d starts old now walks no_cell n → walks ≡ [] → Sweeps h d starts old now
-abreast_ends h i = grind (arith, nat_tests)
+abreast_ends {walks = walks} abreast e later f =
+    follow_more (λ w k. false_or (is_at_one walks w) (later w) (none w) k) (abreast.follows later f)
+  where
+    none : (w : Cell) → is_at_one walks w ≡ false
+    none w = rw e refl
 
 -- So the changes of two stretches add up: the second begins at cells that the first has reached, or that were
 -- left, and what the first left waits for these or is left still.
@@ -183,7 +187,11 @@ abreast_then {walks = walks} {left = left} {piece = piece} {rest = rest} first r
   where
     wider : (w : Cell) (later : Cell → Bool) → (piece w || (rest w || later w)) ≡ false
         → (is_at_one walks w || (left w || later w)) ≡ false
-    wider w later k = grind (arith, nat_tests)
+    wider w later k =
+        let p = or_false (piece w) (rest w || later w) k in
+        let q = or_false (rest w) (later w) p.1 in
+        let r = or_false (is_at_one walks w) (left w) (split w p.0 q.0) in
+        false_or (is_at_one walks w) (left w || later w) r.0 (false_or (left w) (later w) r.1 q.1)
 
 -- a stretch beside which other cells wait
 pub abreast_beside : {h : GridData} {d : Dir} {starts : Cell → Bool} (row : Cell → Bool)

@@ -81,4 +81,9 @@ module _ {h : GridData} {d : Dir} {old now : TablesData} {first steps : ℕ} {he
     -- or it ends
     pub place_ends : {more : List Walk} {further : ℕ} → on ≡ None → more ≡ list → further ≡ onward
         → InPlace h d old new first counted here more further (i + 1)
-    place_ends p q j = grind (arith, nat_tests, next_round, none_on, parts)
+    place_ends e f g = rw (f, g) (record {
+      round = next_round (none_on e refl);
+      rest = parts.1;
+      few = let a = place.few in omega arith;
+      size = place.size;
+    })
