@@ -1,6 +1,6 @@
 -- Walks back that keep abreast: one of them goes on or ends, and what they change adds up.
 use Rattle.std.proofs.lemmas.Bool.Decides.{nat_tests}
-use Rattle.std.proofs.Common.{◌≡◌, ℕ, zero, suc, ◌+◌, ◌⊎◌, inl, inr, arith, Bool, true, false, refl}
+use Rattle.std.proofs.Common.{◌≡◌, ℕ, zero, suc, ◌+◌, ◌⊎◌, inl, inr, arith, Bool, true, false, refl, sym, ◌∙◌}
 use Rattle.std.proofs.Common.{◌||◌, List, [], ◌∷◌, ◌++◌, length}
 use Rattle.std.specs.Prelude.{Option, Some, None, option_and_then}
 use Rattle.std.specs.Option.{option_to_list}
@@ -121,7 +121,8 @@ module _ {h : GridData} {d : Dir} {starts : Cell → Bool} {old now : TablesData
     where
       either_one : (w : Cell) → is_at_one (rest ++ option_to_list on) w ≡ true
           → (is_at_one rest w ≡ true) ⊎ (is_at_one (option_to_list on) w ≡ true)
-      either_one w k = grind (arith, nat_tests, or_either, at_both)
+      either_one w k = or_either (is_at_one rest w) (is_at_one (option_to_list on) w)
+          (sym (at_both rest (option_to_list on) w) ∙ k)
 
       narrower : (w : Cell) (later : Cell → Bool)
           → (is_at_one (rest ++ option_to_list on) w || later w) ≡ false
