@@ -56,3 +56,14 @@ returns-clause-steps g c =
     _ _ _ c.sweep-changed.ensures.steps c.sweep_narrow.ensures.steps
     (cells_few a.grid.now a.rows a.columns a.by a.d c.requires.diagonal c.columns_in_reach-wide.ensures
     c.rows_behind-rear.ensures c.requires.block)
+
+pub returns-clause-few : goal.returns-clause-few
+returns-clause-few g c =
+    let a = c.args in
+    let first = c.sweep-changed.ensures.few in
+    let second = c.sweep_narrow.ensures.few in
+    let three = c.requires.block.three_rows in
+    let low = c.requires.ready.grid.sides.low in
+    let rear = rear_within a.grid.now a.rows a.columns a.by a.d
+    c.requires.diagonal c.columns_in_reach-wide.ensures c.rows_behind-rear.ensures c.requires.block in
+    omega arith
