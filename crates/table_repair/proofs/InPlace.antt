@@ -1,5 +1,4 @@
 -- A round in one list: the walks that go on move to its front.
-use Rattle.std.proofs.lemmas.Bool.Decides.{nat_tests}
 use Rattle.std.proofs.Common.{◌≡◌, ℕ, ◌+◌, ◌<◌, ◌≤◌, arith, Bool, true, refl, sym, ◌∙◌, ◌||◌, List, ◌∷◌}
 use Rattle.std.proofs.Common.{◌++◌, length, get_or, take, drop}
 use Rattle.std.proofs.lemmas.List.{drop_all, drop_more, drop-set-lt, take_more_set, length-set}
