@@ -1,8 +1,6 @@
 //! Sweeps: all the cells of a block, from the far end of each line.
 
 ghost use Rattle.std.specs.Prelude.{◌≡◌, ◌+◌, ◌*◌, ◌≤◌, true};
-ghost use Rattle.grid_moves.specs.Grid.{is_inside};
-ghost use Rattle.grid_moves.specs.Move.{is_same};
 ghost use Rattle.pruning.specs.Turns as turns;
 ghost use Rattle.table_repair.specs.Mending as spec;
 ghost use Rattle.table_repair.specs.Mending.{AreReady, CanSweep, Mends, Sweeps, is_in, span_length};
