@@ -1,14 +1,14 @@
 //! The first moves from one cell, cut into runs.
 
-ghost use Rattle.std.specs.Prelude.{◌≡◌, ◌+◌, ◌*◌, ◌<◌, ◌≤◌, ◌++◌, ◌∷◌, ◌⊎◌, [], ℕ, true, List, Option, None, map, length, slice_get, Some, slice_index_or, if◌then◌else◌, IfOk, OnOk, OnErr};
+ghost use Rattle.std.specs.Prelude.{◌≡◌, ◌+◌, ◌*◌, ◌<◌, ◌≤◌, ◌++◌, ◌∷◌, ◌⊎◌, [], true, List, Option, None, map, length, slice_get, Some, slice_index_or, if◌then◌else◌, IfOk, OnOk, OnErr};
 ghost use Rattle.grid_moves.specs.declared.Cell.{Cell};
 ghost use Rattle.grid_moves.specs.declared.Dir.{Dir};
-ghost use Rattle.grid_moves.specs.Grid.{GridData, cell_number, is_free, is_inside};
+ghost use Rattle.grid_moves.specs.Grid.{GridData, is_free, is_inside};
 ghost use Rattle.cost_waves.specs.Told.{Tells, IsBlank};
 ghost use Rattle.first_moves.specs.First as spec;
-ghost use Rattle.first_moves.specs.First.{IsFirstMove};
 ghost use Rattle.first_moves.specs.Runs.{runs_of, is_same_move};
 ghost use Rattle.first_moves.specs.Row.{IsRow};
+ghost use Rattle.first_moves.specs.Finding.{FindsFirst};
 ghost use Rattle.first_moves.specs.Span.{IsSpan};
 ghost use Rattle.first_moves.specs.declared.row.Run.{Run};
 
@@ -325,8 +325,7 @@ impl Row {
 
     /// The first move to the cell of this number, found by halving the runs.
     pub fn first(&self, number: u32) -> Option<Dir>
-        ensures { (g : GridData) (s t : Cell) → IsRow g s self.now → is_inside g t ≡ true
-            → number ≡ cell_number g.width t → IsFirstMove g s t result }
+        ensures { FindsFirst self.now number result }
     {
         self.find(number, None).0
     }
@@ -334,8 +333,7 @@ impl Row {
     // The same, looked for from a run on, if one is told, and the run in which it is found.
     #[inline(always)]
     fn find(&self, number: u32, near: Option<usize>) -> (Option<Dir>, usize)
-        ensures first { (g : GridData) (s t : Cell) → IsRow g s self.now → is_inside g t ≡ true
-            → number ≡ cell_number g.width t → IsFirstMove g s t result.0 }
+        ensures first { FindsFirst self.now number result.0 }
         ensures run { result.1 ≤ length self.now }
     {
         search(self.runs.as_slice(), number, near)
@@ -346,8 +344,7 @@ impl Row {
     // the processor need not wait for one row before it reads the next.
     #[inline(always)]
     pub(crate) fn first_near(&self, number: u32, part: &mut Option<u32>) -> Option<Dir>
-        ensures { (g : GridData) (s t : Cell) → IsRow g s self.now → is_inside g t ≡ true
-            → number ≡ cell_number g.width t → IsFirstMove g s t result }
+        ensures { FindsFirst self.now number result }
     {
         let runs = self.runs.len();
         match *part {

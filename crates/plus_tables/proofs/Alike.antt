@@ -1,11 +1,11 @@
 -- Rows that lie between the same rows have the same entries along them.
-use Rattle.std.proofs.Common.{rules}
 use Rattle.std.proofs.Common.{◌≡◌, ℕ, ◌+◌, ◌<◌, arith, Bool, true, false, List, length, refl, ap, sym}
 use Rattle.std.proofs.Common.{◌∙◌}
 use Rattle.std.specs.Prelude.{ℤ, Option, Some, unwrap_or}
 use Rattle.std.proofs.lemmas.Bool.Decides.{nat_tests}
 use Rattle.grid_moves.specs.declared.Cell.{Cell}
 use Rattle.grid_moves.specs.declared.Dir.{Dir}
+use Rattle.grid_moves.specs.declared.Dir.TheVariants.{E, W}
 use Rattle.grid_moves.specs.Grid.{GridData, IsGrid, is_free, is_inside}
 use Rattle.grid_moves.specs.Move.{column_ahead, legal_ahead}
 use Rattle.grid_moves.proofs.Legal.{legal_is}
@@ -18,6 +18,7 @@ use Rattle.plus_tables.specs.declared.lines.Line.{Line}
 use Rattle.plus_tables.specs.Entry.{table_entry}
 use Rattle.plus_tables.specs.Local.{is_mark_by}
 use Rattle.plus_tables.specs.declared.heading.Heading.{Heading}
+use Rattle.plus_tables.specs.declared.heading.Heading.TheVariants.{Upwards, Downwards}
 use Rattle.plus_tables.specs.Rows.{is_along, AreSame, IsEntryRow, AreRowsAround, AreRowsSeen}
 use Rattle.plus_tables.specs.Lines.{AreAlike, AreAlong, IsReady}
 use Rattle.plus_tables.proofs.Following.{is_mark_by-straight}
@@ -101,9 +102,24 @@ module _ (g : GridData) (whole : IsGrid g) (y m : ℕ) (above here below : List 
 module _ (g : GridData) (whole : IsGrid g) (y : ℕ) (band : Band) (last : Line) (alike : AreAlike band) where
   along_again : (m : ℕ) (above here below : List Bool) → AreRowsAround g y above here below
       → AreRowsAround g m above here below → m < g.height → AreAlong g m last → AreAlong g y last
-  along_again m above here below h i j k = search (rules, row_again)
+  along_again m above here below one same on along = record {
+    east = row_again g whole y m above here below one same E refl refl on last.east.items along.east;
+    west = row_again g whole y m above here below one same W refl refl on last.west.items along.west;
+  }
 
   pub alike_along : (h : Heading) (ready : IsReady g h y band last)
       → AreRowsSeen g h y band.next.items band.here.items band.back.items → ready.rows.ahead < g.height
       → AreAlong g y last
-  alike_along h ready i j = grind (arith, nat_tests, along_again, around_same)
+  alike_along Upwards ready around on =
+      let m = ready.rows.ahead in
+      along_again m band.next.items band.here.items band.back.items around
+      (around_same g m band.far.items band.next.items band.here.items band.next.items band.here.items
+      band.back.items alike.far alike.next alike.here ready.rows.next_is.long ready.rows.here_is.long
+      ready.rows.back_is.long (ready.rows.around_next (omega (arith, whole.sides.low)))) on ready.along
+  alike_along Downwards ready around on =
+      let m = ready.rows.ahead in
+      along_again m band.back.items band.here.items band.next.items around
+      (around_same g m band.here.items band.next.items band.far.items band.back.items band.here.items
+      band.next.items alike.here (λ k. alike.next k) (λ k. alike.far k) ready.rows.back_is.long
+      ready.rows.here_is.long ready.rows.next_is.long
+      (ready.rows.around_next (omega (arith, whole.sides.low)))) on ready.along

@@ -1,6 +1,6 @@
 -- Lines that are laid into rows of entries.
 use Rattle.std.proofs.lemmas.Grind.{common_steps}
-use Rattle.std.proofs.Common.{◌≡◌, ◌≢◌, ℕ, ◌+◌, ◌-◌, ◌*◌, ◌<◌, ◌≤◌, arith, Bool, true, false, not, ◌||◌}
+use Rattle.std.proofs.Common.{◌≡◌, ◌≢◌, ℕ, ◌+◌, ◌-◌, ◌*◌, ◌<◌, ◌≤◌, arith, Bool, true, false, not, ◌||◌, ◌&&◌}
 use Rattle.std.proofs.Common.{List, [], ◌∷◌, length, refl, ap, sym, ◌∙◌, subst, get_or-set_same, length-set}
 use Rattle.std.proofs.Common.{w16, to_z, of_z}
 use Rattle.std.specs.Prelude.{ℤ, pos, nat_lt, nat_le}
@@ -298,3 +298,18 @@ along_right g Downwards n y start k old all below at known same begins wide x e 
     before : (up : Bool) → not up ≡ false → (up || nat_le (g.height - n) y) ≡ true
     before true is = refl
     before false is = absurd (cc)
+
+-- the sweep that heads down begins where the other one ended
+pub swept_up : (g : GridData) (entries : List ℤ) → AreSwept g Upwards g.height entries
+    → AreSwept g Downwards 0 entries
+swept_up g entries up = record {
+  long = up.long;
+  right = record {
+    sized = up.right.sized;
+    right = λ c d inside h. up.right.right c d inside (upward (is_upward d) c inside h);
+  };
+}
+  where
+    upward : (b : Bool) (c : Cell) → is_inside g c ≡ true → (b || nat_le (g.height - 0) c.y) ≡ true
+        → (b && nat_lt c.y g.height) ≡ true
+    upward b c inside h = grind (arith, nat_tests)

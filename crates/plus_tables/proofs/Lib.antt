@@ -12,5 +12,6 @@ pub mod Growing
 pub mod Laying
 pub mod Rowing
 pub mod Mirror
+pub mod Fitting
 pub mod Lining
 pub mod Alike

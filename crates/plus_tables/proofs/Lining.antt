@@ -144,7 +144,15 @@ module _ {g : GridData} {h : Heading} {y n : ℕ} {band : Band} {last : Line} {r
     line = lines_told g h y this east west told east_is west_is east_fits west_fits
 
     long_on : IsLong g (with_along this east west)
-    long_on = grind (arith, nat_tests)
+    long_on = record {
+      ahead = long.ahead;
+      ahead_east = long.ahead_east;
+      ahead_west = long.ahead_west;
+      east = ap (λ (r : List ℤ). length r) (with_items_is this.east east east_fits)
+          ∙ omega (arith, long.east, this.east.ok.0);
+      west = ap (λ (r : List ℤ). length r) (with_items_is this.west west west_fits)
+          ∙ omega (arith, long.west, this.west.ok.0);
+    }
 
     pub kept_on : IsKept g h n rows
     kept_on = record {

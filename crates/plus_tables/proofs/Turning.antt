@@ -6,9 +6,12 @@ use Rattle.std.specs.Prelude.{ℤ, Some, filter}
 use Rattle.std.proofs.lemmas.List.Elements.{filter_agree}
 use Rattle.grid_moves.specs.declared.Cell.{Cell}
 use Rattle.grid_moves.specs.declared.Corner.{Corner}
+use Rattle.grid_moves.specs.declared.Corner.TheVariants.{Never, One, Both}
 use Rattle.grid_moves.specs.declared.Dir.{Dir}
+use Rattle.grid_moves.specs.declared.Dir.TheVariants.{N, NE, E, SE, S, SW, W, NW}
 use Rattle.grid_moves.specs.Grid.{GridData, is_free}
 use Rattle.grid_moves.specs.Move.{all_dirs, is_dir, is_open, legal_ahead, may_cut, opposite}
+use Rattle.grid_moves.specs.declared.ring.Ring.{Ring}
 use Rattle.grid_moves.specs.Ring.{ring_told, is_free_on, is_shut, leads_on}
 use Rattle.grid_moves.proofs.Besides.{told_on}
 use Rattle.grid_moves.proofs.Legal.{legal_is, by_cut}
@@ -28,7 +31,7 @@ use Rattle.pruning.proofs.Moves.{can_move-straight}
 use Rattle.pruning.proofs.Bridging.{place_of, free_place, open_there, leads_there, legal_leads}
 use Rattle.pruning.proofs.Running.{run_walked}
 use Rattle.plus_tables.specs.Tables.{TablesData, AreTablesOf, entry_at, is_on}
-use Rattle.plus_tables.specs.Reading.{is_move, cell_after, asks_behind, free_told, told_rule}
+use Rattle.plus_tables.specs.Reading.{is_move, cell_after, asks_behind, free_past, free_told, told_rule}
 use Rattle.plus_tables.specs.Reading.{allowed_by, IsBeforeOn}
 use Rattle.plus_tables.proofs.Clear.{is_move-is}
 use Rattle.plus_tables.proofs.Refreshing.{on_map}
@@ -56,6 +59,10 @@ pub told_here : (r : Corner) (entry : Cell → Dir → ℤ) (at : Cell) (by : Ar
     → asks_behind r by ≡ false → free_told r entry at by e ≡ is_move (entry at e)
 told_here r entry at by e h = grind (arith, nat_tests)
 
+pub told_past : (entry : Cell → Dir → ℤ) (at : Cell) (d e : Dir) → is_diagonal d ≡ false
+    → free_told Never entry at (By d) e ≡ free_past entry at d e
+told_past entry at d e h = rw h refl
+
 by_move : (r : Corner) (entry : Cell → Dir → ℤ) (at : Cell) (d e : Dir)
     → ((s : Side) → is_diagonal d ≡ false → is_dir e (rear s d) ≡ false)
     → free_told r entry at (By d) e ≡ is_move (entry at e)
@@ -67,6 +74,37 @@ by_move r entry at d e off = by_cut r
 told_kept : (r : Corner) (blocked : Dir → Bool) (by : Arrival) (e : Dir)
     → is_kept (told_rule r) blocked by e ≡ is_kept r blocked by e
 told_kept r blocked by e = grind (arith, nat_tests)
+
+-- under `one` all is told as under `both`
+pub allowed_cut : (r : Corner) (entry : Cell → Dir → ℤ) (at : Cell) (by : Arrival) → may_cut r ≡ true
+    → allowed_by Both entry at by ≡ allowed_by r entry at by
+allowed_cut Never entry at by h = absurd (cc)
+allowed_cut One entry at Start h = refl
+allowed_cut One entry at (By d) h = refl
+allowed_cut Both entry at by h = refl
+
+pub allowed_uncut : (r : Corner) (entry : Cell → Dir → ℤ) (at : Cell) (by : Arrival) → may_cut r ≡ false
+    → allowed_by Never entry at by ≡ allowed_by r entry at by
+allowed_uncut Never entry at by h = refl
+allowed_uncut One entry at by h = absurd (cc)
+allowed_uncut Both entry at by h = absurd (cc)
+
+-- a ring of which each cell was told by another test that agrees
+pub ring_told_by : (test free : Dir → Bool) → ((e : Dir) → test e ≡ free e) → (n ne e se s sw w nw : Bool)
+    → n ≡ test N → ne ≡ test NE → e ≡ test E → se ≡ test SE → s ≡ test S → sw ≡ test SW → w ≡ test W
+    → nw ≡ test NW
+    → (let r : Ring = record { n = n; ne = ne; e = e; se = se; s = s; sw = sw; w = w; nw = nw } in r)
+    ≡ ring_told free
+ring_told_by test free same n ne e se s sw w nw h i j k l m o p = rw (
+  h ∙ same N,
+  i ∙ same NE,
+  j ∙ same E,
+  k ∙ same SE,
+  l ∙ same S,
+  m ∙ same SW,
+  o ∙ same W,
+  p ∙ same NW,
+) refl
 
 -- the cell before
 pub cell_before : (g : GridData) (u at : Cell) (d : Dir) → legal_ahead g u d ≡ Some at

@@ -1,4 +1,5 @@
 pub mod Entry
+pub mod Fit
 pub mod Local
 pub mod Tables
 pub mod Sweep

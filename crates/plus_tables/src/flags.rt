@@ -6,6 +6,7 @@
 
 ghost use Rattle.std.specs.Prelude.{◌≡◌, ℕ, ◌+◌, ◌-◌, ◌<◌, ◌≤◌, false, true, length};
 ghost use Rattle.pruning.specs.Numbered as numbered;
+ghost use Rattle.plus_tables.specs.Fit.{AreLong};
 ghost use Rattle.plus_tables.specs.Rows as spec;
 
 use grid_moves::{Corner, Dir, Ring, Terrain};
@@ -41,9 +42,7 @@ fn force_by<const RULE: usize>(
     forced: &mut [bool],
 )
     requires some { 2 ≤ length forced.old }
-    requires above { length above.now ≡ length forced.old }
-    requires here { length here.now ≡ length forced.old }
-    requires below { length below.now ≡ length forced.old }
+    requires rows { AreLong (length forced.old) above.now here.now below.now }
     ensures { spec.AreForced (numbered.rule_of_number RULE) above.now here.now below.now d forced.new }
 {
     for x in 0..forced.len() - 2 {
@@ -61,9 +60,7 @@ fn force_under<const RULE: usize>(
     forced: &mut [bool],
 )
     requires some { 2 ≤ length forced.old }
-    requires above { length above.now ≡ length forced.old }
-    requires here { length here.now ≡ length forced.old }
-    requires below { length below.now ≡ length forced.old }
+    requires rows { AreLong (length forced.old) above.now here.now below.now }
     ensures { spec.AreForced (numbered.rule_of_number RULE) above.now here.now below.now d forced.new }
 {
     match d {
@@ -87,9 +84,7 @@ pub fn force(
     forced: &mut [bool],
 )
     requires some { 2 ≤ length forced.old }
-    requires above { length above.now ≡ length forced.old }
-    requires here { length here.now ≡ length forced.old }
-    requires below { length below.now ≡ length forced.old }
+    requires rows { AreLong (length forced.old) above.now here.now below.now }
     ensures { spec.AreForced corner above.now here.now below.now d forced.new }
 {
     match corner {

@@ -4,6 +4,7 @@ ghost use Rattle.std.specs.Prelude.{◌≡◌, ℕ, ◌+◌, ◌*◌, ◌<◌, �
 ghost use Rattle.grid_moves.specs.Grid.{IsGrid};
 ghost use Rattle.grid_moves.specs.Move as moves;
 ghost use Rattle.pruning.specs.Turns.{turn, is_diagonal};
+ghost use Rattle.plus_tables.specs.Fit.{AreLong};
 ghost use Rattle.plus_tables.specs.Rows as spec;
 ghost use Rattle.plus_tables.specs.Lines as lines;
 ghost use Rattle.plus_tables.specs.Laid as laid;
@@ -244,15 +245,9 @@ fn tell_ahead<T: Terrain>(
     requires whole { IsGrid (T.grid t.now) }
     requires forced { length forced.old ≡ (T.grid t.now).width + 2 }
     requires out { length out.old ≡ (T.grid t.now).width + 2 }
-    requires beyond { length beyond.ahead.now ≡ (T.grid t.now).width + 2 }
-    requires beyond_here { length beyond.here.now ≡ (T.grid t.now).width + 2 }
-    requires beyond_behind { length beyond.behind.now ≡ (T.grid t.now).width + 2 }
-    requires rows { length rows.ahead.now ≡ (T.grid t.now).width + 2 }
-    requires here { length rows.here.now ≡ (T.grid t.now).width + 2 }
-    requires behind { length rows.behind.now ≡ (T.grid t.now).width + 2 }
-    requires ahead { length next.ahead.now ≡ (T.grid t.now).width + 2 }
-    requires right { length next.right.now ≡ (T.grid t.now).width + 2 }
-    requires left { length next.left.now ≡ (T.grid t.now).width + 2 }
+    requires beyond { AreLong ((T.grid t.now).width + 2) beyond.ahead.now beyond.here.now beyond.behind.now }
+    requires rows { AreLong ((T.grid t.now).width + 2) rows.ahead.now rows.here.now rows.behind.now }
+    requires next { AreLong ((T.grid t.now).width + 2) next.ahead.now next.right.now next.left.now }
     ensures { (h : Heading) (y m : ℕ) (e f : _) → spec.IsRowAt (moves.row_ahead (spec.seen h d) y) m
         → spec.AreRowsSeen (T.grid t.now) h y rows.entry.ahead.now rows.entry.here.now rows.entry.behind.now
         → (m < 4096 → spec.AreRowsSeen (T.grid t.now) h m beyond.entry.ahead.now beyond.entry.here.now
@@ -275,9 +270,7 @@ fn tell_one_along<T: Terrain>(t: &T, rows: Three, d: Dir, forced: &mut [bool], o
     requires along { spec.is_along d ≡ true }
     requires forced { length forced.old ≡ (T.grid t.now).width + 2 }
     requires out { length out.old ≡ (T.grid t.now).width + 2 }
-    requires ahead { length rows.ahead.now ≡ (T.grid t.now).width + 2 }
-    requires here { length rows.here.now ≡ (T.grid t.now).width + 2 }
-    requires behind { length rows.behind.now ≡ (T.grid t.now).width + 2 }
+    requires rows { AreLong ((T.grid t.now).width + 2) rows.ahead.now rows.here.now rows.behind.now }
     ensures { (y : ℕ) → spec.AreRowsAround (T.grid t.now) y rows.entry.ahead.now rows.entry.here.now
         rows.entry.behind.now → spec.IsEntryRow (T.grid t.now) y d out.new }
 {

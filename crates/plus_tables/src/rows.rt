@@ -4,7 +4,8 @@
 //! of its row: these loops have no branch, and each direction has code of its own, which the compiler turns
 //! into vector code. Along a row each rests on the one before.
 
-ghost use Rattle.std.specs.Prelude.{◌≡◌, ℕ, ◌+◌, ◌-◌, ◌<◌, ◌≤◌, true, length};
+ghost use Rattle.std.specs.Prelude.{◌≡◌, ◌+◌, ◌<◌, ◌≤◌, true, length};
+ghost use Rattle.plus_tables.specs.Fit as fit;
 ghost use Rattle.plus_tables.specs.Local as local;
 ghost use Rattle.plus_tables.specs.Rows as spec;
 ghost use Rattle.plus_tables.specs.Tables.{IsShort};
@@ -69,18 +70,8 @@ pub struct Ahead<'a> {
 // The entries of a row, told by those of the next.
 #[inline(always)]
 fn across_by(corner: Corner, rows: Three, forced: &[bool], next: Ahead, d: Dir, out: &mut [i16])
-    requires some { 2 ≤ length out.old }
-    requires few { length out.old < 65536 }
-    requires rows { length rows.ahead.now ≡ length out.old }
-    requires here { length rows.here.now ≡ length out.old }
-    requires behind { length rows.behind.now ≡ length out.old }
-    requires forced { length forced.now ≡ length out.old }
-    requires ahead { length next.ahead.now ≡ length out.old }
-    requires right { length next.right.now ≡ length out.old }
-    requires left { length next.left.now ≡ length out.old }
-    ensures { spec.AreToldBelow corner rows.entry.ahead.now rows.entry.here.now rows.entry.behind.now
-        forced.now next.entry.ahead.now next.entry.right.now next.entry.left.now d out.new
-        (length out.new - 2) }
+    requires { fit.FitAcross (length out.old) rows forced.now next }
+    ensures { fit.AreToldAcross corner rows.entry forced.now next.entry d out.new }
 {
     for x in 0..out.len() - 2 {
         let ring = ring_at(rows.ahead, rows.here, rows.behind, x);
@@ -95,18 +86,8 @@ fn across_by(corner: Corner, rows: Three, forced: &[bool], next: Ahead, d: Dir, 
 // The same; each direction that leads ahead has code of its own, in which it is a constant.
 #[inline(always)]
 fn across_told(corner: Corner, rows: Three, forced: &[bool], next: Ahead, d: Dir, out: &mut [i16])
-    requires some { 2 ≤ length out.old }
-    requires few { length out.old < 65536 }
-    requires rows { length rows.ahead.now ≡ length out.old }
-    requires here { length rows.here.now ≡ length out.old }
-    requires behind { length rows.behind.now ≡ length out.old }
-    requires forced { length forced.now ≡ length out.old }
-    requires ahead { length next.ahead.now ≡ length out.old }
-    requires right { length next.right.now ≡ length out.old }
-    requires left { length next.left.now ≡ length out.old }
-    ensures { spec.AreToldBelow corner rows.entry.ahead.now rows.entry.here.now rows.entry.behind.now
-        forced.now next.entry.ahead.now next.entry.right.now next.entry.left.now d out.new
-        (length out.new - 2) }
+    requires { fit.FitAcross (length out.old) rows forced.now next }
+    ensures { fit.AreToldAcross corner rows.entry forced.now next.entry d out.new }
 {
     match d {
         Dir::N => across_by(corner, rows, forced, next, Dir::N, out),
@@ -119,18 +100,8 @@ fn across_told(corner: Corner, rows: Three, forced: &[bool], next: Ahead, d: Dir
 /// The entries of a row for a direction that leads ahead, told by those of the next row.
 #[inline(never)]
 pub fn across(corner: Corner, rows: Three, forced: &[bool], next: Ahead, d: Dir, out: &mut [i16])
-    requires some { 2 ≤ length out.old }
-    requires few { length out.old < 65536 }
-    requires rows { length rows.ahead.now ≡ length out.old }
-    requires here { length rows.here.now ≡ length out.old }
-    requires behind { length rows.behind.now ≡ length out.old }
-    requires forced { length forced.now ≡ length out.old }
-    requires ahead { length next.ahead.now ≡ length out.old }
-    requires right { length next.right.now ≡ length out.old }
-    requires left { length next.left.now ≡ length out.old }
-    ensures { spec.AreToldBelow corner rows.entry.ahead.now rows.entry.here.now rows.entry.behind.now
-        forced.now next.entry.ahead.now next.entry.right.now next.entry.left.now d out.new
-        (length out.new - 2) }
+    requires { fit.FitAcross (length out.old) rows forced.now next }
+    ensures { fit.AreToldAcross corner rows.entry forced.now next.entry d out.new }
 {
     match corner {
         Corner::Never => across_told(Corner::Never, rows, forced, next, d, out),
@@ -141,11 +112,8 @@ pub fn across(corner: Corner, rows: Three, forced: &[bool], next: Ahead, d: Dir,
 
 // The entries of a row for E, told from its right end.
 fn east(here: &[bool], forced: &[bool], out: &mut [i16])
-    requires some { 2 ≤ length out.old }
-    requires few { length out.old < 65536 }
-    requires here { length here.now ≡ length out.old }
-    requires forced { length forced.now ≡ length out.old }
-    ensures { (x : ℕ) → x < length out.new - 2 → spec.IsToldAlong here.now forced.now Dir.E out.new x }
+    requires { fit.FitAlong (length out.old) here.now forced.now }
+    ensures { fit.AreToldAlong here.now forced.now Dir.E out.new }
 {
     for x in (0..out.len() - 2).rev() {
         out[x + 1] = told(here[x + 1] & here[x + 2], forced[x + 2], out[x + 2]);
@@ -154,11 +122,8 @@ fn east(here: &[bool], forced: &[bool], out: &mut [i16])
 
 // The entries of a row for W, told from its left end.
 fn west(here: &[bool], forced: &[bool], out: &mut [i16])
-    requires some { 2 ≤ length out.old }
-    requires few { length out.old < 65536 }
-    requires here { length here.now ≡ length out.old }
-    requires forced { length forced.now ≡ length out.old }
-    ensures { (x : ℕ) → x < length out.new - 2 → spec.IsToldAlong here.now forced.now Dir.W out.new x }
+    requires { fit.FitAlong (length out.old) here.now forced.now }
+    ensures { fit.AreToldAlong here.now forced.now Dir.W out.new }
 {
     for x in 0..out.len() - 2 {
         out[x + 1] = told(here[x + 1] & here[x], forced[x], out[x]);
@@ -169,11 +134,8 @@ fn west(here: &[bool], forced: &[bool], out: &mut [i16])
 #[inline(never)]
 pub fn along(here: &[bool], forced: &[bool], d: Dir, out: &mut [i16])
     requires along { spec.is_along d ≡ true }
-    requires some { 2 ≤ length out.old }
-    requires few { length out.old < 65536 }
-    requires here { length here.now ≡ length out.old }
-    requires forced { length forced.now ≡ length out.old }
-    ensures { (x : ℕ) → x < length out.new - 2 → spec.IsToldAlong here.now forced.now d out.new x }
+    requires fits { fit.FitAlong (length out.old) here.now forced.now }
+    ensures { fit.AreToldAlong here.now forced.now d out.new }
 {
     match d {
         Dir::E => east(here, forced, out),

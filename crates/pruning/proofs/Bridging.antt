@@ -106,7 +106,8 @@ Passes g u d = is_diagonal d ≡ true
     → is_passable g.corner (is_open g u (turn Left d)) (is_open g u (turn Right d)) ≡ true
 
 pub leads_passes : (g : GridData) (u v : Cell) (d : Dir) → Leads g u v d → Passes g u d
-leads_passes g u v d l h = grind (arith, nat_tests, and_both, can_move-diagonal, legal_is, leads_can)
+leads_passes g u v d l h = (and_both (is_open g u d) _
+    (sym (can_move-diagonal g u d (legal_is g u v l.legal).source h) ∙ leads_can g u v d l)).1
 
 -- a move between free cells that passes is legal
 pub leads_over : (g : GridData) (u v : Cell) (d : Dir) → is_free g u ≡ true → is_free g v ≡ true

@@ -45,4 +45,8 @@ module _ (r : Corner) (blocked : Dir → Bool) where
   kept-back s d = grind (arith, not_kept, each_side, each_dir, not_true, at_both)
 
   pub kept-about : (d : Dir) → is_kept r blocked (By d) (opposite d) ≡ false
-  kept-about d = grind (arith, not_kept, none)
+  kept-about d = not_kept d (opposite d) (none (λ d. is_dir (opposite d) d) refl d)
+      (none (λ d. is_dir (opposite d) (turn Right d)) refl d)
+      (none (λ d. is_dir (opposite d) (quarter Right d)) refl d)
+      (none (λ d. is_dir (opposite d) (turn Left d)) refl d)
+      (none (λ d. is_dir (opposite d) (quarter Left d)) refl d)

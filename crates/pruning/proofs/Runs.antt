@@ -1,6 +1,5 @@
 -- Legal runs: they end within the map.
-use Rattle.std.proofs.lemmas.Grind.{common_steps}
-use Rattle.std.proofs.Common.{◌≡◌, ℕ, zero, suc, ◌+◌, ◌-◌, ◌<◌, ◌≤◌, arith, refl, true, false}
+use Rattle.std.proofs.Common.{◌≡◌, ℕ, zero, suc, ◌+◌, ◌-◌, ◌<◌, ◌≤◌, arith, refl, subst, true, false}
 use Rattle.std.specs.Prelude.{⊤, Option, Some, None, option_and_then, option_map, unwrap_or, is_some, nat_le}
 use Rattle.std.proofs.lemmas.Bool.Decides.{nat_tests}
 use Rattle.grid_moves.specs.declared.Cell.{Cell}
@@ -48,7 +47,9 @@ nearer g x y d = grind (arith, nat_tests)
 
 -- a legal move leaves less room
 less_room : (g : GridData) (d : Dir) (u v : Cell) → Leads g u v d → room g d v < room g d u
-less_room g d u v l = grind (arith, nat_tests, common_steps, free_inside, legal_is)
+less_room g d u v l =
+    let inside = free_inside g v (legal_is g u v l.legal).target in
+    (subst (λ (o : Option Cell). IsNearer g d u o) l.ahead_is (nearer g u.x u.y d)) inside.0 inside.1
 
 -- so does a run, by its moves
 run_room : (g : GridData) (d : Dir) (k : ℕ) (x c : Cell) → run_end g d k x ≡ Some c

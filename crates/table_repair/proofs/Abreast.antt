@@ -1,6 +1,6 @@
 -- Walks back that keep abreast: one of them goes on or ends, and what they change adds up.
 use Rattle.std.proofs.lemmas.Bool.Decides.{nat_tests}
-use Rattle.std.proofs.Common.{◌≡◌, ℕ, zero, suc, ◌+◌, ◌⊎◌, inl, inr, arith, Bool, true, false, refl}
+use Rattle.std.proofs.Common.{◌≡◌, ℕ, zero, suc, ◌+◌, ◌⊎◌, inl, inr, arith, Bool, true, false, refl, sym, ◌∙◌}
 use Rattle.std.proofs.Common.{◌||◌, List, [], ◌∷◌, ◌++◌, length}
 use Rattle.std.specs.Prelude.{Option, Some, None, option_and_then}
 use Rattle.std.specs.Option.{option_to_list}
@@ -17,7 +17,7 @@ use Rattle.table_repair.specs.Mending.{cell_after}
 use Rattle.table_repair.proofs.Lines.{after_before}
 use Rattle.table_repair.proofs.Mends.{mends_wider, mends_then, still_mended, right_stays}
 use Rattle.table_repair.proofs.Mends.{ready_stays, follow_more}
-use Rattle.table_repair.proofs.Walking.{or_left, or_right}
+use Rattle.table_repair.proofs.Walking.{or_false, false_or, or_left, or_right}
 
 -- `||` of three, none of which holds
 or_joined : (a b c : Bool) → (a || (b || c)) ≡ false → ((a || b) || c) ≡ false
@@ -121,7 +121,8 @@ module _ {h : GridData} {d : Dir} {starts : Cell → Bool} {old now : TablesData
     where
       either_one : (w : Cell) → is_at_one (rest ++ option_to_list on) w ≡ true
           → (is_at_one rest w ≡ true) ⊎ (is_at_one (option_to_list on) w ≡ true)
-      either_one w k = grind (arith, nat_tests, or_either, at_both)
+      either_one w k = or_either (is_at_one rest w) (is_at_one (option_to_list on) w)
+          (sym (at_both rest (option_to_list on) w) ∙ k)
 
       narrower : (w : Cell) (later : Cell → Bool)
           → (is_at_one (rest ++ option_to_list on) w || later w) ≡ false
@@ -162,7 +163,11 @@ module _ {h : GridData} {d : Dir} {starts : Cell → Bool} {old now : TablesData
 pub abreast_ends : {h : GridData} {d : Dir} {starts : Cell → Bool} {old now : TablesData}
     {walks : List Walk} {n : ℕ}
     → KeepAbreast h d starts old now walks no_cell n → walks ≡ [] → Sweeps h d starts old now
-abreast_ends h i = grind (arith, nat_tests)
+abreast_ends {walks = walks} abreast e later f =
+    follow_more (λ w k. false_or (is_at_one walks w) (later w) (none w) k) (abreast.follows later f)
+  where
+    none : (w : Cell) → is_at_one walks w ≡ false
+    none w = rw e refl
 
 -- So the changes of two stretches add up: the second begins at cells that the first has reached, or that were
 -- left, and what the first left waits for these or is left still.
@@ -183,7 +188,11 @@ abreast_then {walks = walks} {left = left} {piece = piece} {rest = rest} first r
   where
     wider : (w : Cell) (later : Cell → Bool) → (piece w || (rest w || later w)) ≡ false
         → (is_at_one walks w || (left w || later w)) ≡ false
-    wider w later k = grind (arith, nat_tests)
+    wider w later k =
+        let p = or_false (piece w) (rest w || later w) k in
+        let q = or_false (rest w) (later w) p.1 in
+        let r = or_false (is_at_one walks w) (left w) (split w p.0 q.0) in
+        false_or (is_at_one walks w) (left w || later w) r.0 (false_or (left w) (later w) r.1 q.1)
 
 -- a stretch beside which other cells wait
 pub abreast_beside : {h : GridData} {d : Dir} {starts : Cell → Bool} (row : Cell → Bool)

@@ -45,6 +45,21 @@ module _ (h : GridData) (rows columns : Span) {wide rear : Span} (by : ℕ) (d :
       → Mends h d (is_in rear columns) now new n → Mends h d any_cell t new (m + n)
   both_mend a b = mends_both (mends_wider (λ w k. refl) a) (mends_wider (λ w k. refl) b)
 
+  -- they lie on the map
+  wide_end : (before : Bool) → IsBlock h rows columns → (widened before columns by h.width).end ≤ h.width
+  wide_end true b = let n = b.narrow in omega arith
+  wide_end false b = omega arith
+
+  rear_end : (before : Bool) → IsBlock h rows columns → (span_next before rows by h.height).end ≤ h.height
+  rear_end true b = let n = b.low in let m = b.some_row in omega arith
+  rear_end false b = omega arith
+
+  pub wide_within : IsBlock h rows columns → wide.end ≤ h.width
+  wide_within b = rw is_wide (wide_end (goes_right d) b)
+
+  pub rear_within : IsBlock h rows columns → rear.end ≤ h.height
+  rear_within b = rw is_rear (rear_end (goes_down d) b)
+
   wide_short : (before : Bool) → IsBlock h rows columns
       → span_length (widened before columns by h.width) ≤ h.width
   wide_short before p = grind (arith, nat_tests)

@@ -35,7 +35,10 @@ module _ {h : GridData} {kind : Dir → Bool} {starts : Cell → Bool} where
       before : (v : Cell) (e : Dir) → kind e ≡ true → is_inside h v ≡ true
           → entry_at u v e ≡ entry_at t v e
           → (entry_at u v e ≡ entry_at s v e) ⊎ IsMended h u e starts (m + n) v
-      before v e p i j = grind (arith, nat_tests, still_mended)
+      before v e k i same = elim (a.along v e k i) [
+        | inl f ↦ inl (same ∙ f)
+        | inr l ↦ inr (still_mended (λ w j. j) (same ∙ l.right) (omega arith) l)
+      ]
 
       along : (v : Cell) (e : Dir) → kind e ≡ true → is_inside h v ≡ true
           → (entry_at u v e ≡ entry_at s v e) ⊎ IsMended h u e starts (m + n) v

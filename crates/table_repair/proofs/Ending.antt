@@ -48,7 +48,11 @@ module _ {h : GridData} {starts : Cell → Bool} {t now new : TablesData} {m n :
   all_right = grind (arith, nat_tests)
 
   pub all_counted : m + n ≡ places_differing t.entries new.entries
-  all_counted = grind (arith, nat_tests, all_right, none_differing)
+  all_counted =
+      let first = straight.count new diagonal.sound.whole all_right in
+      let second = diagonal.count new diagonal.sound.whole all_right in
+      let none = none_differing new.entries in
+      omega arith
 
 -- steps of both passes
 pub all_steps : (start now new m n w h rows columns : ℕ) → rows ≤ 3 → columns ≤ 3 → rows ≤ h → columns ≤ w

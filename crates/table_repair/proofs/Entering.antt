@@ -19,9 +19,9 @@ use Rattle.table_repair.proofs.Abreast.{abreast_beside, abreast_enter, abreast_t
 use Rattle.table_repair.proofs.Lines.{after_moved, right_ahead}
 use Rattle.table_repair.proofs.Mends.{right_stays}
 use Rattle.table_repair.proofs.Moving.{ahead_moved}
-use Rattle.table_repair.proofs.Rows.{not_true, row_of_block}
+use Rattle.table_repair.proofs.Rows.{not_true, row_of_block, row_or_rest}
 use Rattle.table_repair.proofs.Sweeping.{IsTaken, among_parts, number_same}
-use Rattle.table_repair.proofs.Walking.{false_or, or_right}
+use Rattle.table_repair.proofs.Walking.{or_false, false_or, or_right}
 
 -- the row is one of those that are left, or lies behind them
 abbrev pub IsPast : Bool → Span → ℕ → Type 0
@@ -104,7 +104,10 @@ module _ {h : GridData} {d : Dir} (rows columns : Span) {left rest : Span} {y : 
 
       split : (w : Cell) → (is_at_one walks w || is_in_row y columns w) ≡ false
           → is_in rest columns w ≡ false → (is_at_one walks w || is_in left columns w) ≡ false
-      split w p r = grind (arith, nat_tests)
+      split w k r =
+          let p = or_false (is_at_one walks w) (is_in_row y columns w) k in
+          false_or (is_at_one walks w) (is_in left columns w) p.0
+          (row_or_rest rows columns within taken w p.1 r)
 
 -- no row is left, and the walks are led out
 pub enter_ends : {h : GridData} {d : Dir} {all left : Cell → Bool} {old now new : TablesData}

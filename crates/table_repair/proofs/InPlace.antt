@@ -1,8 +1,7 @@
 -- A round in one list: the walks that go on move to its front.
-use Rattle.std.proofs.lemmas.Bool.Decides.{nat_tests}
 use Rattle.std.proofs.Common.{◌≡◌, ℕ, ◌+◌, ◌<◌, ◌≤◌, arith, Bool, true, refl, sym, ◌∙◌, ◌||◌, List, ◌∷◌}
 use Rattle.std.proofs.Common.{◌++◌, length, get_or, take, drop}
-use Rattle.std.proofs.lemmas.List.{drop_more, drop-set-lt, take_more_set, length-set}
+use Rattle.std.proofs.lemmas.List.{drop_all, drop_more, drop-set-lt, take_more_set, length-set}
 use Rattle.std.specs.Prelude.{Option, Some, None, slice_set}
 use Rattle.std.specs.Option.{option_to_list}
 use Rattle.grid_moves.specs.declared.Cell.{Cell}
@@ -12,9 +11,9 @@ use Rattle.grid_moves.specs.Move.{is_same}
 use Rattle.pruning.specs.Turns.{is_diagonal}
 use Rattle.plus_tables.specs.Tables.{TablesData}
 use Rattle.table_repair.specs.declared.walks.Walk.{Walk}
-use Rattle.table_repair.specs.Abreast.{is_at_one, IsOnward}
+use Rattle.table_repair.specs.Abreast.{is_at_one, IsBehindOne, IsOnward, room_of}
 use Rattle.table_repair.specs.Mending.{IsRight, AreReady, Mends, FollowBut, either}
-use Rattle.table_repair.proofs.Rounds.{Round, round_begins, round_next}
+use Rattle.table_repair.proofs.Rounds.{Queued, Round, round_begins, round_next}
 use Rattle.table_repair.proofs.Rounds.{some_on, none_on}
 
 -- the first ones of the list are the walks that went on, and behind the first i it is as it was
@@ -81,4 +80,26 @@ module _ {h : GridData} {d : Dir} {old now : TablesData} {first steps : ℕ} {he
     -- or it ends
     pub place_ends : {more : List Walk} {further : ℕ} → on ≡ None → more ≡ list → further ≡ onward
         → InPlace h d old new first counted here more further (i + 1)
-    place_ends p q j = grind (arith, nat_tests, next_round, none_on, parts)
+    place_ends e f g = rw (f, g) (record {
+      round = next_round (none_on e refl);
+      rest = parts.1;
+      few = let a = place.few in omega arith;
+      size = place.size;
+    })
+
+-- behind the last place the walks that went on are all that are left
+module _ {h : GridData} {d : Dir} {old now : TablesData} {first steps : ℕ} {here list walks : List Walk}
+    {onward i : ℕ} (place : InPlace h d old now first steps here list onward i) (past : length here ≤ i)
+    (e : walks ≡ take onward list) where
+  round_done : Round h d old now first steps here walks i
+  round_done = rw e place.round
+
+  pub led : Queued h d (is_at_one here) old now first steps (length here) (room_of h d here) walks
+      (length walks)
+  led = rw (drop_all i here past) at round_done.queued
+
+  pub led_behind : (w : Cell) → is_at_one walks w ≡ true → IsBehindOne d (is_at_one here) w
+  led_behind = round_done.behind
+
+  pub led_fewer : length walks ≤ length here
+  led_fewer = let a = round_done.fewer in let b = round_done.within in omega arith

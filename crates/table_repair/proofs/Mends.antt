@@ -1,9 +1,10 @@
 -- What is kept as entries are made right, one after the other.
 use Rattle.std.proofs.lemmas.Bool.Decides.{nat_tests}
-use Rattle.std.proofs.Common.{◌≡◌, ℕ, ◌+◌, ◌≤◌, arith, Bool, true, false}
+use Rattle.std.proofs.Common.{◌≡◌, ℕ, ◌+◌, ◌≤◌, inl, inr, ◌∙◌, arith, Bool, true, false}
 use Rattle.grid_moves.specs.declared.Cell.{Cell}
 use Rattle.grid_moves.specs.declared.Dir.{Dir}
 use Rattle.grid_moves.specs.Grid.{GridData, is_inside}
+use Rattle.pruning.specs.Turns.{turn}
 use Rattle.plus_tables.specs.Tables.{TablesData, AreSized, is_on}
 use Rattle.table_repair.specs.Mending.{IsRight, AreRight, AreReady, IsMended, Mends}
 use Rattle.table_repair.specs.Mending.{FollowBut}
@@ -24,7 +25,19 @@ module _ {h : GridData} {d : Dir} {starts : Cell → Bool} where
 
   pub ready_stays : {old new : TablesData} {n : ℕ} → Mends h d starts old new n → AreReady h old d
       → AreReady h new d
-  ready_stays p i = grind (arith, nat_tests)
+  ready_stays m r = record {
+    grid = r.grid;
+    sized = record {
+      width = m.width ∙ r.sized.width;
+      height = m.height ∙ r.sized.height;
+      corner = m.corner ∙ r.sized.corner;
+    };
+    whole = record {
+      sides = rw (m.width, m.height) r.whole.sides;
+      whole = rw (m.width, m.height) (m.length_kept ∙ r.whole.whole);
+    };
+    beside = λ k s. all_stay m (turn s d) (r.beside k s);
+  }
 
 -- an entry that was made right, and still is, told of more cells to start from and more changes
 pub still_mended : {h : GridData} {d : Dir} {few more : Cell → Bool} {old new : TablesData} {m n : ℕ}
@@ -38,7 +51,21 @@ pub mends_then : {h : GridData} {d : Dir} {starts piece : Cell → Bool} {s t u 
     → Mends h d starts s t m → Mends h d piece t u n
     → ((v : Cell) → IsMended h u d piece n v → IsMended h u d starts (m + n) v)
     → Mends h d starts s u (m + n)
-mends_then h i j = grind (arith, nat_tests)
+mends_then {m = m} {n = n} a b reached = record {
+  width = b.width ∙ a.width;
+  height = b.height ∙ a.height;
+  corner = b.corner ∙ a.corner;
+  length_kept = b.length_kept ∙ a.length_kept;
+  others = λ v e k i. b.others v e k i ∙ a.others v e k i;
+  along = λ v i. elim (b.along v i) [
+    | inr k ↦ inr (reached v k)
+    | inl e ↦ elim (a.along v i) [
+      | inl f ↦ inl (e ∙ f)
+      | inr k ↦ inr (still_mended (λ w j. j) (e ∙ k.right) (omega arith) k)
+    ]
+  ];
+  count = λ r w k. omega (arith, a.count r w k, b.count r w k);
+}
 
 pub mends_both : {h : GridData} {d : Dir} {starts : Cell → Bool} {s t u : TablesData} {m n : ℕ}
     → Mends h d starts s t m → Mends h d starts t u n → Mends h d starts s u (m + n)

@@ -1,6 +1,6 @@
 -- One move back of a walk.
 use Rattle.std.proofs.Common.{◌≡◌, ◌≢◌, Bool, true, false, ◌||◌, arith, []}
-use Rattle.std.specs.Prelude.{Some, ◌∷◌}
+use Rattle.std.specs.Prelude.{Some, None, ◌∷◌}
 use Rattle.grid_moves.specs.declared.Cell.{Cell}
 use Rattle.grid_moves.specs.declared.Dir.{Dir}
 use Rattle.grid_moves.specs.Grid.{GridData, is_inside}
@@ -8,11 +8,11 @@ use Rattle.grid_moves.specs.Move.{ahead, is_same}
 use Rattle.plus_tables.specs.Entry.{table_entry}
 use Rattle.plus_tables.specs.Tables.{TablesData, entry_at, tables_with}
 use Rattle.table_repair.specs.declared.walks.Walk.{Walk}
-use Rattle.table_repair.specs.Abreast.{is_at_one}
+use Rattle.table_repair.specs.Abreast.{is_at_one, IsOnward}
 use Rattle.table_repair.specs.Mending.{IsRight, AreReady, Mends, FollowBut, behind_on, either}
 use Rattle.table_repair.proofs.Lines.{behind_on-is}
 use Rattle.table_repair.proofs.Mends.{follow_more}
-use Rattle.table_repair.proofs.Walking.{Walked, walked_none, walk_stops, walk_goes_on, nothing_set}
+use Rattle.table_repair.proofs.Walking.{Walked, walked_none, walk_stops, walk_goes_on, walk_ends, nothing_set}
 
 abbrev walk_at : Cell → Walk
 walk_at u = record { at = u }
@@ -21,6 +21,12 @@ module _ {h : GridData} {d : Dir} (v : Cell) {t : TablesData} (ready : AreReady 
     (inside : is_inside h v ≡ true) (right : IsRight h t v d) where
   begun : Walked h d v t t v 0
   begun = walked_none ready inside right
+
+  -- there is no cell behind
+  pub follows_end : behind_on h d v ≡ None → (later : Cell → Bool)
+      → FollowBut h t d (λ w. is_same w v || later w)
+      → FollowBut h t d (either (is_at_one []) later)
+  follows_end none later f = walk_ends begun none later f
 
   module _ (u : Cell) (behind : behind_on h d v ≡ Some u) {new : TablesData}
       (is : new ≡ tables_with t u d (table_entry h u d)) where
@@ -47,3 +53,9 @@ module _ {h : GridData} {d : Dir} (v : Cell) {t : TablesData} (ready : AreReady 
         where
           narrower : (a b : Bool) → ((a || false) || b) ≡ false → (a || b) ≡ false
           narrower a b k = grind arith
+
+      pub onward_told : (next : Walk) → Some (walk_at u) ≡ Some next → IsOnward h new d v next.at
+      onward_told next e = rw (← same) (record { inside = there.1; right = gone_on.right; behind = there.0 })
+        where
+          same : u ≡ next.at
+          same = cc

@@ -1,13 +1,16 @@
 -- Passes over the directions of one kind.
 use Rattle.std.proofs.Common.{◌≡◌, ℕ, zero, suc, ◌+◌, ◌*◌, ◌<◌, ◌≤◌, ◌⊎◌, inl, inr, arith, Bool, true, false}
-use Rattle.std.proofs.Common.{refl, ◌||◌, List, [], ◌∷◌, length, take, get_or}
+use Rattle.std.proofs.Common.{refl, ap, ◌∙◌, ◌||◌, List, [], ◌∷◌, length, take, get_or}
+use Rattle.std.specs.Prelude.{not}
 use Rattle.std.proofs.lemmas.Bool.{cases_Bool}
 use Rattle.std.proofs.lemmas.Bool.Decides.{nat_tests}
 use Rattle.grid_moves.specs.declared.Cell.{Cell}
 use Rattle.grid_moves.specs.declared.Dir.{Dir}
 use Rattle.grid_moves.specs.Grid.{GridData}
 use Rattle.grid_moves.specs.Move.{is_dir}
-use Rattle.pruning.proofs.Table.{same_dir}
+use Rattle.pruning.specs.declared.turns.Side.{Side}
+use Rattle.pruning.specs.Turns.{turn, is_diagonal}
+use Rattle.pruning.proofs.Table.{same_dir, turn_parity}
 use Rattle.plus_tables.specs.Tables.{TablesData}
 use Rattle.table_repair.specs.Mending.{AreRight, AreReady, AreSound, CanSweep, FollowBut, Mends, MendsKind}
 use Rattle.table_repair.specs.Mending.{Sweeps, is_listed, is_straight}
@@ -68,6 +71,20 @@ listed_take (d ∷ ds) (suc i) x e l k = by_test (is_dir e d) refl (λ r. listed
 pub straight_ready : {h : GridData} {t : TablesData} {d : Dir} → AreSound h t → is_straight d ≡ true
     → AreReady h t d
 straight_ready h i = grind (arith, nat_tests)
+
+-- other directions being right, a diagonal one can be refreshed
+pub diagonal_ready : {h : GridData} {starts : Cell → Bool} {old now : TablesData} {n : ℕ} {d : Dir}
+    → MendsKind h is_diagonal starts old now n → ((e : Dir) → is_straight e ≡ true → AreRight h old e)
+    → is_diagonal d ≡ true → AreReady h now d
+diagonal_ready {h = h} {now = now} {d = d} mends right k = record {
+  grid = mends.sound.grid;
+  sized = mends.sound.sized;
+  whole = mends.sound.whole;
+  beside = λ l s u i. mends.others u (turn s d) (turned s) i ∙ right (turn s d) (rw (turned s) refl) u i;
+}
+  where
+    turned : (s : Side) → is_diagonal (turn s d) ≡ false
+    turned s = turn_parity s d ∙ ap not k
 
 pub nothing_later : {h : GridData} {t : TablesData} {d : Dir} {here : Cell → Bool} → FollowBut h t d here
     → CanSweep h t d here

@@ -1,6 +1,6 @@
 -- A row is swept piece by piece along a diagonal direction, which leads from no cell of it to another.
 use Rattle.std.proofs.lemmas.Bool.Decides.{nat_tests}
-use Rattle.std.proofs.Common.{◌≡◌, ℕ, suc, ◌+◌, ◌*◌, ◌-◌, ◌<◌, ◌≤◌, arith, Bool, true, false}
+use Rattle.std.proofs.Common.{◌≡◌, ℕ, suc, ◌+◌, ◌*◌, ◌-◌, ◌<◌, ◌≤◌, ◌⊎◌, inl, inr, arith, Bool, true, false}
 use Rattle.std.proofs.Common.{refl, sym, ◌∙◌, ◌||◌, List, [], ◌∷◌, ◌++◌}
 use Rattle.grid_moves.specs.declared.Cell.{Cell}
 use Rattle.grid_moves.specs.declared.Dir.{Dir}
@@ -15,9 +15,9 @@ use Rattle.table_repair.specs.Abreast.{is_at_one}
 use Rattle.table_repair.specs.Mending.{IsRight, Mends, CanSweep, Sweeps, either, is_in_row}
 use Rattle.table_repair.proofs.Abreast.{at_both}
 use Rattle.table_repair.proofs.Lines.{after_moved, right_ahead}
-use Rattle.table_repair.proofs.Mends.{mends_wider}
+use Rattle.table_repair.proofs.Mends.{mends_wider, follow_more}
 use Rattle.table_repair.proofs.Rows.{and_true, not_true}
-use Rattle.table_repair.proofs.Sweeping.{Swept, swept_more, among_from}
+use Rattle.table_repair.proofs.Sweeping.{Swept, swept_more, swept_all, among_from}
 use Rattle.table_repair.proofs.Walking.{false_or}
 
 -- what is told of one test, told of another that answers the same
@@ -27,7 +27,11 @@ mends_same same m = mends_wider (λ w k. sym (same w) ∙ k) m
 
 pub sweeps_same : (h : GridData) (d : Dir) (one other : Cell → Bool) → ((w : Cell) → one w ≡ other w)
     → (old new : TablesData) → Sweeps h d one old new → Sweeps h d other old new
-sweeps_same h d one other same old new sweeps later f = grind (arith, nat_tests)
+sweeps_same h d one other same old new sweeps later f =
+    sweeps later (follow_more (λ w k. either_way (one w) (other w) (later w) (same w) k) f)
+  where
+    either_way : (a b c : Bool) → a ≡ b → (a || c) ≡ false → (b || c) ≡ false
+    either_way a b c e k = rw (← e) k
 
 -- the columns from one on, and below another
 abbrev pub part : ℕ → ℕ → Span
@@ -61,7 +65,11 @@ module _ {h : GridData} {d : Dir} (y : ℕ) (columns : Span) (first : ℕ) {old 
     (swept : Swept h d (is_in_row y columns) (is_in_row y (part first columns.end)) old now n)
     (end : ℕ) (some : first ≤ end) (within : end ≤ columns.end) where
   of_row : (w : Cell) → is_in_row y (part first end) w ≡ true → is_in_row y columns w ≡ true
-  of_row w i = grind (arith, row_parts, row_from)
+  of_row w i =
+      let p = row_parts y (part first end) w i in
+      let a = p.1.0 in
+      let b = p.1.1 in
+      row_from y columns w p.0 (omega arith) (omega arith)
 
   off_row : (k : ℕ) (v w : Cell) (s : Span) → v.y ≡ y → AreMoved d (suc k) v w → is_in_row y s w ≡ false
   off_row k v w s e m = grind (arith, not_true, row_parts)
@@ -82,16 +90,27 @@ module _ {h : GridData} {d : Dir} (y : ℕ) (columns : Span) (first : ℕ) {old 
       → Swept h d (is_in_row y columns) (is_in_row y (part end columns.end)) old new (n + m)
   piece_next mends sweeps = swept_more swept split of_row mends sweeps
     where
+      before_or_not : (a b : ℕ) → (a < b) ⊎ (b ≤ a)
+      before_or_not a b = grind arith
+
       split : (w : Cell) → is_in_row y (part first end) w ≡ false
           → is_in_row y (part end columns.end) w ≡ false
           → is_in_row y (part first columns.end) w ≡ false
-      split w s r = grind (arith, nat_tests)
+      split w s r = not_true (is_in_row y (part first columns.end) w) (λ i.
+          let p = row_parts y (part first columns.end) w i in
+          elim (before_or_not w.x end) [
+            | inl a ↦ let t = row_from y (part first end) w p.0 p.1.0 a in absurd (cc)
+            | inr a ↦ let t = row_from y (part end columns.end) w p.0 a p.1.1 in absurd (cc)
+          ])
 
 -- no column is left
 pub pieces_done : {h : GridData} {d : Dir} (y : ℕ) (columns : Span) (first : ℕ) {old now : TablesData} {n : ℕ}
     → Swept h d (is_in_row y columns) (is_in_row y (part first columns.end)) old now n
     → columns.end ≤ first → Sweeps h d (is_in_row y columns) old now
-pieces_done y columns first swept l = grind (arith, nat_tests)
+pieces_done y columns first swept l =
+    swept_all swept (λ w. not_true (is_in_row y (part first columns.end) w)
+    (λ i. let p = row_parts y (part first columns.end) w i in
+    let a = p.1.0 in let b = p.1.1 in absurd (omega arith)))
 
 -- the last column is reached
 pub last_column : (y : ℕ) (s : Span) (x : ℕ) (before : List Walk) (w : Cell) → x ≤ s.end → s.end ≤ x

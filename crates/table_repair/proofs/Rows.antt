@@ -1,13 +1,13 @@
 -- A row is swept column by column, and a block row by row.
 use Rattle.std.proofs.lemmas.Bool.Decides.{nat_tests}
-use Rattle.std.proofs.Common.{◌≡◌, ℕ, suc, ◌+◌, ◌<◌, ◌≤◌, arith, Bool, true, false, refl, ◌&&◌}
+use Rattle.std.proofs.Common.{◌≡◌, ℕ, suc, ◌+◌, ◌<◌, ◌≤◌, inl, inr, arith, Bool, true, false, refl, ◌&&◌}
 use Rattle.std.proofs.Common.{◌||◌}
 use Rattle.std.specs.Prelude.{nat_eq}
 use Rattle.grid_moves.specs.declared.Cell.{Cell}
 use Rattle.grid_moves.specs.declared.Dir.{Dir}
 use Rattle.grid_moves.specs.Grid.{GridData, is_inside}
 use Rattle.grid_moves.specs.Move.{is_same}
-use Rattle.grid_moves.proofs.Legal.{and_both, is_same-cell}
+use Rattle.grid_moves.proofs.Legal.{and_both, is_same-cell, is_same-itself, same_cell}
 use Rattle.grid_moves.proofs.Places.{inside_from}
 use Rattle.plus_tables.specs.Tables.{TablesData}
 use Rattle.table_repair.specs.declared.span.Span.{Span}
@@ -15,7 +15,7 @@ use Rattle.table_repair.specs.Mending.{IsRight, FollowBut, Mends, CanSweep, Swee
 use Rattle.table_repair.specs.Mending.{is_in_row, is_in, goes_right, goes_down}
 use Rattle.table_repair.proofs.Lines.{after_moved, right_ahead}
 use Rattle.table_repair.proofs.Walking.{or_false, false_or}
-use Rattle.table_repair.proofs.Sweeping.{IsTaken, Swept, swept_more, row_ahead, rows_ahead}
+use Rattle.table_repair.proofs.Sweeping.{IsTaken, Swept, swept_more, swept_all, row_ahead, rows_ahead}
 use Rattle.table_repair.proofs.Sweeping.{among_parts, same_number, number_same}
 
 pub and_true : (a b : Bool) → a ≡ true → b ≡ true → (a && b) ≡ true
@@ -55,7 +55,13 @@ module _ {h : GridData} {d : Dir} (y : ℕ) (columns : Span) {left rest : Span} 
   row_next mends sweeps = swept_more swept split inner mends sweeps
     where
       split : (w : Cell) → is_same w v ≡ false → is_in_row y rest w ≡ false → is_in_row y left w ≡ false
-      split w s r = grind (arith, nat_tests)
+      split w s r = not_true (is_in_row y left w) (λ i.
+          let p = and_both (nat_eq w.y y) (is_among left w.x) i in
+          elim (taken.rest w.x p.1) [
+            | inl e ↦ true_false (is_same w v)
+                (let same = same_cell w v e (number_same w.y y p.0) in rw same (is_same-itself v)) s
+            | inr a ↦ true_false (is_in_row y rest w) (and_true (nat_eq w.y y) (is_among rest w.x) p.0 a) r
+          ])
 
       inner : (w : Cell) → is_same w v ≡ true → is_in_row y columns w ≡ true
       inner w s = rw (is_same-cell w v s) v_there
@@ -121,9 +127,11 @@ none_left left columns none w = grind (arith, nat_tests)
 pub row_done : {h : GridData} {d : Dir} (y : ℕ) (columns left : Span) {old now : TablesData} {n : ℕ}
     → Swept h d (is_in_row y columns) (is_in_row y left) old now n
     → ((k : ℕ) → is_among left k ≡ false) → Sweeps h d (is_in_row y columns) old now
-row_done y columns left swept none = grind (arith, nat_tests)
+row_done y columns left swept none =
+    swept_all swept (λ w. not_true (is_in_row y left w)
+    (λ i. true_false (is_among left w.x) (and_both (nat_eq w.y y) (is_among left w.x) i).1 (none w.x)))
 
 pub block_done : {h : GridData} {d : Dir} (rows columns left : Span) {old now : TablesData} {n : ℕ}
     → Swept h d (is_in rows columns) (is_in left columns) old now n
     → ((k : ℕ) → is_among left k ≡ false) → Sweeps h d (is_in rows columns) old now
-block_done rows columns left swept none = grind (arith, nat_tests)
+block_done rows columns left swept none = swept_all swept (none_left left columns none)

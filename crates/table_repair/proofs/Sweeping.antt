@@ -12,6 +12,7 @@ use Rattle.table_repair.specs.declared.span.Span.{Span}
 use Rattle.table_repair.specs.Mending.{AreReady, FollowBut, Mends, Sweeps, either, is_among, span_length}
 use Rattle.table_repair.specs.Mending.{far_number, without_far, is_in_row, is_in, goes_right, goes_down}
 use Rattle.table_repair.proofs.Mends.{mends_both, mends_wider, follow_more, ready_stays}
+use Rattle.table_repair.proofs.Walking.{or_false, false_or}
 
 -- the second number is nearer than the first, from the end or from the beginning
 abbrev IsNearer : Bool → ℕ → ℕ → Type 0
@@ -70,7 +71,16 @@ swept_more {left = left} {piece = piece} {rest = rest} swept split within mends 
   where
     wider : (w : Cell) (later : Cell → Bool) → (piece w || (rest w || later w)) ≡ false
         → (left w || later w) ≡ false
-    wider w later k = grind (arith, nat_tests)
+    wider w later k =
+        let p = or_false (piece w) (rest w || later w) k in
+        let q = or_false (rest w) (later w) p.1 in
+        false_or (left w) (later w) (split w p.0 q.0) q.1
+
+-- where nothing is left
+pub swept_all : {h : GridData} {d : Dir} {all left : Cell → Bool} {old now : TablesData} {n : ℕ}
+    → Swept h d all left old now n → ((w : Cell) → left w ≡ false) → Sweeps h d all old now
+swept_all {left = left} swept none later f =
+    follow_more (λ w k. false_or (left w) (later w) (none w) k) (swept.follows later f)
 
 -- no cell ahead of the one taken from a row is left there
 pub row_ahead : (d : Dir) (k : ℕ) (v w : Cell) (y : ℕ) (old rest : Span) → IsTaken (goes_right d) old v.x rest

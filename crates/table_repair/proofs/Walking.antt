@@ -72,7 +72,13 @@ apart w u s k = let t : is_same w u ≡ true = rw k (is_same-itself u) in absurd
 passed : {h : GridData} {d : Dir} {t : TablesData} {at_cell : Cell} (later : Cell → Bool)
     → FollowBut h t d (or_later at_cell later)
     → ((p : Cell) → is_inside h p ≡ true → ahead d p ≡ Some at_cell → IsRight h t p d) → FollowBut h t d later
-passed later h i = grind (arith, nat_tests)
+passed {at_cell = at_cell} later g right = record {
+  next = λ p w j k l m q. elim (cases_Bool (is_same w at_cell)) [
+    | inl s ↦ right p j (rw (← is_same-cell w at_cell s) k)
+    | inr s ↦ g.next p w j k l (false_or (is_same w at_cell) (later w) s m) q
+  ];
+  last = g.last;
+}
 
 module _ {h : GridData} {d : Dir} {v : Cell} {old now : TablesData} {at_cell : Cell} (u : Cell) {n : ℕ}
     (walked : Walked h d v old now at_cell n) (e : ahead d u ≡ Some at_cell) (i : is_inside h u ≡ true) where
@@ -94,10 +100,14 @@ module _ {h : GridData} {d : Dir} {v : Cell} {old now : TablesData} {at_cell : C
 
     stays : (w : Cell) (f : Dir) → is_inside h w ≡ true → (w ≡ u → f ≡ d → ⊥)
         → entry_at new w f ≡ entry_at now w f
-    stays w f j other = grind (arith, nat_tests, entry-with_other, whole, on, on_inside)
+    stays w f j other = rw is (entry-with_other now whole u on d f w (table_entry h u d)
+        (on_inside now h walked.ready.sized w j) other)
 
     right_kept : (w : Cell) → is_inside h w ≡ true → IsRight h now w d → IsRight h new w d
-    right_kept w p q = grind (arith, nat_tests, cases_Bool, is_same-cell, set_right, stays, apart)
+    right_kept w j r = elim (cases_Bool (is_same w u)) [
+      | inl s ↦ (let same = is_same-cell w u s in rw same set_right)
+      | inr s ↦ stays w d j (λ k l. apart w u s k) ∙ r
+    ]
 
     pub walk_goes_on : AreReady h old d → entry_at now u d ≢ table_entry h u d
         → Walked h d v old new u (n + 1)

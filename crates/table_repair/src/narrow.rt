@@ -8,7 +8,8 @@ ghost use Rattle.std.specs.Prelude.{◌≡◌, ◌+◌, ◌*◌, ◌<◌, ◌≤
 ghost use Rattle.grid_moves.specs.declared.Cell.{Cell};
 ghost use Rattle.grid_moves.specs.Grid.{is_inside};
 ghost use Rattle.pruning.specs.Turns.{is_diagonal};
-ghost use Rattle.table_repair.specs.Mending.{IsRight, AreReady, CanSweep, Mends, Sweeps, either, is_in, is_in_row, span_length};
+ghost use Rattle.table_repair.specs.Mending.{IsRight, AreReady, Mends, Sweeps, either, is_in, is_in_row, span_length};
+ghost use Rattle.table_repair.specs.Blocks.{CanSweepNarrow};
 ghost use Rattle.table_repair.specs.Abreast.{IsBehindOne, KeepAbreast, is_at_one, no_cell};
 
 use crate::span::{Span, take_far};
@@ -93,13 +94,7 @@ fn sweep_entering<L: Ledger>(
     d: Dir,
     steps: &mut Steps<L>,
 ) -> u64
-    requires ready { AreReady grid.now tables.old d }
-    requires diagonal { is_diagonal d ≡ true }
-    requires rows { rows.end ≤ grid.now.height }
-    requires some { columns.first ≤ columns.end }
-    requires narrow { span_length columns ≤ 3 }
-    requires columns { columns.end ≤ grid.now.width }
-    requires waits { CanSweep grid.now tables.old d (is_in rows columns) }
+    requires { CanSweepNarrow grid.now tables.old d rows columns }
     ensures mends { Mends grid.now d (is_in rows columns) tables.old tables.new result }
     ensures sweeps { Sweeps grid.now d (is_in rows columns) tables.old tables.new }
     ensures few { result ≤ 2097664 * span_length rows + 2097152 }
@@ -125,13 +120,7 @@ pub fn sweep_narrow<L: Ledger>(
     d: Dir,
     steps: &mut Steps<L>,
 ) -> u64
-    requires ready { AreReady grid.now tables.old d }
-    requires diagonal { is_diagonal d ≡ true }
-    requires rows { rows.end ≤ grid.now.height }
-    requires some { columns.first ≤ columns.end }
-    requires narrow { span_length columns ≤ 3 }
-    requires columns { columns.end ≤ grid.now.width }
-    requires waits { CanSweep grid.now tables.old d (is_in rows columns) }
+    requires { CanSweepNarrow grid.now tables.old d rows columns }
     ensures mends { Mends grid.now d (is_in rows columns) tables.old tables.new result }
     ensures sweeps { Sweeps grid.now d (is_in rows columns) tables.old tables.new }
     ensures few { result ≤ 16777216 * span_length rows + 2097152 }

@@ -1,11 +1,10 @@
 //! Sweeps: all the cells of a block, from the far end of each line.
 
-ghost use Rattle.std.specs.Prelude.{◌≡◌, ◌+◌, ◌*◌, ◌<◌, ◌≤◌, true};
-ghost use Rattle.grid_moves.specs.Grid.{is_inside};
-ghost use Rattle.grid_moves.specs.Move.{is_same};
+ghost use Rattle.std.specs.Prelude.{◌≡◌, ◌+◌, ◌*◌, ◌≤◌, true};
 ghost use Rattle.pruning.specs.Turns as turns;
 ghost use Rattle.table_repair.specs.Mending as spec;
-ghost use Rattle.table_repair.specs.Mending.{AreReady, CanSweep, Mends, Sweeps, is_in, is_in_row, span_length};
+ghost use Rattle.table_repair.specs.Mending.{AreReady, CanSweep, Mends, Sweeps, is_in, span_length};
+ghost use Rattle.table_repair.specs.Blocks.{CanSweepRow, SweepsRow};
 
 use crate::mend::mend;
 use crate::span::{Span, take_far};
@@ -40,15 +39,8 @@ fn sweep_one_by_one<L: Ledger>(
     d: Dir,
     steps: &mut Steps<L>,
 ) -> u64
-    requires ready { AreReady grid.now tables.old d }
-    requires row { y < grid.now.height }
-    requires columns { columns.end ≤ grid.now.width }
-    requires waits { CanSweep grid.now tables.old d (is_in_row y columns) }
-    ensures mends { Mends grid.now d (is_in_row y columns) tables.old tables.new result }
-    ensures sweeps { Sweeps grid.now d (is_in_row y columns) tables.old tables.new }
-    ensures few { result ≤ 4096 * span_length columns }
-    ensures steps { steps.new ≤ steps.old + result + span_length columns }
-    ensures later { steps.old ≤ steps.new }
+    requires { CanSweepRow grid.now tables.old d y columns }
+    ensures { SweepsRow grid.now d y columns tables.old tables.new steps.old steps.new result }
 {
     let mut left = columns;
     let mut changed = 0;
@@ -67,16 +59,9 @@ fn sweep_abreast<L: Ledger>(
     d: Dir,
     steps: &mut Steps<L>,
 ) -> u64
-    requires ready { AreReady grid.now tables.old d }
+    requires can { CanSweepRow grid.now tables.old d y columns }
     requires diagonal { turns.is_diagonal d ≡ true }
-    requires row { y < grid.now.height }
-    requires columns { columns.end ≤ grid.now.width }
-    requires waits { CanSweep grid.now tables.old d (is_in_row y columns) }
-    ensures mends { Mends grid.now d (is_in_row y columns) tables.old tables.new result }
-    ensures sweeps { Sweeps grid.now d (is_in_row y columns) tables.old tables.new }
-    ensures few { result ≤ 4096 * span_length columns }
-    ensures steps { steps.new ≤ steps.old + result + span_length columns }
-    ensures later { steps.old ≤ steps.new }
+    ensures { SweepsRow grid.now d y columns tables.old tables.new steps.old steps.new result }
 {
     let mut first = columns.first;
     let mut changed = 0;
@@ -98,15 +83,8 @@ fn sweep_row<L: Ledger>(
     d: Dir,
     steps: &mut Steps<L>,
 ) -> u64
-    requires ready { AreReady grid.now tables.old d }
-    requires row { y < grid.now.height }
-    requires columns { columns.end ≤ grid.now.width }
-    requires waits { CanSweep grid.now tables.old d (is_in_row y columns) }
-    ensures mends { Mends grid.now d (is_in_row y columns) tables.old tables.new result }
-    ensures sweeps { Sweeps grid.now d (is_in_row y columns) tables.old tables.new }
-    ensures few { result ≤ 4096 * span_length columns }
-    ensures steps { steps.new ≤ steps.old + result + span_length columns }
-    ensures later { steps.old ≤ steps.new }
+    requires { CanSweepRow grid.now tables.old d y columns }
+    ensures { SweepsRow grid.now d y columns tables.old tables.new steps.old steps.new result }
 {
     let many = columns.end >= 64 && columns.first <= columns.end - 64;
     if is_diagonal(d) && many {

@@ -10,7 +10,8 @@ ghost use Rattle.grid_moves.specs.declared.Cell.{Cell};
 ghost use Rattle.grid_moves.specs.Grid.{is_inside};
 ghost use Rattle.grid_moves.specs.Move.{is_same};
 ghost use Rattle.pruning.specs.Turns.{is_diagonal};
-ghost use Rattle.table_repair.specs.Mending.{IsRight, AreReady, FollowBut, Mends, Sweeps, either, is_in_row, span_length};
+ghost use Rattle.table_repair.specs.Mending.{IsRight, AreReady, FollowBut, Mends, either, is_in_row, span_length};
+ghost use Rattle.table_repair.specs.Blocks.{SweepsRow};
 ghost use Rattle.table_repair.specs.Abreast.{IsBehindOne, IsOnward, KeepAbreast, is_at_one, no_cell, room_of};
 
 use crate::mend::cell_before;
@@ -170,11 +171,7 @@ pub fn mend_abreast<L: Ledger>(
     requires row { y < grid.now.height }
     requires columns { columns.end ≤ grid.now.width }
     requires right { (w : Cell) → is_in_row y columns w ≡ true → IsRight grid.now tables.old w d }
-    ensures mends { Mends grid.now d (is_in_row y columns) tables.old tables.new result }
-    ensures sweeps { Sweeps grid.now d (is_in_row y columns) tables.old tables.new }
-    ensures few { result ≤ 4096 * span_length columns }
-    ensures steps { steps.new ≤ steps.old + result + span_length columns }
-    ensures later { steps.old ≤ steps.new }
+    ensures { SweepsRow grid.now d y columns tables.old tables.new steps.old steps.new result }
 {
     let mut walks = Walks::new();
     enter(&mut walks, y, columns);

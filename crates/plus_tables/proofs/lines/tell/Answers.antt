@@ -1,11 +1,59 @@
-use Rattle.std.proofs.lemmas.Bool.Decides.{nat_tests}
-use Rattle.std.proofs.Common.{◌<◌, refl, arith}
+use Rattle.std.proofs.Common.{◌≡◌, ◌<◌, refl, arith, length, ap, ◌∙◌}
 use Rattle.std.proofs.lemmas.List.{with_items_is}
 use Rattle.grid_moves.specs.declared.Dir.TheVariants.{N, NE, E, W, NW}
 use Rattle.grid_moves.specs.Grid.{GridData}
 use Rattle.plus_tables.specs.Rows.{seen}
+use Rattle.plus_tables.proofs.Fitting.{long_as}
 use Rattle.plus_tables.proofs.Lining.{along_seen, entries_as, leads_ahead, seen_as}
 use Rattle.plus_tables.proofs.lines.tell.Goals as goal
+
+pub tell_ahead-requires : goal.tell_ahead-requires
+tell_ahead-requires g c =
+    let rows = c.requires.ready.2.rows in
+    let long = c.requires.ready.2.long in
+    record {
+      whole = c.requires.whole;
+      forced = c.requires.forced;
+      out = ap length c.deref_mut.ensures.value ∙ c.requires.long.ahead;
+      beyond = long_as c.deref.ensures.value c.deref-2.ensures.value c.deref-3.ensures.value
+          rows.far_is.long rows.next_is.long rows.here_is.long;
+      rows = long_as c.deref-4.ensures.value c.deref-5.ensures.value c.deref-6.ensures.value
+          rows.next_is.long rows.here_is.long rows.back_is.long;
+      next = long_as c.deref-7.ensures.value c.deref-8.ensures.value c.deref-9.ensures.value
+          long.ahead long.ahead long.ahead;
+    }
+
+pub tell_ahead-requires-2 : goal.tell_ahead-requires-2
+tell_ahead-requires-2 g c =
+    let rows = c.requires.ready.2.rows in
+    let long = c.requires.ready.2.long in
+    record {
+      whole = c.requires.whole;
+      forced = c.tell_ahead.auto.forced ∙ c.requires.forced;
+      out = ap length c.deref_mut-2.ensures.value ∙ c.requires.long.ahead_east;
+      beyond = long_as c.deref.ensures.value c.deref-2.ensures.value c.deref-3.ensures.value
+          rows.far_is.long rows.next_is.long rows.here_is.long;
+      rows = long_as c.deref-4.ensures.value c.deref-5.ensures.value c.deref-6.ensures.value
+          rows.next_is.long rows.here_is.long rows.back_is.long;
+      next = long_as c.deref-10.ensures.value c.deref-11.ensures.value c.deref-12.ensures.value
+          long.ahead_east long.east long.ahead;
+    }
+
+pub tell_ahead-requires-3 : goal.tell_ahead-requires-3
+tell_ahead-requires-3 g c =
+    let rows = c.requires.ready.2.rows in
+    let long = c.requires.ready.2.long in
+    record {
+      whole = c.requires.whole;
+      forced = c.tell_ahead-2.auto.forced ∙ c.tell_ahead.auto.forced ∙ c.requires.forced;
+      out = ap length c.deref_mut-3.ensures.value ∙ c.requires.long.ahead_west;
+      beyond = long_as c.deref.ensures.value c.deref-2.ensures.value c.deref-3.ensures.value
+          rows.far_is.long rows.next_is.long rows.here_is.long;
+      rows = long_as c.deref-4.ensures.value c.deref-5.ensures.value c.deref-6.ensures.value
+          rows.next_is.long rows.here_is.long rows.back_is.long;
+      next = long_as c.deref-13.ensures.value c.deref-14.ensures.value c.deref-15.ensures.value
+          long.ahead_west long.ahead long.west;
+    }
 
 pub returns-clause-told : goal.returns-clause-told
 returns-clause-told g c = λ h y ready around.
@@ -54,4 +102,18 @@ returns-clause-told g c = λ h y ready around.
     }
 
 pub returns-clause-long : goal.returns-clause-long
-returns-clause-long g c = grind (arith, nat_tests, with_items_is)
+returns-clause-long g c =
+    let long = c.requires.long in
+    let ahead : length c.tell_ahead.new.out ≡ length c.args.this.now.ahead.items = omega arith in
+    let east : length c.tell_ahead-2.new.out ≡ length c.args.this.now.ahead_east.items = omega arith in
+    let west : length c.tell_ahead-3.new.out ≡ length c.args.this.now.ahead_west.items = omega arith in
+    record {
+      ahead = ap length (with_items_is c.args.this.now.ahead c.tell_ahead.new.out (omega arith)) ∙ ahead
+          ∙ long.ahead;
+      ahead_east = ap length (with_items_is c.args.this.now.ahead_east c.tell_ahead-2.new.out (omega arith))
+          ∙ east ∙ long.ahead_east;
+      ahead_west = ap length (with_items_is c.args.this.now.ahead_west c.tell_ahead-3.new.out (omega arith))
+          ∙ west ∙ long.ahead_west;
+      east = long.east;
+      west = long.west;
+    }

@@ -4,6 +4,7 @@ use Rattle.std.proofs.Common.{arith, sym, ◌∙◌}
 use Rattle.table_repair.proofs.Lines.{behind_on-is}
 use Rattle.table_repair.proofs.Walking.{walk_stops, walk_goes_on, walk_ends, walk_short}
 use Rattle.table_repair.proofs.Walking.{rests_right, nothing_set}
+use Rattle.table_repair.proofs.Mends.{on_inside}
 use Rattle.table_repair.proofs.mend.mend.Goals as goal
 
 pub refresh-requires-clause-sized : goal.refresh-requires-clause-sized
@@ -16,6 +17,13 @@ refresh-requires-clause-rests g c =
     (sym c.cell_before.ensures ∙ c.in-Some.is) in
     rests_right c.args.grid.now c.loop-before.tables c.args.d c.in-Some.before c.loop-before.at l.0
     w.inside w.right w.ready.beside
+
+pub refresh-requires-clause-inside : goal.refresh-requires-clause-inside
+refresh-requires-clause-inside g c =
+    let w = c.loop-before.invariant.walked in
+    let l = behind_on-is c.args.grid.now c.args.d c.in-Some.before c.loop-before.at
+    (sym c.cell_before.ensures ∙ c.in-Some.is) in
+    on_inside c.loop-before.tables c.args.grid.now w.ready.sized c.in-Some.before l.1
 
 pub returns-then-not-refresh-clause-mends : goal.returns-then-not-refresh-clause-mends
 returns-then-not-refresh-clause-mends g c =

@@ -1,16 +1,18 @@
 -- One direction after the other.
-use Rattle.std.proofs.lemmas.Bool.Decides.{nat_tests}
 use Rattle.std.proofs.Common.{arith, add-one, get_or}
 use Rattle.grid_moves.specs.declared.Dir.{Dir}
 use Rattle.grid_moves.specs.declared.Dir.TheVariants.{N}
 use Rattle.table_repair.specs.Mending.{is_in_reach}
-use Rattle.table_repair.proofs.Passes.{passed_more, listed_at, listed_take, listed_all}
+use Rattle.table_repair.proofs.Passes.{passed_more, listed_at, listed_take, listed_all, diagonal_ready}
 use Rattle.table_repair.proofs.Passes.{counted_pass}
 use Rattle.table_repair.proofs.Totals.{later_on}
 use Rattle.table_repair.proofs.repair.sweep_diagonals.Goals as goal
 
 pub sweep_diagonal-changed-requires-clause-ready : goal.sweep_diagonal-changed-requires-clause-ready
-sweep_diagonal-changed-requires-clause-ready g c = grind (arith, nat_tests)
+sweep_diagonal-changed-requires-clause-ready g c =
+    let d : Dir = get_or c.args.dirs.now c.loop-d.d-index N in
+    diagonal_ready c.loop-d.invariant.passed.mends c.requires.beside
+    (c.requires.diagonal d (listed_at c.args.dirs.now c.loop-d.d-index N c.loop-d-test.true))
 
 pub sweep_diagonal-changed-requires-clause-diagonal : goal.sweep_diagonal-changed-requires-clause-diagonal
 sweep_diagonal-changed-requires-clause-diagonal g c = grind (arith, listed_at)
@@ -38,4 +40,5 @@ loop-d-preserved g c =
     }
 
 pub returns-clause-right : goal.returns-clause-right
-returns-clause-right g c = grind (arith, nat_tests, listed_all)
+returns-clause-right g c = λ d k.
+    c.loop-d.invariant.passed.right d (listed_all c.args.dirs.now c.loop-d.d-index d c.loop-d-test.false k)

@@ -6,21 +6,19 @@ use Rattle.table_repair.proofs.Rows.{block_waits, block_next, block_done}
 use Rattle.table_repair.proofs.Totals.{few_rows, counted_rows, later_on, short}
 use Rattle.table_repair.proofs.sweep.sweep.Goals as goal
 
-pub sweep_row-changed-requires-clause-row : goal.sweep_row-changed-requires-clause-row
-sweep_row-changed-requires-clause-row g c =
+pub sweep_row-changed-requires : goal.sweep_row-changed-requires
+sweep_row-changed-requires g c =
     let i = c.loop-y.invariant in
     let taken = taken_told c.goes_down.ensures c.loop-y.left c.in-Some.is c.take_far.ensures.taken
     c.take_far.ensures.rest in
     let there = among_parts c.args.rows c.in-Some.y (i.within c.in-Some.y taken.member) in
     let below = c.requires.rows in
-    omega arith
-
-pub sweep_row-changed-requires-clause-waits : goal.sweep_row-changed-requires-clause-waits
-sweep_row-changed-requires-clause-waits g c =
-    let i = c.loop-y.invariant in
-    let taken = taken_told c.goes_down.ensures c.loop-y.left c.in-Some.is c.take_far.ensures.taken
-    c.take_far.ensures.rest in
-    block_waits c.args.rows c.args.columns i.swept i.within taken c.requires.waits
+    record {
+      ready = i.swept.ready;
+      row = omega arith;
+      columns = c.requires.columns;
+      waits = block_waits c.args.rows c.args.columns i.swept i.within taken c.requires.waits;
+    }
 
 pub loop-y-preserved : goal.loop-y-preserved
 loop-y-preserved g c =

@@ -11,7 +11,7 @@ mend_abreast-changed-requires-clause-right g c =
     let l = c.piece-test.true in
     piece_right c.args.y c.args.columns c.piece.first c.requires.diagonal i.begun i.swept c.min-end.result
     (omega arith) (omega arith)
-    c.requires.row c.requires.columns c.requires.waits
+    c.requires.can.row c.requires.can.columns c.requires.can.waits
 
 pub piece-preserved : goal.piece-preserved
 piece-preserved g c =
@@ -30,6 +30,15 @@ piece-preserved g c =
       later = later_on i.later c.mend_abreast-changed.ensures.later;
     }
 
-pub returns-clause-sweeps : goal.returns-clause-sweeps
-returns-clause-sweeps g c = pieces_done c.args.y c.args.columns c.piece.first c.piece.invariant.swept
-    c.piece-test.false
+pub returns : goal.returns
+returns g c =
+    let i = c.piece.invariant in
+    let few = i.few in
+    let counted = i.counted in
+    record {
+      mends = i.swept.mends;
+      sweeps = pieces_done c.args.y c.args.columns c.piece.first i.swept c.piece-test.false;
+      few = omega arith;
+      steps = omega arith;
+      later = i.later;
+    }

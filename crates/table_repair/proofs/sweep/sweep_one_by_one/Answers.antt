@@ -1,5 +1,5 @@
 -- Each column taken is one piece more.
-use Rattle.std.proofs.Common.{sym, ◌∙◌}
+use Rattle.std.proofs.Common.{arith, sym, ◌∙◌}
 use Rattle.table_repair.proofs.Sweeping.{taken_told, none_taken}
 use Rattle.table_repair.proofs.Rows.{row_inside, row_right, row_next, row_done}
 use Rattle.table_repair.proofs.Totals.{few_more, counted_more, later_on}
@@ -39,8 +39,16 @@ loop-x-preserved g c =
       later = later_on i.later c.mend-changed.ensures.later;
     }
 
-pub returns-clause-sweeps : goal.returns-clause-sweeps
-returns-clause-sweeps g c =
+pub returns : goal.returns
+returns g c =
     let i = c.loop-x.invariant in
-    row_done c.args.y c.args.columns c.loop-x.left i.swept (none_taken c.goes_right.result c.loop-x.left
-    (sym c.take_far.ensures.taken ∙ c.in_default.is))
+    let few = i.few in
+    let counted = i.counted in
+    record {
+      mends = i.swept.mends;
+      sweeps = row_done c.args.y c.args.columns c.loop-x.left i.swept (none_taken c.goes_right.result
+          c.loop-x.left (sym c.take_far.ensures.taken ∙ c.in_default.is));
+      few = omega arith;
+      steps = omega arith;
+      later = i.later;
+    }

@@ -1,9 +1,9 @@
 -- Walk by walk.
-use Rattle.std.proofs.Common.{ap, ◌∙◌}
+use Rattle.std.proofs.Common.{arith, ap, ◌∙◌}
 use Rattle.arrayvec.specs.ArrayVec.{ArrayVec}
 use Rattle.table_repair.specs.declared.walks.Walk.{Walk}
 use Rattle.table_repair.proofs.InPlace.{place_begins, place_next}
-use Rattle.table_repair.proofs.InPlace.{place_ends}
+use Rattle.table_repair.proofs.InPlace.{place_ends, led, led_behind, led_fewer}
 use Rattle.table_repair.proofs.walks.lead_on.Goals as goal
 use Rattle.table_repair.proofs.walks.lead_on.Goals.{in-Some, in_default}
 
@@ -25,3 +25,29 @@ loop-i-preserved g c =
           c.walk_on.ensures.follows c.walk_on.ensures.onward c.walk_on.ensures.step c.walk_on.ensures.later
           w.in_default.is (ap (λ (v : ArrayVec Walk). v.items) w.walks-is) w.onward-is
     ]
+
+pub returns-clause-abreast : goal.returns-clause-abreast
+returns-clause-abreast g c = (led c.loop-i.invariant (rw c.len-all.ensures.value at c.loop-i-test.false)
+    c.truncate.ensures.items).abreast
+
+pub returns-clause-room : goal.returns-clause-room
+returns-clause-room g c = (led c.loop-i.invariant (rw c.len-all.ensures.value at c.loop-i-test.false)
+    c.truncate.ensures.items).few
+
+pub returns-clause-later : goal.returns-clause-later
+returns-clause-later g c = (led c.loop-i.invariant (rw c.len-all.ensures.value at c.loop-i-test.false)
+    c.truncate.ensures.items).later
+
+pub returns-clause-behind : goal.returns-clause-behind
+returns-clause-behind g c = led_behind c.loop-i.invariant
+    (rw c.len-all.ensures.value at c.loop-i-test.false) c.truncate.ensures.items
+
+pub returns-clause-fewer : goal.returns-clause-fewer
+returns-clause-fewer g c = led_fewer c.loop-i.invariant
+    (rw c.len-all.ensures.value at c.loop-i-test.false) c.truncate.ensures.items
+
+pub returns-clause-steps : goal.returns-clause-steps
+returns-clause-steps g c =
+    let counted = (led c.loop-i.invariant (rw c.len-all.ensures.value at c.loop-i-test.false)
+    c.truncate.ensures.items).counted in
+    omega arith

@@ -18,7 +18,14 @@ pub lead_on-requires-clause-right : goal.lead_on-requires-clause-right
 lead_on-requires-clause-right g c = λ w k. (c.round.invariant.abreast.mended w k).right
 
 pub overflow_add-changed : goal.overflow_add-changed
-overflow_add-changed g c = grind (arith, nat_tests, room_few)
+overflow_add-changed g c =
+    let few = c.round.invariant.few in
+    let room = room_few c.args.grid.now c.args.d c.args.walks.now.items c.requires.ready.grid
+    c.requires.inside in
+    let short = c.requires.short in
+    let less = c.lead_on.ensures.room in
+    let len = c.len.ensures.value in
+    omega arith
 
 pub round-smaller : goal.round-smaller
 round-smaller g c = grind (arith, room_left)
@@ -31,10 +38,15 @@ pub returns-clause-abreast : goal.returns-clause-abreast
 returns-clause-abreast g c = c.round.invariant.abreast
 
 pub returns-clause-none : goal.returns-clause-none
-returns-clause-none g c = grind (arith, nat_tests, nil_from_length)
+returns-clause-none g c = nil_from_length c.round.walks.items
+    (let t = c.round-test.false in let f = c.is_empty.ensures in grind (arith, nat_tests))
 
 pub returns-clause-few : goal.returns-clause-few
-returns-clause-few g c = grind (arith, nat_tests, room_few)
+returns-clause-few g c =
+    let few = c.round.invariant.few in
+    let room = room_few c.args.grid.now c.args.d c.args.walks.now.items c.requires.ready.grid
+    c.requires.inside in
+    omega arith
 
 pub returns-clause-steps : goal.returns-clause-steps
 returns-clause-steps g c = let counted = c.round.invariant.counted in omega arith

@@ -1,10 +1,8 @@
 -- The entry behind is refreshed, and the walk goes on or ends.
-use Rattle.std.proofs.Common.{arith}
-use Rattle.std.proofs.lemmas.Bool.Decides.{nat_tests}
 use Rattle.std.proofs.Common.{sym, ◌∙◌}
 use Rattle.table_repair.proofs.Lines.{behind_on-is}
 use Rattle.table_repair.proofs.Walking.{rests_right}
-use Rattle.table_repair.proofs.Onward.{follows_stay, mends_one, follows_on}
+use Rattle.table_repair.proofs.Onward.{follows_end, follows_stay, mends_one, follows_on, onward_told}
 use Rattle.table_repair.proofs.walks.walk_on.Goals as goal
 
 pub refresh-requires-clause-rests : goal.refresh-requires-clause-rests
@@ -26,5 +24,19 @@ returns-then-refresh-clause-follows g c =
     c.requires.right c.in-Some.before (sym c.cell_before.ensures ∙ c.in-Some.is)
     c.refresh.ensures.is (c.refresh.ensures.changed c.if-refresh.true)
 
+pub returns-then-refresh-clause-onward : goal.returns-then-refresh-clause-onward
+returns-then-refresh-clause-onward g c =
+    onward_told c.args.walk.at c.requires.ready c.requires.inside
+    c.requires.right c.in-Some.before (sym c.cell_before.ensures ∙ c.in-Some.is)
+    c.refresh.ensures.is (c.refresh.ensures.changed c.if-refresh.true)
+
 pub returns-else-refresh-clause-follows : goal.returns-else-refresh-clause-follows
-returns-else-refresh-clause-follows g c = grind (arith, nat_tests, follows_stay)
+returns-else-refresh-clause-follows g c =
+    follows_stay c.args.walk.at c.requires.ready c.requires.inside
+    c.requires.right c.in-Some.before (sym c.cell_before.ensures ∙ c.in-Some.is)
+    c.refresh.ensures.is (c.refresh.ensures.stayed c.if-refresh.false)
+
+pub returns-in_default-clause-follows : goal.returns-in_default-clause-follows
+returns-in_default-clause-follows g c =
+    follows_end c.args.walk.at c.requires.ready c.requires.inside
+    c.requires.right (sym c.cell_before.ensures ∙ c.in_default.is)
