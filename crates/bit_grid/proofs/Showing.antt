@@ -1,9 +1,8 @@
 -- Lines that show a map: a block of them, and one bit set.
 use Rattle.std.proofs.Common.{◌≡◌, ◌≢◌, ℕ, zero, suc, ◌+◌, ◌-◌, ◌*◌, ◌/◌, ◌%◌, ◌<◌, ◌≤◌, arith, Bool, true}
 use Rattle.std.proofs.Common.{false, ◌&&◌, refl, ap, sym, ◌∙◌, List, length, slice_index_or, slice_set}
-use Rattle.std.proofs.Common.{nat_eq, take, drop, get_or-set_same, get_or-set_other}
+use Rattle.std.proofs.Common.{nat_eq, get_or-set_same, get_or-set_other}
 use Rattle.std.specs.Prelude.{if◌then◌else◌}
-use Rattle.std.proofs.lemmas.List.{get_or-drop, get_or-take}
 use Rattle.std.proofs.lemmas.Nat.{same_from_place, mul-add-lt}
 use Rattle.std.proofs.lemmas.Bool.Decides.{nat_tests}
 use Rattle.grid_moves.specs.declared.Cell.{Cell}
@@ -12,18 +11,30 @@ use Rattle.grid_moves.proofs.Edited.{is_free-with_same, is_free-with_other}
 use Rattle.bit_grid.specs.Bits.{LineData, BitData, Shows, AreBitsOf, IsOnMap, is_set, with_cell}
 use Rattle.bit_grid.specs.Bits.{is_free_from_one}
 
--- eight words from the start of a block on
+-- the eight words of a block, and of the same block in the line before and in the one after
+pub block_inside : (lines blocks line index start : ℕ) (words : List ℕ) → length words ≡ lines * (blocks * 8)
+    → line < lines → index < blocks → start ≡ (line * blocks + index) * 8 → start + 8 ≤ length words
+block_inside lines blocks line index start words whole a b s =
+    let within : line * blocks + index < blocks * lines = mul-add-lt line blocks index lines a b in
+    omega (arith, within, whole, s)
+
+pub block_before : (line blocks index : ℕ) → 1 ≤ line
+    → line * (blocks * 8) + index * 8 - blocks * 8 ≡ ((line - 1) * blocks + index) * 8
+block_before zero blocks index h = absurd (omega arith)
+block_before (suc n) blocks index h =
+    let one_less : suc n - 1 ≡ n = omega arith in
+    rw one_less (omega arith)
+
 pub lane_shown : (l : LineData) (line index lines positions : ℕ) (free : ℕ → ℕ → Bool)
-    → Shows l lines positions free → line < l.lines → index < l.blocks → (start n : ℕ) (words : List ℕ)
-    → start ≡ (line * l.blocks + index) * 8 → 8 ≤ n → words ≡ l.words → (k j : ℕ) → k < 8 → j < 64
-    → is_set (slice_index_or (take n (drop start words)) k 0) j ≡ free line (index * 512 + k * 64 + j)
-lane_shown l line index lines positions free shows a b start n words s m is k j h i =
-    let below : k < n = omega arith in
+    → Shows l lines positions free → line < l.lines → index < l.blocks → (start : ℕ) (words eight : List ℕ)
+    → start ≡ (line * l.blocks + index) * 8 → words ≡ l.words
+    → ((k : ℕ) → k < 8 → slice_index_or eight k 0 ≡ slice_index_or words (start + k) 0)
+    → (k j : ℕ) → k < 8 → j < 64 → is_set (slice_index_or eight k 0) j ≡ free line (index * 512 + k * 64 + j)
+lane_shown l line index lines positions free shows a b start words eight s is same k j h i =
     let place : start + k ≡ line * (l.blocks * 8) + (index * 8 + k) = omega (arith, s) in
     let within : index * 8 + k < l.blocks * 8 = omega arith in
     let position : (index * 8 + k) * 64 + j ≡ index * 512 + k * 64 + j = omega arith in
-    ap (λ (n : ℕ). is_set n j) (get_or-take n (drop start words) k 0 below
-    ∙ get_or-drop start words k 0
+    ap (λ (n : ℕ). is_set n j) (same k h
     ∙ ap (λ (m : ℕ). slice_index_or words m 0) place
     ∙ ap (λ (ws : List ℕ). slice_index_or ws (line * (l.blocks * 8) + (index * 8 + k)) 0) is)
     ∙ shows.bits line (index * 8 + k) j a within i

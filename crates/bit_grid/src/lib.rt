@@ -12,5 +12,5 @@ mod pack;
 mod turn;
 
 pub use grid::BitGrid;
-pub use lines::{Columns, Lines, Rows, ThreeWords};
+pub use lines::{Columns, Lines, Rows, ThreeLanes, ThreeWords};
 pub use std::alloc::AllocError as NoMemory;

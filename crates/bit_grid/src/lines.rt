@@ -26,6 +26,16 @@ fn with_bit(word: u64, place: u32, free: bool) -> u64
     }
 }
 
+// The eight words from a place on.
+#[inline(always)]
+fn eight_from(words: &[u64], start: usize) -> &[u64]
+    requires { start + 8 ≤ length words.now }
+    ensures eight { length result.now ≡ 8 }
+    ensures same { (k : ℕ) → k < 8 → slice_index_or result.now k 0 ≡ slice_index_or words.now (start + k) 0 }
+{
+    &words[start..start + 8]
+}
+
 /// Lines of bits side by side, each in blocks of 512.
 #[derive(Drop)]
 pub struct Lines {
@@ -40,6 +50,14 @@ pub struct ThreeWords {
     pub middle: u64,
     pub before: u64,
     pub after: u64,
+}
+
+/// The same block of a line, of the line before it and of the line after it, eight words each.
+#[derive(Clone, Copy)]
+pub struct ThreeLanes<'a> {
+    pub middle: &'a [u64],
+    pub before: &'a [u64],
+    pub after: &'a [u64],
 }
 
 /// The rows of a grid: line `l` is row `l - 1`, and its bit `p` column `p - 1`.
@@ -143,7 +161,7 @@ impl Lines {
 
     /// A block of a line, both counted from 0: its eight words, where bit `j` of word `k` is the line's bit
     /// `512·index + 64·k + j`. It counts one step for each block that it hands out, however many of its words
-    /// are read. Bits are read so, or by `three`.
+    /// are read. Bits are read so, or by `three_lanes` or `three`.
     #[inline(always)]
     pub fn lane<L: Ledger>(&self, line: u32, index: u32, steps: &mut Steps<L>) -> &[u64]
         requires line { line < self.now.lines }
@@ -155,8 +173,47 @@ impl Lines {
         ensures one_step { steps.new ≡ steps.old + 1 }
     {
         steps.tick();
-        let start = (line as usize * self.blocks as usize + index as usize) * 8;
-        &self.words[start..start + 8]
+        eight_from(
+            &self.words,
+            (line as usize * self.blocks as usize + index as usize) * 8,
+        )
+    }
+
+    /// A block of a line and the same of the two lines beside it, as `lane` hands them out, by one product. It
+    /// counts three steps.
+    #[inline(always)]
+    pub fn three_lanes<L: Ledger>(
+        &self,
+        line: u32,
+        index: u32,
+        steps: &mut Steps<L>,
+    ) -> ThreeLanes<'_>
+        requires first { 1 ≤ line }
+        requires last { line + 1 < self.now.lines }
+        requires index { index < self.now.blocks }
+        ensures eight { (length result.middle.now ≡ 8) × (length result.before.now ≡ 8)
+            × (length result.after.now ≡ 8) }
+        ensures middle { (lines positions : ℕ) (free : ℕ → ℕ → Bool) → Shows self.now lines positions free
+            → (k j : ℕ) → k < 8 → j < 64
+            → is_set (slice_index_or result.middle.now k 0) j ≡ free line (index * 512 + k * 64 + j) }
+        ensures before { (lines positions : ℕ) (free : ℕ → ℕ → Bool) → Shows self.now lines positions free
+            → (k j : ℕ) → k < 8 → j < 64
+            → is_set (slice_index_or result.before.now k 0) j ≡ free (line - 1) (index * 512 + k * 64 + j) }
+        ensures after { (lines positions : ℕ) (free : ℕ → ℕ → Bool) → Shows self.now lines positions free
+            → (k j : ℕ) → k < 8 → j < 64
+            → is_set (slice_index_or result.after.now k 0) j ≡ free (line + 1) (index * 512 + k * 64 + j) }
+        ensures three_steps { steps.new ≡ steps.old + 3 }
+    {
+        steps.tick();
+        steps.tick();
+        steps.tick();
+        let per_line = self.blocks as usize * 8;
+        let start = line as usize * per_line + index as usize * 8;
+        ThreeLanes {
+            middle: eight_from(&self.words, start),
+            before: eight_from(&self.words, start - per_line),
+            after: eight_from(&self.words, start + per_line),
+        }
     }
 
     /// The words of this number of a line and of the two beside it, where bit `j` is each line's bit

@@ -1,8 +1,8 @@
 -- The cells around a cell, told by bits of three rows.
 use Rattle.std.proofs.lemmas.Bool.Decides.{nat_tests}
 use Rattle.std.proofs.lemmas.Grind.{common_steps}
-use Rattle.std.proofs.Common.{◌≡◌, ℕ, zero, suc, ◌+◌, ◌/◌, ◌%◌, ◌^◌, ◌<◌, arith, Bool, true, ◌&&◌, refl, ap}
-use Rattle.std.proofs.Common.{sym, ◌∙◌}
+use Rattle.std.proofs.Common.{◌≡◌, ℕ, zero, suc, ◌+◌, ◌*◌, ◌/◌, ◌%◌, ◌^◌, ◌<◌, arith, Bool, true, ◌&&◌, ap}
+use Rattle.std.proofs.Common.{refl, sym, ◌∙◌}
 use Rattle.std.specs.Prelude.{nat_eq}
 use Rattle.std.proofs.lemmas.Nat.{shr-shr}
 use Rattle.grid_moves.specs.declared.Cell.{Cell}
@@ -37,6 +37,14 @@ three_of f first word inner lowest a b c e g h k l m n o (suc (suc zero)) i =
     l 1 (omega arith) ∙ n 0 (omega arith) ∙ o ∙ h
 three_of f first word inner lowest a b c e g h k l m n o (suc (suc (suc j))) i =
     absurd (omega arith)
+
+-- three bits that lie in one word
+pub three_in_word : (f : ℕ → Bool) (first word bits : ℕ) → first % 64 < 62
+    → ((j : ℕ) → j < 64 → is_set word j ≡ f (first / 64 * 64 + j))
+    → ((j : ℕ) → is_set bits j ≡ is_set word (first % 64 + j)) → (j : ℕ) → j < 3 → is_set bits j ≡ f (first + j)
+three_in_word f first word bits few there from j i =
+    let place : first / 64 * 64 + (first % 64 + j) ≡ first + j = omega arith in
+    from j ∙ there (first % 64 + j) (omega arith) ∙ ap f place
 
 pub three_at : (f : ℕ → ℕ → Bool) (line first line' first' word : ℕ) → line ≡ line' → first ≡ first'
     → AreThree f line first word → AreThree f line' first' word

@@ -24,6 +24,12 @@ AreNearStart l line place w = (free : ℕ → ℕ → Bool) → IsStart l free l
 abbrev pub AreThree : (ℕ → ℕ → Bool) → ℕ → ℕ → ℕ → Type 0
 AreThree free line first word = (j : ℕ) → j < 3 → is_set word j ≡ free line (first + j)
 
+-- and those of the lines beside it
+pub record AreThreeBeside (free : ℕ → ℕ → Bool) (line first : ℕ) (w : ThreeWords) : Type 0 where
+  pub middle : AreThree free line first w.middle
+  pub before : AreThree free (line - 1) first w.before
+  pub after : AreThree free (line + 1) first w.after
+
 -- the side to which a way across the lines leads
 abbrev pub side_word : Way → ThreeWords → ℕ
 side_word Forward w = w.after

@@ -163,7 +163,6 @@ impl<'a> Block<'a> {
         steps: &mut Steps<L>,
     ) -> Block<'a>
         requires line { 1 ≤ line }
-        requires few { line < 65536 }
         requires inside { line + 1 < lines.now.lines }
         requires index { index < lines.now.blocks }
         ensures shown { (count positions : ℕ) (free : ℕ → ℕ → Bool) → Shows lines.now count positions free
@@ -172,10 +171,11 @@ impl<'a> Block<'a> {
         ensures eight { AreEight result }
         ensures three_steps { steps.new ≡ steps.old + 3 }
     {
+        let lanes = lines.three_lanes(line, index, steps);
         Block {
-            middle: lines.lane(line, index, steps),
-            before: lines.lane(line - 1, index, steps),
-            after: lines.lane(line + 1, index, steps),
+            middle: lanes.middle,
+            before: lanes.before,
+            after: lanes.after,
         }
     }
 

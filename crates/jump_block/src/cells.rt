@@ -4,11 +4,11 @@ ghost use Rattle.std.specs.Prelude.{◌≡◌, ℕ, suc, ◌+◌, ◌*◌, ◌/�
 ghost use Rattle.grid_moves.specs.Move as moves;
 ghost use Rattle.grid_moves.specs.Ring.{is_free_on};
 ghost use Rattle.bit_grid.specs.Bits.{Shows, is_set};
-ghost use Rattle.jump_block.specs.Near.{AreThree};
+ghost use Rattle.jump_block.specs.Near.{AreThree, AreThreeBeside};
 ghost use Rattle.jump_block.specs.Source.{OnSome, OnEach};
 
 use crate::straight::Bits;
-use bit_grid::Lines;
+use bit_grid::{Lines, ThreeWords};
 use grid_moves::{Cell, Ring};
 use std::sync::ledger::Ledger;
 use steps::Steps;
@@ -82,20 +82,31 @@ fn three_apart<L: Ledger>(lines: &Lines, line: u32, first: u32, steps: &mut Step
     with_lowest(with_lowest(u64::from(last), next), zeroth)
 }
 
-// The three bits of a line from this one on.
+// The three bits of a line from this one on, and those of the lines beside it.
 #[inline(always)]
-fn three<L: Ledger>(lines: &Lines, line: u32, first: u32, steps: &mut Steps<L>) -> u64
-    requires line { line < lines.now.lines }
+fn three_beside<L: Ledger>(lines: &Lines, line: u32, first: u32, steps: &mut Steps<L>) -> ThreeWords
+    requires line { 1 ≤ line }
+    requires few { line ≤ 65536 }
+    requires inside { line + 1 < lines.now.lines }
     requires places { first + 2 < lines.now.blocks * 512 }
     requires small { first + 2 < 65536 }
     ensures shown { (count positions : ℕ) (free : ℕ → ℕ → Bool) → Shows lines.now count positions free
-        → AreThree free line first result }
-    ensures some { steps.old + 1 ≤ steps.new }
+        → AreThreeBeside free line first result }
+    ensures some { steps.old + 3 ≤ steps.new }
 {
     if first % 64 < 62 {
-        from_bit(word_with(lines, line, first, steps), first % 64)
+        let words = lines.three(line, first / 64, steps);
+        ThreeWords {
+            middle: from_bit(words.middle, first % 64),
+            before: from_bit(words.before, first % 64),
+            after: from_bit(words.after, first % 64),
+        }
     } else {
-        three_apart(lines, line, first, steps)
+        ThreeWords {
+            middle: three_apart(lines, line, first, steps),
+            before: three_apart(lines, line - 1, first, steps),
+            after: three_apart(lines, line + 1, first, steps),
+        }
     }
 }
 
@@ -108,18 +119,20 @@ impl<'a> Bits<'a> {
         ensures fewest { steps.old + 3 ≤ steps.new }
     {
         let (x, y) = (u32::from(at.x), u32::from(at.y));
-        let above = three(self.rows, y, x, steps);
-        let middle = three(self.rows, y + 1, x, steps);
-        let below = three(self.rows, y + 2, x, steps);
+        let ThreeWords {
+            middle,
+            before,
+            after,
+        } = three_beside(self.rows, y + 1, x, steps);
         Ring {
-            n: is_set(above, 1),
-            ne: is_set(above, 2),
+            n: is_set(before, 1),
+            ne: is_set(before, 2),
             e: is_set(middle, 2),
-            se: is_set(below, 2),
-            s: is_set(below, 1),
-            sw: is_set(below, 0),
+            se: is_set(after, 2),
+            s: is_set(after, 1),
+            sw: is_set(after, 0),
             w: is_set(middle, 0),
-            nw: is_set(above, 0),
+            nw: is_set(before, 0),
         }
     }
 }

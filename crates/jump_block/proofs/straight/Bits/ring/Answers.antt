@@ -1,4 +1,4 @@
-use Rattle.std.proofs.Common.{ℕ, ◌+◌, ap}
+use Rattle.std.proofs.Common.{◌≡◌, ℕ, ◌+◌, ◌-◌, arith, ap}
 use Rattle.jump_block.specs.Source.{by_rows}
 use Rattle.jump_block.proofs.Rings.{ring_read, three_at}
 use Rattle.jump_block.proofs.straight.Bits.ring.Goals as goal
@@ -7,12 +7,13 @@ pub returns-clause-around : goal.returns-clause-around
 returns-clause-around g c = λ grid are free.
     let column = c.from-x.ensures in
     let row = c.from-y.ensures in
+    let above : c.from-y.result + 1 - 1 ≡ c.args.at.y = omega (arith, row) in
+    let below : c.from-y.result + 1 + 1 ≡ c.args.at.y + 2 = omega (arith, row) in
+    let three = c.three_beside-middle.ensures.shown _ _ _ are.are_rows in
     ring_read grid c.args.at _ _ _ _
-    (three_at (by_rows grid) _ _ _ _ _ row column (c.three-above.ensures.shown _ _ _ are.are_rows))
-    (three_at (by_rows grid) _ _ _ _ _ (ap (λ (n : ℕ). n + 1) row) column
-    (c.three-middle.ensures.shown _ _ _ are.are_rows))
-    (three_at (by_rows grid) _ _ _ _ _ (ap (λ (n : ℕ). n + 2) row) column
-    (c.three-below.ensures.shown _ _ _ are.are_rows))
+    (three_at (by_rows grid) _ _ _ _ _ above column three.before)
+    (three_at (by_rows grid) _ _ _ _ _ (ap (λ (n : ℕ). n + 1) row) column three.middle)
+    (three_at (by_rows grid) _ _ _ _ _ below column three.after)
     c.is_set.ensures c.is_set-2.ensures c.is_set-3.ensures c.is_set-4.ensures c.is_set-5.ensures
     c.is_set-6.ensures
     c.is_set-7.ensures c.is_set-8.ensures
