@@ -1,6 +1,3 @@
-use Rattle.std.proofs.Common.{ℕ, ◌+◌, ◌*◌, ◌≤◌, arith, subst, sym}
-use Rattle.pruning.specs.Source.{MostSteps, IsWithin}
-use Rattle.search_core.specs.Counting.{most_for_state}
 use Rattle.edit_replay.proofs.Answering.{found_right}
 use Rattle.edit_replay.proofs.Counts.{all_taken, found_by_jumps, has_places, rose_away}
 use Rattle.edit_replay.proofs.search.search_by_jumps.Goals as goal
