@@ -1,19 +1,23 @@
 -- The steps of a search, counted by the states of its reply.
 use Rattle.std.proofs.Common.{◌≡◌, ℕ, zero, suc, ◌+◌, ◌-◌, ◌*◌, ◌<◌, ◌≤◌, List, ◌∷◌, length, map, reverse, ap}
-use Rattle.std.proofs.Common.{◌∙◌, arith, refl, true, false, ◌&&◌, ◌⊎◌, inr}
+use Rattle.std.proofs.Common.{◌∙◌, arith, refl, true}
 use Rattle.std.specs.Prelude.{Option, Some, None, MatchOption}
 use Rattle.std.proofs.lemmas.List.{length-map, length-reverse}
 use Rattle.root2_cost.specs.declared.Cost.{Cost}
 use Rattle.grid_moves.specs.declared.Cell.{Cell}
+use Rattle.grid_moves.specs.declared.ends.Unsearched.{Unsearched}
+use Rattle.grid_moves.specs.declared.ends.Unsearched.TheVariants as why
 use Rattle.grid_moves.specs.Grid.{GridData, is_free}
-use Rattle.grid_moves.specs.Reply.{StandsForLeast}
-use Rattle.grid_moves.specs.Walk.{NoWalk}
-use Rattle.path_points.specs.Least.{IsLeastOrNone}
 use Rattle.path_points.specs.declared.points.Walk.{Walk}
 use Rattle.best_first.specs.State.{state_number}
 use Rattle.best_first.specs.Space.{SpaceData}
+use Rattle.plain_search.specs.Answer as plain
 use Rattle.search_core.specs.Answer.{IsFound, IsExhausted}
 use Rattle.search_core.specs.Room.{HasPlaces}
+use Rattle.edit_replay.specs.Counting.{RoseByStates, RoseWithin, states_taken}
+use Rattle.edit_replay.specs.Found.{reply_with, reply_without}
+use Rattle.edit_replay.specs.Replies.{IsJumpReply, IsRunOn}
+use Rattle.edit_replay.specs.declared.engine.Engine.TheVariants.{Plain}
 
 numbered : {A : Type 0} (number : A → ℕ) (x : A) (xs : List A)
     → length (reverse (map number (x ∷ xs))) ≡ suc (length xs)
@@ -36,15 +40,46 @@ but_the_last fewest old new (suc n) some rose =
     let less : suc n - 1 ≡ n = omega arith in
     rw less (omega arith)
 
-pub rose_away : (g : GridData) (s t : Cell) (walk : Option Walk) (taken : List ℕ) (w : Walk)
-    (fewest old new : ℕ)
-    → walk ≡ Some w → MatchOption walk (IsExhausted g s t taken) (λ v. IsFound g s t v.points v.cost taken)
+pub rose_away : (g : GridData) (s t : Cell) (walk : Option Walk) (taken : List ℕ) (fewest old new : ℕ)
+    → MatchOption walk (IsExhausted g s t taken) (λ v. IsFound g s t v.points v.cost taken)
     → MatchOption walk (old + length taken * fewest ≤ new) (λ _. old + length taken * fewest ≤ new + fewest)
-    → old + (length taken - 1) * fewest ≤ new
-rose_away g s t walk taken w fewest old new is run rose =
-    let found : IsFound g s t w.points w.cost taken = rw is at run in
-    let all : old + length taken * fewest ≤ new + fewest = rw is at rose in
-    but_the_last fewest old new (length taken) (some_taken g s t w.points w.cost taken found) all
+    → RoseByStates fewest old new (reply_with walk taken)
+rose_away g s t (Some w) taken fewest old new run rose =
+    but_the_last fewest old new (length taken) (some_taken g s t w.points w.cost taken run) rose
+rose_away g s t None taken fewest old new run rose = rose
+
+-- all states were taken
+pub all_taken : (walk : Option Walk) (taken : List ℕ) → states_taken (reply_with walk taken) ≡ length taken
+all_taken (Some w) taken = refl
+all_taken None taken = refl
+
+-- the reply tells what was found by jumps
+pub found_by_jumps : (g : GridData) (s t : Cell) (walk : Option Walk) (taken : List ℕ)
+    → MatchOption walk (IsExhausted g s t taken) (λ v. IsFound g s t v.points v.cost taken)
+    → IsJumpReply g s t (reply_with walk taken)
+found_by_jumps g s t (Some w) taken run = run
+found_by_jumps g s t None taken run = run
+
+-- or by the plain engine
+pub found_plainly : (g : GridData) (s t : Cell) (walk : Option Walk) (taken : List ℕ)
+    → is_free g s ≡ true → is_free g t ≡ true
+    → MatchOption walk (plain.IsExhausted g s t taken) (λ v. plain.IsFound g s t v.points v.cost taken)
+    → IsRunOn Plain g s t (reply_with walk taken)
+found_plainly g s t (Some w) taken from to run = run
+found_plainly g s t None taken from to run = rw (from, to) run
+
+-- where nothing is searched, nothing is counted
+pub none_within : (most : Option ℕ) (old : ℕ) (reason : Unsearched)
+    → RoseWithin most old old (reply_without reason)
+none_within None old reason = tt
+none_within (Some told) old why.Outside = omega arith
+none_within (Some told) old why.Blocked = omega arith
+none_within (Some told) old (why.Apart ends) = omega arith
+
+pub none_away : (fewest old : ℕ) (reason : Unsearched) → RoseByStates fewest old old (reply_without reason)
+none_away fewest old why.Outside = omega arith
+none_away fewest old why.Blocked = omega arith
+none_away fewest old (why.Apart ends) = omega arith
 
 -- memory for a grid serves each other one of its sides
 pub has_places : (g h : GridData) (width height : ℕ) (space : SpaceData) → width ≡ g.width → width ≡ h.width
@@ -53,14 +88,3 @@ has_places g h width height space wide wide_too high high_too places = record {
   layout = places.layout;
   enough = rw (← wide_too, ← high_too, wide, high) places.enough;
 }
-
--- a least walk between free cells is right
-pub right_found : (g : GridData) (s t : Cell) (walk : Option Walk) (w : Walk) → walk ≡ Some w
-    → is_free g s ≡ true → is_free g t ≡ true → IsLeastOrNone g s t walk
-    → ((is_free g s && is_free g t) ≡ true) × StandsForLeast g s t w.points w.cost
-right_found g s t walk w is from to least = (rw (from, to) refl, rw is at least)
-
--- that no walk exists is right
-pub right_none : (g : GridData) (s t : Cell) (walk : Option Walk) → walk ≡ None → IsLeastOrNone g s t walk
-    → ((is_free g s && is_free g t) ≡ false) ⊎ NoWalk g s t
-right_none g s t walk is least = inr (rw is at least)

@@ -4,5 +4,6 @@ pub mod Kept
 pub mod Mended
 pub mod Counting
 pub mod Replies
+pub mod Found
 pub mod Existence
 pub mod Oneness

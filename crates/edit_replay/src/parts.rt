@@ -1,8 +1,8 @@
 //! What a session has, and its searches and edits.
 
 ghost use Rattle.std.specs.Prelude.{◌≡◌, ◌+◌, ◌≤◌, ℕ, true, IfOk};
-ghost use Rattle.grid_moves.specs.Grid.{grid_with, is_free, is_ground, is_inside};
-ghost use Rattle.grid_moves.specs.Layers.{is_on_map, query_grid};
+ghost use Rattle.grid_moves.specs.Grid.{grid_with, is_ground, is_inside};
+ghost use Rattle.grid_moves.specs.Layers.{in_one_layer, is_on_map, query_grid};
 ghost use Rattle.plus_tables.specs.Tables.{AreTablesOf};
 ghost use Rattle.edit_replay.specs.Counting.{RoseByStates, RoseWithin, fewest_of, most_of};
 ghost use Rattle.edit_replay.specs.Kept.{AreKept, Serves, engine_of, as_layers};
@@ -12,8 +12,7 @@ ghost use Rattle.edit_replay.specs.Replies.{IsRightOn, IsRunOn};
 use crate::kept::{Both, Finder, Kept};
 use crate::search::{jump, search_plainly};
 use crate::{Engine, NoMemory, Reply};
-use grid_moves::{Cell, Grid, Ground, Terrain};
-use plain_search::Taken;
+use grid_moves::{Cell, Ends, Grid, Ground, Terrain};
 use plus_tables::Tables;
 use std::alloc::Global;
 use std::sync::ledger::Ledger;
@@ -87,19 +86,19 @@ impl Parts {
         }
     }
 
-    /// The reply to a query that starts in a free cell of the map, by the engine's run on the grid of this
-    /// cell's ground. Where it ends in no free cell of that grid, nothing is searched.
+    /// The reply to a query between two free cells of one layer, by the engine's run on its grid.
     pub(crate) fn search<L: Ledger>(
         &mut self,
         alloc: Global,
-        from: Cell,
-        to: Cell,
+        ends: Ends,
         steps: &mut Steps<L>,
     ) -> Result<Reply, NoMemory>
         requires kept { AreKept self.old }
-        requires from { is_free (query_grid (as_layers self.old.grids) from) from ≡ true }
-        ensures right { IfOk result (IsRightOn (query_grid (as_layers self.old.grids) from) from to) }
-        ensures run { IfOk result (IsRunOn (engine_of self.old.kept) (query_grid (as_layers self.old.grids) from) from to) }
+        requires one { in_one_layer (as_layers self.old.grids) ends.from ends.to ≡ true }
+        ensures right { IfOk result
+            (IsRightOn (query_grid (as_layers self.old.grids) ends.from) ends.from ends.to) }
+        ensures run { IfOk result (IsRunOn (engine_of self.old.kept)
+            (query_grid (as_layers self.old.grids) ends.from) ends.from ends.to) }
         ensures most { IfOk result (RoseWithin (most_of (engine_of self.old.kept)) steps.old steps.new) }
         ensures fewest { IfOk result (RoseByStates (fewest_of (engine_of self.old.kept)) steps.old steps.new) }
         ensures uncounted { engine_of self.old.kept ≡ Engine.Plain → steps.new ≡ steps.old }
@@ -107,13 +106,9 @@ impl Parts {
         ensures engine { engine_of self.new.kept ≡ engine_of self.old.kept }
         ensures kept { AreKept self.new }
     {
+        let Ends { from, to } = ends;
         let is_water = self.grids.water.free(from);
         let grid = self.grids.of(is_water);
-        if !grid.free(to) {
-            return Ok(Reply::None {
-                taken: Taken::new(alloc),
-            });
-        }
         match &mut self.kept {
             Kept::Plain(space) => search_plainly(alloc, grid, from, to, space),
             Kept::Jumps { finder, space } => jump(

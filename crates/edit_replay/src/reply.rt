@@ -1,8 +1,13 @@
 //! What a query is answered.
 
-use path_points::Points;
+ghost use Rattle.std.specs.Prelude.{◌≡◌};
+ghost use Rattle.edit_replay.specs.Found.{reply_with, reply_without};
+
+use grid_moves::Unsearched;
+use path_points::{Points, Walk};
 use plain_search::Taken;
 use root2_cost::Cost;
+use std::alloc::Global;
 
 /// The reply to a query.
 #[derive(Drop)]
@@ -22,6 +27,35 @@ pub enum Reply {
     Outside,
     /// Both ends lie inside, and one of them is blocked.
     Blocked,
+}
+
+impl Reply {
+    /// The reply of a search between free cells, by what it found and the states that it took.
+    pub fn found(walk: Option<Walk>, taken: Taken) -> Reply
+        ensures { result ≡ reply_with walk taken }
+    {
+        match walk {
+            Some(Walk { points, cost }) => Reply::Walk {
+                points,
+                cost,
+                taken,
+            },
+            None => Reply::None { taken },
+        }
+    }
+
+    /// The reply where nothing is searched.
+    pub fn unsearched(alloc: Global, why: Unsearched) -> Reply
+        ensures { result ≡ reply_without why }
+    {
+        match why {
+            Unsearched::Outside => Reply::Outside,
+            Unsearched::Blocked => Reply::Blocked,
+            Unsearched::Apart(_) => Reply::None {
+                taken: Taken::new(alloc),
+            },
+        }
+    }
 }
 
 /// The reply to an edit.

@@ -16,7 +16,6 @@ use best_first::Space;
 use grid_moves::{Cell, Grid, Terrain};
 use jump_block::BlockJumps;
 use jump_plain::PlainJumps;
-use path_points::Walk;
 use plain_search::{Found, Workspace, least_in};
 use plus_tables::PlusJumps;
 use pruning::JumpSource;
@@ -41,14 +40,7 @@ pub(crate) fn search_plainly(
     ensures room { HasRoom grid.now space.new }
 {
     let Found { walk, taken } = least_in(alloc, grid, from, to, space)?;
-    match walk {
-        Some(Walk { points, cost }) => Ok(Reply::Walk {
-            points,
-            cost,
-            taken,
-        }),
-        None => Ok(Reply::None { taken }),
-    }
+    Ok(Reply::found(walk, taken))
 }
 
 // The reply of an engine that jumps, between free cells, by a source of jumps on the grid. (The grid is a
@@ -76,14 +68,7 @@ fn search_by_jumps<J: JumpSource, L: Ledger>(
     // (by their clauses these are the sides of every grid that the source stands for, which is whole)
     let _sides = (j.width(), j.height());
     let Found { walk, taken } = search_in(alloc, j, from, to, space, steps)?;
-    match walk {
-        Some(Walk { points, cost }) => Ok(Reply::Walk {
-            points,
-            cost,
-            taken,
-        }),
-        None => Ok(Reply::None { taken }),
-    }
+    Ok(Reply::found(walk, taken))
 }
 
 /// The reply of the engine that finds jumps so, between free cells of a grid, which is that of water or of

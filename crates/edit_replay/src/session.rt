@@ -1,6 +1,6 @@
 //! The session.
 
-ghost use Rattle.std.specs.Prelude.{◌≡◌, ◌≢◌, ◌<◌, ◌≤◌, IfOk};
+ghost use Rattle.std.specs.Prelude.{◌≡◌, ◌≢◌, ◌<◌, ◌≤◌, true, false, IfOk, MatchOption};
 ghost use Rattle.grid_moves.specs.Grid.{layer_of};
 ghost use Rattle.grid_moves.specs.Layers as spec;
 ghost use Rattle.grid_moves.specs.Reply.{IsRight};
@@ -14,7 +14,7 @@ ghost use Rattle.edit_replay.specs.Replies.{answer_of, AddsEdit, EditsSo, IsRunR
 use crate::kept::{Both, Finder, Kept, space_of};
 use crate::parts::Parts;
 use crate::{EditReply, Engine, NoMemory, Reply};
-use grid_moves::{Corner, Grid, Ground, Terrain, cell_at, ground_at, is_free_ground};
+use grid_moves::{Cell, Corner, Grid, Ground, Terrain, cell_at, ends_between, ground_at};
 use map_text::MapText;
 use plus_tables::Tables;
 use std::alloc::Global;
@@ -120,6 +120,14 @@ impl Session {
         self.parts.grids.land.height()
     }
 
+    /// The cell of this column and row, both counted from 0, where it lies on the map.
+    pub fn cell_at(&self, x: u32, y: u32) -> Option<Cell>
+        ensures { MatchOption result (spec.is_on_map self.now.layers (record { x = x; y = y }) ≡ false)
+            (λ c. (c ≡ record { x = x; y = y }) × (spec.is_on_map self.now.layers c ≡ true)) }
+    {
+        cell_at(&self.parts.grids.land, x, y)
+    }
+
     /// Makes a cell blocked, land or water.
     ///
     /// `Outside` comes exactly where the cell lies outside, `Same` exactly where it is already as
@@ -181,17 +189,10 @@ impl Session {
         ensures uncounted { self.old.engine ≡ Engine.Plain → steps.new ≡ steps.old }
     {
         let parts = &mut *self.parts;
-        let Some(from) = cell_at(&parts.grids.land, sx, sy) else {
-            return Ok(Reply::Outside);
+        let ends = match ends_between(&parts.grids.land, &parts.grids.water, sx, sy, gx, gy) {
+            Ok(ends) => ends,
+            Err(why) => return Ok(Reply::unsearched(alloc, why)),
         };
-        let Some(to) = cell_at(&parts.grids.land, gx, gy) else {
-            return Ok(Reply::Outside);
-        };
-        if !is_free_ground(&parts.grids.land, &parts.grids.water, from)
-            || !is_free_ground(&parts.grids.land, &parts.grids.water, to)
-        {
-            return Ok(Reply::Blocked);
-        }
-        parts.search(alloc, from, to, steps)
+        parts.search(alloc, ends, steps)
     }
 }

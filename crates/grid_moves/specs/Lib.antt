@@ -6,6 +6,7 @@ pub mod Move
 pub mod Walk
 pub mod Points
 pub mod Reply
+pub mod Ends
 pub mod Laws
 pub mod Ring
 pub mod Around

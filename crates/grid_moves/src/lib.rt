@@ -9,6 +9,7 @@
 #![tactic(auto)]
 
 mod around;
+mod ends;
 mod grid;
 pub mod laws;
 mod layers;
@@ -17,6 +18,7 @@ mod ring;
 mod terrain;
 
 pub use around::{Around, moves_around};
+pub use ends::{Ends, Unplaced, Unsearched, ends_between};
 pub use grid::{Grid, ground_of};
 pub use layers::{Layers, cell_at, ground_at, is_free_ground};
 pub use moves::{

@@ -1,4 +1,5 @@
-use Rattle.edit_replay.proofs.Counts.{has_places, right_found, right_none, rose_away}
+use Rattle.edit_replay.proofs.Answering.{found_right}
+use Rattle.edit_replay.proofs.Counts.{all_taken, found_by_jumps, has_places, rose_away}
 use Rattle.edit_replay.proofs.search.search_by_jumps.Goals as goal
 
 pub search_in-requires-clause-some : goal.search_in-requires-clause-some
@@ -14,30 +15,23 @@ search_in-requires-clause-places g c = λ h served.
     (c.height.ensures.is c.args._grid.now c.requires.stands) (c.height.ensures.is h served.stands)
     c.requires.places
 
-pub returns-in-Some-clause-right : goal.returns-in-Some-clause-right
-returns-in-Some-clause-right g c =
-    right_found c.args._grid.now c.args.from c.args.to c.in_ok-walk.field-0.walk _ c.in-Some.is
+pub returns-clause-right : goal.returns-clause-right
+returns-clause-right g c = rw c.found.ensures (found_right c.args._grid.now c.args.from c.args.to _ _
     c.requires.from c.requires.to (c.in_ok-walk.ensures.least c.args._grid.now
-    (record { stands = c.requires.stands; from = c.requires.from; to = c.requires.to }))
+    (record { stands = c.requires.stands; from = c.requires.from; to = c.requires.to })))
 
-pub returns-in-Some-clause-run : goal.returns-in-Some-clause-run
-returns-in-Some-clause-run g c = rw c.in-Some.is at (c.in_ok-walk.ensures.run c.args._grid.now
-    (record { stands = c.requires.stands; from = c.requires.from; to = c.requires.to }))
+pub returns-clause-run : goal.returns-clause-run
+returns-clause-run g c = rw c.found.ensures (found_by_jumps c.args._grid.now c.args.from c.args.to _ _
+    (c.in_ok-walk.ensures.run c.args._grid.now
+    (record { stands = c.requires.stands; from = c.requires.from; to = c.requires.to })))
 
-pub returns-in-Some-clause-fewest : goal.returns-in-Some-clause-fewest
-returns-in-Some-clause-fewest g c =
-    rose_away c.args._grid.now c.args.from c.args.to c.in_ok-walk.field-0.walk c.in_ok-walk.field-0.taken _
-    (g.J.JumpSource.fewest c.args.j.now) c.args.steps.now c.search_in.new.steps c.in-Some.is
+pub returns-clause-most : goal.returns-clause-most
+returns-clause-most g c = rw (c.found.ensures, all_taken c.in_ok-walk.field-0.walk c.in_ok-walk.field-0.taken)
+    c.in_ok-walk.ensures.most
+
+pub returns-clause-fewest : goal.returns-clause-fewest
+returns-clause-fewest g c = rw c.found.ensures (rose_away c.args._grid.now c.args.from c.args.to _ _
+    (g.J.JumpSource.fewest c.args.j.now) c.args.steps.now c.search_in.new.steps
     (c.in_ok-walk.ensures.run c.args._grid.now
     (record { stands = c.requires.stands; from = c.requires.from; to = c.requires.to }))
-    c.in_ok-walk.ensures.fewest
-
-pub returns-in-None-clause-right : goal.returns-in-None-clause-right
-returns-in-None-clause-right g c =
-    right_none c.args._grid.now c.args.from c.args.to c.in_ok-walk.field-0.walk c.in-None.is
-    (c.in_ok-walk.ensures.least c.args._grid.now
-    (record { stands = c.requires.stands; from = c.requires.from; to = c.requires.to }))
-
-pub returns-in-None-clause-run : goal.returns-in-None-clause-run
-returns-in-None-clause-run g c = rw c.in-None.is at (c.in_ok-walk.ensures.run c.args._grid.now
-    (record { stands = c.requires.stands; from = c.requires.from; to = c.requires.to }))
+    c.in_ok-walk.ensures.fewest)

@@ -1,21 +1,25 @@
-use Rattle.std.proofs.Common.{◌≡◌, Bool, true, false, ◌&&◌, refl}
-use Rattle.grid_answers.specs.Certificates.{IsProof, outside}
+use Rattle.grid_answers.specs.Certificates.{IsProof, apart, blocked, outside}
 use Rattle.grid_answers.proofs.Printing.{if_said}
 use Rattle.grid_answers.proofs.prove.proof_of.Goals as goal
 
-second : (a b : Bool) → b ≡ false → (a && b) ≡ false
-second true b e = e
-second false b e = refl
-
-pub returns-in_default : goal.returns-in_default
-returns-in_default c =
+pub returns-in-Err-Outside : goal.returns-in-Err-Outside
+returns-in-Err-Outside c =
     if_said c.said.result (IsProof c.args.layers.now (record { x = c.args.ends.sx; y = c.args.ends.sy })
     (record { x = c.args.ends.gx; y = c.args.ends.gy })) _ c.said.ensures.text c.said.ensures.status
-    (outside (rw c.in_default.ensures refl))
+    (outside (rw c.in-Err-Outside.field-0-is at c.in-Err-Outside.ensures))
 
-pub returns-in_default-cell_at : goal.returns-in_default-cell_at
-returns-in_default-cell_at c =
-    if_said c.said-in_default-cell_at.result
+pub returns-in-Err-Blocked : goal.returns-in-Err-Blocked
+returns-in-Err-Blocked c =
+    let why = rw c.in-Err-Blocked.field-0-is at c.in-Err-Blocked.ensures in
+    if_said c.said-in-Err-Blocked.result
     (IsProof c.args.layers.now (record { x = c.args.ends.sx; y = c.args.ends.sy })
-    (record { x = c.args.ends.gx; y = c.args.ends.gy })) _ c.said-in_default-cell_at.ensures.text
-    c.said-in_default-cell_at.ensures.status (outside (second _ _ c.in_default-cell_at.ensures))
+    (record { x = c.args.ends.gx; y = c.args.ends.gy })) _ c.said-in-Err-Blocked.ensures.text
+    c.said-in-Err-Blocked.ensures.status (blocked why.0 why.1)
+
+pub returns-in-Err-Apart : goal.returns-in-Err-Apart
+returns-in-Err-Apart c =
+    let why = rw c.in-Err-Apart.field-0-is at c.in-Err-Apart.ensures in
+    if_said c.said-in-Err-Apart.result
+    (IsProof c.args.layers.now (record { x = c.args.ends.sx; y = c.args.ends.sy })
+    (record { x = c.args.ends.gx; y = c.args.ends.gy })) _ c.said-in-Err-Apart.ensures.text
+    c.said-in-Err-Apart.ensures.status (apart why.free why.two)
