@@ -1,10 +1,10 @@
 -- What a write to a part of a list leaves.
 use Rattle.std.proofs.lemmas.Bool.Decides.{nat_tests}
-use Rattle.std.proofs.Common.{◌≡◌, ℕ, ◌+◌, ◌-◌, ◌<◌, ◌≤◌, arith, List, length}
+use Rattle.std.proofs.Common.{◌≡◌, ℕ, ◌+◌, ◌-◌, ◌<◌, ◌≤◌, arith, List, length, drop, ◌∙◌}
 use Rattle.std.specs.Prelude.{slice_index_or}
 use Rattle.std.proofs.lemmas.List.{get_or_append_left, get_or-append_right, get_or-take, get_or-drop}
 use Rattle.std.proofs.lemmas.List.{length-take-le}
-use borrow.Rule.Slice.PartMut.{put_mid, mid_len, same_len_mid}
+use borrow.Rule.Slice.PartMut.{put_mid, mid_of, mid_len, same_len_mid}
 
 module _ {X : Type 0} (a k : ℕ) (xs ys : List X) (d : X) (inside : a ≤ length xs) where
   pub read_before : (i : ℕ) → i < a → slice_index_or (put_mid a k xs ys) i d ≡ slice_index_or xs i d
@@ -21,3 +21,7 @@ module _ {X : Type 0} (a k : ℕ) (xs ys : List X) (d : X) (inside : a ≤ lengt
 pub long_with : {X : Type 0} (a e : ℕ) (xs ys : List X) → a ≤ e → e ≤ length xs → length ys ≡ e - a
     → length (put_mid a (e - a) xs ys) ≡ length xs
 long_with a e xs ys order inside long = grind (arith, nat_tests, same_len_mid, mid_len)
+
+pub read_part : {X : Type 0} (a k : ℕ) (xs : List X) (i : ℕ) (d : X) → i < k
+    → slice_index_or (mid_of a k xs) i d ≡ slice_index_or xs (a + i) d
+read_part a k xs i d h = get_or-take k (drop a xs) i d h ∙ get_or-drop a xs i d

@@ -13,7 +13,7 @@ use Rattle.plus_tables.specs.Local.{tells_mark}
 use Rattle.plus_tables.specs.Rows.{flag, number, told, AreShort, IsFlagRow}
 use borrow.Rule.Slice.PartMut.{put_mid}
 use Rattle.plus_tables.proofs.Short.{same_value}
-use Rattle.plus_tables.proofs.Parts.{long_with, read_before, read_behind, read_within}
+use Rattle.grid_moves.proofs.Parts.{long_with, read_before, read_behind, read_within}
 
 -- one more flag to the right
 pub flag_more : (row : List Bool) (x : ℕ) (b : Bool) (P : ℕ → Bool) → x + 1 < length row

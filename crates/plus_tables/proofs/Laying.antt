@@ -25,7 +25,7 @@ use Rattle.grid_moves.proofs.Dirs.{dir_number-few}
 use Rattle.plus_tables.specs.Entry.{table_entry}
 use Rattle.plus_tables.proofs.Growing.{number_stays}
 use Rattle.plus_tables.proofs.Short.{same_value, table_entry-short}
-use Rattle.plus_tables.proofs.Parts.{long_with, read_before, read_within, read_behind, read_part}
+use Rattle.grid_moves.proofs.Parts.{long_with, read_before, read_within, read_behind, read_part}
 use borrow.Rule.Slice.PartMut.{put_mid, mid_of, mid_len}
 
 -- whether a direction is one of these

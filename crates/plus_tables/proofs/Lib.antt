@@ -7,7 +7,6 @@ pub mod Stops
 pub mod Goals
 pub mod Told
 pub mod Turning
-pub mod Parts
 pub mod Growing
 pub mod Laying
 pub mod Rowing
