@@ -1,4 +1,4 @@
--- An answer to a request is the only one, and engines that come to answers in one way give the same.
+-- What shows of an answer that it is the only one: by the kind of what it is made of.
 use Rattle.std.proofs.Common.{◌≡◌, ◌∙◌, refl, ap, sym, subst, ℕ, List, [], ◌∷◌, ◌++◌, length}
 use Rattle.std.specs.Prelude.{Ok, Err}
 use Rattle.std.specs.declared.result.Result.{Result}
@@ -6,29 +6,19 @@ use Rattle.map_text.specs.Map.{Map}
 use Rattle.map_text.specs.Faults.{map_of}
 use Rattle.scen_text.specs.Faults.{scen_of}
 use Rattle.walk_judge.specs.Walks.{walks_of}
-use Rattle.potential_check.specs.Text.{certificate_of, plain}
-use Rattle.word_list.specs.Request.{Asked, Help, Version, Query, Solve, Live, Scen, Judge, Prove, Check}
-use Rattle.word_list.specs.Request.{Make, Drill, Draw, Costs, Tables, Boxes, Moves, Lengths, Problems}
+use Rattle.word_list.specs.Request.{Asked, Scen, Judge}
+use Rattle.word_list.specs.Request.{Drill}
 use Rattle.word_list.specs.declared.request.Pick.{Pick}
 use Rattle.word_list.specs.declared.request.Settings.{Settings}
 use Rattle.call_files.specs.Layered.{layers_on}
 use Rattle.jps_run.specs.Calls.{IsAnswer}
 use Rattle.jps_run.specs.Parts.{MadeOf, OnLast, OnMap, One, Prints, Reads, Says}
 use Rattle.jps_run.specs.Rulings.{AreRulings, judge_lines, judge_status}
-use Rattle.jps_run.specs.Session.{by_of}
-use Rattle.outcome_laws.specs.Alike.{way_of}
 use Rattle.outcome_laws.specs.Outcomes.{AsksForCosts}
 use Rattle.outcome_laws.proofs.Kept.{are_layers-text}
-use Rattle.outcome_laws.proofs.OnMap.{alike_rows_on, one_answers_on, one_drawing_on, one_line_on, one_rows_on}
+use Rattle.outcome_laws.proofs.OnMap.{alike_rows_on}
 use Rattle.outcome_laws.proofs.Printed.{one_drill}
-use Rattle.outcome_laws.proofs.Costs as costs
-use Rattle.outcome_laws.proofs.Boxes as boxes
-use Rattle.outcome_laws.proofs.Runs as runs
-use Rattle.outcome_laws.proofs.Proving.{one_proof}
-use Rattle.outcome_laws.proofs.Verdicts as verdicts
 use Rattle.outcome_laws.proofs.Rulings as rulings
-use Rattle.outcome_laws.proofs.Measured as measured
-use Rattle.outcome_laws.proofs.Posed as posed
 
 -- the parts of a list of texts
 first : List (List ℕ) → List ℕ
@@ -66,7 +56,7 @@ unfolding value_or
 ok_same a b read e f = ap (value_or a) (sym e ∙ f)
 
 -- what is said twice of the same texts is said of one map, one last text, one text, one value of a text
-on_map : {R : Type 0} {K L : Map → List (List ℕ) → Type 0} {texts : List (List ℕ)} (p : OnMap texts K)
+pub on_map : {R : Type 0} {K L : Map → List (List ℕ) → Type 0} {texts : List (List ℕ)} (p : OnMap texts K)
     (q : OnMap texts L)
     → ((text : List ℕ) (m : Map) (behind : List (List ℕ)) → map_of text ≡ Ok m → K m behind → L m behind → R)
     → R
@@ -78,40 +68,40 @@ on_map {R} {K} {L} p q f =
     (subst (λ (texts : List (List ℕ)). L q.map texts) (sym (same_others p.text q.text p.behind q.behind e))
     q.known))
 
-on_last : {R : Type 0} {K L : List ℕ → Type 0} {texts : List (List ℕ)} (p : OnLast texts K)
+pub on_last : {R : Type 0} {K L : List ℕ → Type 0} {texts : List (List ℕ)} (p : OnLast texts K)
     (q : OnLast texts L)
     → ((last : List ℕ) → K last → L last → R) → R
 on_last {R} {K} {L} p q f = f p.last p.known (subst L (sym (sym (last_append [] p.before p.last)
     ∙ ap (λ (texts : List (List ℕ)). last [] texts) (sym p.is ∙ q.is) ∙ last_append [] q.before q.last))
     q.known)
 
-on_one : {R : Type 0} {K L : List ℕ → Type 0} {texts : List (List ℕ)} (p : One texts K) (q : One texts L)
+pub on_one : {R : Type 0} {K L : List ℕ → Type 0} {texts : List (List ℕ)} (p : One texts K) (q : One texts L)
     → ((one : List ℕ) → K one → L one → R) → R
 on_one {R} {K} {L} p q f =
     f p.one p.known (subst L (sym (same_first p.one q.one [] [] (sym p.is ∙ q.is))) q.known)
 
-on_value : {R V F : Type 0} {K L : V → Type 0} {read : Result V F} (p : Reads read K) (q : Reads read L)
+pub on_value : {R V F : Type 0} {K L : V → Type 0} {read : Result V F} (p : Reads read K) (q : Reads read L)
     → ((value : V) → K value → L value → R) → R
 on_value {R} {V} {F} {K} {L} {read} p q f =
     f p.value p.known (subst L (sym (ok_same p.value q.value read p.is q.is)) q.known)
 
 -- lines that are one line, a text of the program's own, what is made of one thing, and what is printed of a
 -- map are the same where that is
-one_line : {K L : List ℕ → Type 0} {lines same : List (List ℕ)} (p : One lines K) (q : One same L)
+pub one_line : {K L : List ℕ → Type 0} {lines same : List (List ℕ)} (p : One lines K) (q : One same L)
     → p.one ≡ q.one → lines ≡ same
 one_line p q e = p.is ∙ ap (λ (line : List ℕ). line ∷ []) e ∙ sym q.is
 
-says_one : {text : List ℕ} {texts lines same : List (List ℕ)} {status code : ℕ}
+pub says_one : {text : List ℕ} {texts lines same : List (List ℕ)} {status code : ℕ}
     → Says text texts lines status → Says text texts same code → (lines ≡ same) × (status ≡ code)
 says_one p q = (p.all ∙ sym q.all, p.good ∙ sym q.good)
 
-made_one : {X : Type 0} {lines same : List (List ℕ)} {status code : ℕ} {lines_of : X → List (List ℕ)}
+pub made_one : {X : Type 0} {lines same : List (List ℕ)} {status code : ℕ} {lines_of : X → List (List ℕ)}
     {status_of : X → ℕ} {K L : X → Type 0} (p : MadeOf lines status lines_of status_of K)
     (q : MadeOf same code lines_of status_of L) → p.from ≡ q.from → (lines ≡ same) × (status ≡ code)
 made_one {X} {lines} {same} {status} {code} {lines_of} {status_of} p q e =
     (p.all ∙ ap lines_of e ∙ sym q.all, p.code ∙ ap status_of e ∙ sym q.code)
 
-prints_one : {K L : Map → List ℕ → ℕ → Type 0} {texts lines same : List (List ℕ)} {status code : ℕ}
+pub prints_one : {K L : Map → List ℕ → ℕ → Type 0} {texts lines same : List (List ℕ)} {status code : ℕ}
     → Prints texts lines status K → Prints texts same code L
     → ((text : List ℕ) (m : Map) → map_of text ≡ Ok m → (one other : List ℕ) → K m one status
     → L m other code → (one ≡ other) × (status ≡ code)) → (lines ≡ same) × (status ≡ code)
@@ -130,7 +120,7 @@ module _ (set : Settings) (pick : Pick) where
   abbrev other : Settings
   other = picking set pick
 
-  one_judged : (texts lines same : List (List ℕ)) (status code : ℕ) (map scen walks : List ℕ)
+  pub one_judged : (texts lines same : List (List ℕ)) (status code : ℕ) (map scen walks : List ℕ)
       → IsAnswer (Judge map scen walks) set texts lines status
       → IsAnswer (Judge map scen walks) other texts same code → (lines ≡ same) × (status ≡ code)
   unfolding IsAnswer
@@ -144,73 +134,6 @@ module _ (set : Settings) (pick : Pick) where
       on_value a.3 also (λ entries c d. on_value c d (λ told k l. made_one k l
       (rulings.one_list (layers_on set m) entries told k.from l.from (are_layers-text set text m read) k.known
       l.known))))
-
-  -- where engines come to answers in one way, an answer is the only one
-  pub one_answer : (asked : Asked) (texts lines same : List (List ℕ)) (status code : ℕ)
-      → way_of (by_of set.pick) ≡ way_of (by_of pick) → IsAnswer asked set texts lines status
-      → IsAnswer asked other texts same code → (lines ≡ same) × (status ≡ code)
-  unfolding IsAnswer
-  one_answer Help texts lines same status code way p q = says_one p q
-  one_answer Version texts lines same status code way p q = says_one p q
-  one_answer (Query map tables sx sy gx gy) texts lines same status code way p q = (
-    on_map p.0 q.0 (λ text m behind read a b. one_line a b (one_line_on set other m refl
-        (are_layers-text set text m read) way set.show (record { x = sx; y = sy }) (record { x = gx; y = gy })
-        a.one b.one a.known b.known)),
-    p.1 ∙ sym q.1,
-  )
-  one_answer (Solve map tables script) texts lines same status code way p q = (
-    on_map p.0 q.0 (λ text m behind read a b. on_last a b (λ second c d. on_value c d (λ commands k l.
-        one_answers_on set other m refl (are_layers-text set text m read) way set.show commands lines same
-        k l))),
-    p.1 ∙ sym q.1,
-  )
-  one_answer (Live map tables) texts lines same status code way p q = absurd (p)
-  one_answer (Scen map tables scen) texts lines same status code way p q =
-      on_map p q (λ text m behind read a b. on_last a b (λ second c d. on_value c d (λ entries k l.
-      made_one k l (one_rows_on set other m refl (are_layers-text set text m read) way entries k.from l.from
-      k.known l.known))))
-  one_answer (Judge map scen walks) texts lines same status code way p q =
-      one_judged texts lines same status code map scen walks p q
-  one_answer (Prove map sx sy gx gy) texts lines same status code way p q =
-      prints_one p q (λ text m read a b k l. one_proof (layers_on set m) (record { x = sx; y = sy })
-      (record { x = gx; y = gy }) a b status code (are_layers-text set text m read) k l)
-  one_answer (Check map cert) texts lines same status code way p q =
-      on_map p q (λ text m behind read a b. on_one a b (λ second k l.
-      let v = verdicts.one_checked (layers_on set m) k.0 l.0 k.2.one l.2.one status code
-      (ok_same (plain k.0) (plain l.0) (certificate_of second) k.1 l.1) k.2.known l.2.known in
-      (one_line k.2 l.2 v.0, v.1)))
-  one_answer (Make seed w h percent) texts lines same status code way p q = says_one p q
-  one_answer (Drill seed) texts lines same status code way p q =
-      made_one p.1 q.1 (one_drill set other seed p.1.from q.1.from refl p.1.known q.1.known)
-  one_answer (Draw map sx sy gx gy) texts lines same status code way p q =
-      prints_one p q (λ text m read a b k l. one_drawing_on set other m refl (are_layers-text set text m read)
-      way (record { x = sx; y = sy }) (record { x = gx; y = gy }) set.show a b status code k l)
-  one_answer (Costs map x y) texts lines same status code way p q = (
-    on_map p.0 q.0 (λ text m behind read a b. costs.one_costs (layers_on set m) (record { x = x; y = y })
-        lines same (are_layers-text set text m read) a.1 b.1),
-    p.1 ∙ sym q.1,
-  )
-  one_answer (Tables map) texts lines same status code way p q =
-      prints_one p q (λ text m read a b k l. (k.0 ∙ sym l.0, k.1 ∙ sym l.1))
-  one_answer (Boxes map x y) texts lines same status code way p q =
-      prints_one p q (λ text m read a b k l. (
-        boxes.one_text (layers_on set m) (record { x = x; y = y }) a b (are_layers-text set text m read) k.0
-            l.0,
-        k.1 ∙ sym l.1,
-      ))
-  one_answer (Moves map x y) texts lines same status code way p q =
-      prints_one p q (λ text m read a b k l. (
-        runs.one_text (layers_on set m) (record { x = x; y = y }) a b (are_layers-text set text m read) k.0
-            l.0,
-        k.1 ∙ sym l.1,
-      ))
-  one_answer (Lengths map scen) texts lines same status code way p q =
-      on_map p q (λ text m behind read a b. on_one a b (λ second c d. on_value c d (λ entries k l.
-      measured.one_scenario (layers_on set m) second entries lines same status code
-      (are_layers-text set text m read) k l)))
-  one_answer (Problems map seed count) texts lines same status code way p q =
-      prints_one p q (λ text m read a b k l. posed.one_scenario (layers_on set m) map seed count a b status
-      code k l)
 
   -- where costs alone are asked for, whatever the engines
   pub one_cost_answer : (asked : Asked) (texts lines same : List (List ℕ)) (status code : ℕ)

@@ -31,6 +31,8 @@ pub mod Sessions
 pub mod Printed
 pub mod OnMap
 pub mod Alike
+pub mod Accepted
+pub mod Commands
 pub mod SmallMaps
 pub mod Only
 pub mod Begun

@@ -39,7 +39,8 @@ use Rattle.outcome_laws.specs.Outcomes.{AsksForCosts, DifferInEngine, FilesAreTo
 use Rattle.jps_run.specs.Live.{AreHeard, OnLive}
 use Rattle.jps_run.specs.Outcome.{IsOutcome, IsOutput, Outcome, Spell, answered, bad_line}
 use Rattle.jps_run.specs.Outcome.{bad_text, bad_word, done}
-use Rattle.outcome_laws.proofs.Alike.{one_answer, one_cost_answer, ok_same, picking, same_first, same_others}
+use Rattle.outcome_laws.proofs.Commands.{answers}
+use Rattle.outcome_laws.proofs.Alike.{one_cost_answer, ok_same, picking, same_first, same_others}
 use Rattle.outcome_laws.proofs.SmallMaps.{AreAlike, same_alike, small_alike}
 
 -- what a call comes to, where its words are not refused
@@ -317,7 +318,7 @@ module _ (holds : List ℕ → Held) (script : List ℕ) (call like : Call) (ali
     one_way : Same
     unfolding Same
     one_way texts lines same status code p q =
-        one_answer call.settings like.settings.pick call.request texts lines same status code way p
+        (answers call.settings call.request).0 like.settings.pick texts lines same status code way p
         (so_picked texts same code q)
 
     heard_one_way : HeardSame

@@ -1,0 +1,380 @@
+-- What texts that a call's files are accepted with give: a map that is read of them, and answers made of it.
+use Rattle.std.proofs.Common.{◌≡◌, refl, sym, ap, subst, ℕ, ◌≤◌, Bool, true, false, List, [], ◌∷◌, ◌++◌}
+use Rattle.std.proofs.Common.{length, append-nil}
+use Rattle.std.specs.Prelude.{Option, Some, None, Result, Ok, Err, if◌then◌else◌}
+use Rattle.grid_moves.specs.declared.Cell.{Cell}
+use Rattle.grid_moves.specs.Layers.{Layers, query_grid}
+use Rattle.io_edge.specs.Told.{Held, absent, holding, untold}
+use Rattle.io_edge.specs.Whole.{IsWhole}
+use Rattle.map_text.specs.Map.{Map}
+use Rattle.map_text.specs.Faults.{map_of}
+use Rattle.map_text.specs.declared.fault.MapFault.{MapFault}
+use Rattle.script_text.specs.Faults.{script_of}
+use Rattle.scen_text.specs.Faults.{scen_of}
+use Rattle.walk_judge.specs.Walks.{walks_of}
+use Rattle.potential_check.specs.Text.{certificate_of}
+use Rattle.edit_replay.specs.Session.{SessionData}
+use Rattle.edit_replay.specs.declared.engine.Engine.{Engine}
+use Rattle.edit_replay.specs.declared.engine.Engine.TheVariants as engine
+use Rattle.edit_replay.specs.declared.reply.Reply.{Reply}
+use Rattle.word_list.specs.Request.{Asked, Query, Solve, Scen, Judge, Check, Lengths}
+use Rattle.word_list.specs.Settings.{is_for_small_maps}
+use Rattle.word_list.specs.declared.request.Pick.{Pick}
+use Rattle.word_list.specs.declared.request.Pick.TheVariants as pick
+use Rattle.word_list.specs.declared.request.Settings.{Settings}
+use Rattle.call_files.specs.FaultLines.{cert_line, map_line, scen_line, script_line, walks_line}
+use Rattle.call_files.specs.Files.{AreAccepted, File, file_of}
+use Rattle.call_files.specs.Kinds.{count_in, fault_in, kind_for, limit_of, refusal_of, small_refusal}
+use Rattle.call_files.specs.Layered.{layers_on}
+use Rattle.call_files.specs.MapFiles.{map_files}
+use Rattle.call_files.specs.declared.kind.Extent.TheVariants as extent
+use Rattle.call_files.specs.declared.kind.Kind.TheVariants as kind
+use Rattle.jps_run.specs.Calls.{IsAnswer}
+use Rattle.jps_run.specs.Lines.{reply_line}
+use Rattle.jps_run.specs.Parts.{OnLast, OnMap, Prints, Says}
+use Rattle.jps_run.specs.Rows.{scen_lines, scen_status}
+use Rattle.jps_run.specs.Rulings.{judge_lines, judge_status}
+use Rattle.jps_run.specs.Session.{IsSessionOn, by_of, who_on}
+use Rattle.jps_run.specs.Who.{By, IsReplyBy, Who, by_session}
+use Rattle.jps_run.proofs.Existing.{boxed_exists, led_exists}
+use Rattle.jps_run.proofs.SessionReply.{reply_exists}
+use Rattle.outcome_laws.proofs.Checked.{verdict_exists}
+use Rattle.outcome_laws.proofs.Answered.{answers_exist, lengths_exist, rows_exist, rulings_exist}
+use Rattle.outcome_laws.proofs.Moved.{moves_exist}
+use Rattle.outcome_laws.proofs.Readable.{certificate_read}
+
+-- a text that is not refused is read
+read_of : {V F : Type 0} (line_of : F → List ℕ) (read : Result V F) → fault_in line_of read ≡ None
+    → (value : V) × (read ≡ Ok value)
+read_of line_of (Ok value) e = (value, refl)
+read_of line_of (Err fault) e = absurd (cc)
+
+small_of : (read : Result Map MapFault) → small_refusal read ≡ None → (m : Map) × (read ≡ Ok m)
+small_of (Ok m) e = (m, refl)
+small_of (Err fault) e = absurd (cc)
+
+map_read : (text : List ℕ) (b : Bool)
+    → refusal_of (kind_for (if b then extent.Small else extent.Any)) [] text ≡ None
+    → (m : Map) × (map_of text ≡ Ok m)
+map_read text true e = small_of (map_of text) e
+map_read text false e = read_of map_line (map_of text) e
+
+-- of texts that are accepted behind those of a map: the map's, and those behind it
+pub record HasMap (holds : List ℕ → Held) (rest : List File) (texts : List (List ℕ)) : Type 0 where
+  pub text : List ℕ
+  pub loaded : List (List ℕ)
+  pub more : List (List ℕ)
+  pub map : Map
+  pub is : texts ≡ text ∷ (loaded ++ more)
+  pub read : map_of text ≡ Ok map
+  pub accepted : AreAccepted holds (text ∷ loaded) rest more
+
+module _ (holds : List ℕ → Held) where
+  pub has_map : (set : Settings) (map : List ℕ) (tables : Option (List ℕ)) (rest : List File)
+      (texts : List (List ℕ)) → AreAccepted holds [] (map_files set map tables ++ rest) texts
+      → HasMap holds rest texts
+  has_map set map None rest [] p = absurd p
+  has_map set map None rest (text ∷ more) p =
+      let m = map_read text (is_for_small_maps set.pick) p.0.1 in
+      record { text = text; loaded = []; more = more; map = m.0; is = refl; read = m.1; accepted = p.1 }
+  has_map set map (Some tables) rest [] p = absurd p
+  has_map set map (Some tables) rest (text ∷ []) p = absurd (p.1)
+  has_map set map (Some tables) rest (text ∷ loaded ∷ more) p =
+      let m = read_of map_line (map_of text) p.0.1 in record {
+        text = text;
+        loaded = loaded ∷ [];
+        more = more;
+        map = m.0;
+        is = refl;
+        read = m.1;
+        accepted = p.1.1;
+      }
+
+  -- one text is accepted of one file
+  single : (earlier : List (List ℕ)) (file : File) (texts : List (List ℕ))
+      → AreAccepted holds earlier (file ∷ []) texts
+      → (second : List ℕ) × ((texts ≡ second ∷ []) × (refusal_of file.kind earlier second ≡ None))
+  single earlier file [] p = absurd p
+  single earlier file (text ∷ []) p = (text, (refl, p.0.1))
+  single earlier file (text ∷ x ∷ texts) p = absurd (p.1)
+
+  pub nothing : (earlier texts : List (List ℕ)) → AreAccepted holds earlier [] texts → texts ≡ []
+  nothing earlier [] p = refl
+  nothing earlier (text ∷ texts) p = absurd p
+
+-- the session that answers, where the picked engine has one
+engine_of : (p : Pick) → is_for_small_maps p ≡ false → (e : Engine) × (by_session e ≡ by_of p)
+engine_of pick.Plain e = (engine.Plain, refl)
+engine_of pick.Jps e = (engine.Jps, refl)
+engine_of pick.Block e = (engine.Block, refl)
+engine_of pick.Plus e = (engine.Plus, refl)
+engine_of pick.Boxes e = absurd (cc)
+engine_of pick.Moves e = absurd (cc)
+
+pub session_on : (set : Settings) (m : Map) → is_for_small_maps set.pick ≡ false
+    → (d : SessionData) × IsSessionOn set m d
+session_on set m large =
+    let e = engine_of set.pick large in (
+      record { engine = e.0; layers = layers_on set m },
+      ap (λ (by : By). (let who : Who = record { layers = layers_on set m; by = by } in who)) e.1,
+    )
+
+-- whoever answers has a reply
+module _ (ls : Layers) (s t : Cell) where
+  reply_by : (p : Pick)
+      → (reply : Reply) × IsReplyBy (record { layers = ls; by = by_of p }) s t reply
+  reply_by pick.Plain = reply_exists (record { engine = engine.Plain; layers = ls }) s t
+  reply_by pick.Jps = reply_exists (record { engine = engine.Jps; layers = ls }) s t
+  reply_by pick.Block = reply_exists (record { engine = engine.Block; layers = ls }) s t
+  reply_by pick.Plus = reply_exists (record { engine = engine.Plus; layers = ls }) s t
+  reply_by pick.Boxes = boxed_exists ls s t
+  reply_by pick.Moves = let m = moves_exist (query_grid ls s) in led_exists ls s t m.0 m.1
+
+who_replies : (set : Settings) (m : Map) (s t : Cell)
+    → (reply : Reply) × IsReplyBy (who_on set m) s t reply
+who_replies set m s t = reply_by (layers_on set m) s t set.pick
+
+-- what is asked for has an answer, on these texts
+abbrev pub HasAnswer : Asked → Settings → List (List ℕ) → Type 0
+HasAnswer asked set texts = (lines : List (List ℕ)) × (status : ℕ) × IsAnswer asked set texts lines status
+
+-- so has a text of the program's own
+pub says : (text : List ℕ) (texts : List (List ℕ)) → texts ≡ []
+    → (lines : List (List ℕ)) × (status : ℕ) × Says text texts lines status
+says text texts none = (text ∷ [], 0, record { none = none; all = refl; good = refl })
+
+module _ (holds : List ℕ → Held) (set : Settings) where
+  -- a map that is read alone
+  pub record Alone (texts : List (List ℕ)) : Type 0 where
+    pub text : List ℕ
+    pub map : Map
+    pub is : texts ≡ text ∷ []
+    pub read : map_of text ≡ Ok map
+
+  pub alone : (map : List ℕ) (texts : List (List ℕ)) → AreAccepted holds [] (file_of kind.Map map ∷ []) texts
+      → Alone texts
+  alone map texts p =
+      let one = single holds [] (file_of kind.Map map) texts p in
+      let m = read_of map_line (map_of one.0) one.1.1 in
+      record { text = one.0; map = m.0; is = one.1.0; read = m.1 }
+
+  pub alone_small : (map : List ℕ) (texts : List (List ℕ))
+      → AreAccepted holds [] (file_of kind.SmallMap map ∷ []) texts → Alone texts
+  alone_small map texts p =
+      let one = single holds [] (file_of kind.SmallMap map) texts p in
+      let m = small_of (map_of one.0) one.1.1 in
+      record { text = one.0; map = m.0; is = one.1.0; read = m.1 }
+
+  -- a text is printed of it
+  pub prints : {Known : Map → List ℕ → ℕ → Type 0} {texts : List (List ℕ)} → Alone texts
+      → ((text : List ℕ) (m : Map) → map_of text ≡ Ok m
+      → (printed : List ℕ) × (status : ℕ) × Known m printed status)
+      → (lines : List (List ℕ)) × (status : ℕ) × Prints texts lines status Known
+  prints one has =
+      let all = has one.text one.map one.read in (
+        all.0 ∷ [],
+        all.1,
+        record {
+          text = one.text;
+          map = one.map;
+          is = one.is;
+          read = one.read;
+          printed = all.0;
+          all = refl;
+          known = all.2;
+        },
+      )
+
+  pub query_has : (map : List ℕ) (tables : Option (List ℕ)) (sx sy gx gy : ℕ) (texts : List (List ℕ))
+      → AreAccepted holds [] (map_files set map tables) texts
+      → HasAnswer (Query map tables sx sy gx gy) set texts
+  unfolding IsAnswer
+  query_has map tables sx sy gx gy texts p =
+      let h = has_map holds set map tables [] texts (subst (λ (fs : List File). AreAccepted holds [] fs texts)
+      (sym (append-nil (map_files set map tables))) p) in
+      let r = who_replies set h.map (record { x = sx; y = sy }) (record { x = gx; y = gy }) in
+      let line = reply_line (who_on set h.map).layers.land.width set.show r.0 in (
+        line ∷ [],
+        0,
+        (
+          record {
+            text = h.text;
+            behind = h.loaded ++ h.more;
+            map = h.map;
+            is = h.is;
+            read = h.read;
+            known = record {
+              one = line;
+              is = refl;
+              known = record { reply = r.0; is_reply = r.1; shown = refl };
+            };
+          },
+          refl,
+        ),
+      )
+
+  -- what is known of the last file, behind a map and a table file
+  on_last : {Known : Map → List ℕ → Type 0} (map : List ℕ) (tables : Option (List ℕ)) (file : File)
+      (texts : List (List ℕ)) (h : HasMap holds (file ∷ []) texts)
+      (one : (second : List ℕ) × ((h.more ≡ second ∷ [])
+      × (refusal_of file.kind (h.text ∷ h.loaded) second ≡ None))) → Known h.map one.0
+      → OnMap texts (λ m behind. OnLast behind (Known m))
+  on_last map tables file texts h one known = record {
+    text = h.text;
+    behind = h.loaded ++ h.more;
+    map = h.map;
+    is = h.is;
+    read = h.read;
+    known = record {
+      before = h.loaded;
+      last = one.0;
+      is = ap (λ (more : List (List ℕ)). h.loaded ++ more) one.1.0;
+      known = known;
+    };
+  }
+
+  pub solve_has : (map : List ℕ) (tables : Option (List ℕ)) (script : List ℕ) (texts : List (List ℕ))
+      → is_for_small_maps set.pick ≡ false
+      → AreAccepted holds [] (map_files set map tables ++ file_of kind.Script script ∷ []) texts
+      → HasAnswer (Solve map tables script) set texts
+  unfolding IsAnswer
+  solve_has map tables script texts large p =
+      let file = file_of kind.Script script in
+      let h = has_map holds set map tables (file ∷ []) texts p in
+      let one = single holds (h.text ∷ h.loaded) file h.more h.accepted in
+      let commands = read_of script_line (script_of one.0) one.1.1 in
+      let d = session_on set h.map large in
+      let all = answers_exist d.0 set.show commands.0 in (
+        all.0,
+        0,
+        (
+          on_last map tables file texts h one (record {
+            value = commands.0;
+            is = commands.1;
+            known = record { session = d.0; is = d.1; known = all.1 };
+          }),
+          refl,
+        ),
+      )
+
+  pub scen_has : (map : List ℕ) (tables : Option (List ℕ)) (scenario : List ℕ) (texts : List (List ℕ))
+      → AreAccepted holds [] (map_files set map tables ++ file_of kind.Scen scenario ∷ []) texts
+      → HasAnswer (Scen map tables scenario) set texts
+  unfolding IsAnswer
+  scen_has map tables scenario texts p =
+      let file = file_of kind.Scen scenario in
+      let h = has_map holds set map tables (file ∷ []) texts p in
+      let one = single holds (h.text ∷ h.loaded) file h.more h.accepted in
+      let entries = read_of scen_line (scen_of one.0) one.1.1 in
+      let all = rows_exist (who_on set h.map) (who_replies set h.map) entries.0 in (
+        scen_lines set.show all.0,
+        scen_status all.0,
+        on_last map tables file texts h one (record {
+          value = entries.0;
+          is = entries.1;
+          known = record { from = all.0; all = refl; code = refl; known = all.1 };
+        }),
+      )
+
+  -- the answer of a judge, on three texts
+  pub judge_has : (map scenario walks : List ℕ) (texts : List (List ℕ))
+      → AreAccepted holds []
+      (file_of kind.Map map ∷ file_of kind.Scen scenario ∷ file_of kind.Walks walks ∷ [])
+      texts → HasAnswer (Judge map scenario walks) set texts
+  unfolding IsAnswer
+  judge_has map scenario walks [] p = absurd p
+  judge_has map scenario walks (text ∷ []) p = absurd (p.1)
+  judge_has map scenario walks (text ∷ second ∷ []) p = absurd (p.1.1)
+  judge_has map scenario walks (text ∷ second ∷ third ∷ x ∷ texts) p = absurd (p.1.1.1)
+  judge_has map scenario walks (text ∷ second ∷ third ∷ []) p =
+      let m = read_of map_line (map_of text) p.0.1 in
+      let entries = read_of scen_line (scen_of second) p.1.0.1 in
+      let told = read_of walks_line (walks_of third (length entries.0))
+      (subst (λ (n : ℕ). fault_in walks_line (walks_of third n) ≡ None) (ap count_in entries.1) p.1.1.0.1) in
+      let all = rulings_exist (layers_on set m.0) entries.0 told.0 in (
+        judge_lines all.0,
+        judge_status all.0,
+        record {
+          text = text;
+          behind = second ∷ third ∷ [];
+          map = m.0;
+          is = refl;
+          read = m.1;
+          known = (
+            second,
+            third,
+            refl,
+            record {
+              value = entries.0;
+              is = entries.1;
+              known = record {
+                value = told.0;
+                is = told.1;
+                known = record { from = all.0; all = refl; code = refl; known = all.1 };
+              };
+            },
+          );
+        },
+      )
+
+  pub lengths_has : (map scenario : List ℕ) (texts : List (List ℕ))
+      → AreAccepted holds [] (file_of kind.Map map ∷ file_of kind.Scen scenario ∷ []) texts
+      → HasAnswer (Lengths map scenario) set texts
+  unfolding IsAnswer
+  lengths_has map scenario [] p = absurd p
+  lengths_has map scenario (text ∷ []) p = absurd (p.1)
+  lengths_has map scenario (text ∷ second ∷ x ∷ texts) p = absurd (p.1.1)
+  lengths_has map scenario (text ∷ second ∷ []) p =
+      let m = read_of map_line (map_of text) p.0.1 in
+      let entries = read_of scen_line (scen_of second) p.1.0.1 in
+      let all = lengths_exist (layers_on set m.0) second entries.0 in (
+        all.0,
+        all.1,
+        record {
+          text = text;
+          behind = second ∷ [];
+          map = m.0;
+          is = refl;
+          read = m.1;
+          known = record {
+            one = second;
+            is = refl;
+            known = record { value = entries.0; is = entries.1; known = all.2 };
+          };
+        },
+      )
+
+  -- a text of a file is no longer than the limit of its kind
+  within : (held : Held) (limit : ℕ) (text : List ℕ) → IsWhole held limit text → length text ≤ limit
+  within untold limit text w = w
+  within absent limit text w = absurd w
+  within (holding bytes) limit text w = w.1
+
+  pub check_has : (map cert : List ℕ) (texts : List (List ℕ))
+      → AreAccepted holds [] (file_of kind.Map map ∷ file_of kind.Cert cert ∷ []) texts
+      → HasAnswer (Check map cert) set texts
+  unfolding IsAnswer
+  check_has map cert [] p = absurd p
+  check_has map cert (text ∷ []) p = absurd (p.1)
+  check_has map cert (text ∷ second ∷ x ∷ texts) p = absurd (p.1.1)
+  check_has map cert (text ∷ second ∷ []) p =
+      let m = read_of map_line (map_of text) p.0.1 in
+      let read = read_of cert_line (certificate_of second) p.1.0.1 in
+      let few = within (holds cert) (limit_of kind.Cert) second p.1.0.0 in
+      let c = certificate_read second read.0 few read.1 in
+      let all = verdict_exists (query_grid (layers_on set m.0) c.0.start) c.0 in (
+        all.0 ∷ [],
+        all.1,
+        record {
+          text = text;
+          behind = second ∷ [];
+          map = m.0;
+          is = refl;
+          read = m.1;
+          known = record {
+            one = second;
+            is = refl;
+            known = (c.0, c.1, record { one = all.0; is = refl; known = all.2 });
+          };
+        },
+      )
