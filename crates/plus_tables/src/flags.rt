@@ -4,7 +4,7 @@
 //! has a branch, and each direction and corner rule has code of its own, which the compiler turns into vector
 //! code.
 
-ghost use Rattle.std.specs.Prelude.{◌≡◌, ℕ, ◌+◌, ◌-◌, ◌<◌, ◌≤◌, false, true, length};
+ghost use Rattle.std.specs.Prelude.{◌≡◌, ◌+◌, ◌-◌, ◌<◌, ◌≤◌, false, true, length};
 ghost use Rattle.pruning.specs.Numbered as numbered;
 ghost use Rattle.plus_tables.specs.Fit.{AreLong};
 ghost use Rattle.plus_tables.specs.Rows as spec;
