@@ -1,28 +1,34 @@
 -- Replies on one grid are replies on the map.
 use Rattle.std.proofs.Common.{◌≡◌, ◌<◌, ◌≤◌, ◌+◌, ◌*◌, ◌^◌, Bool, true, false, refl, sym, subst, ◌∙◌, ◌∷◌}
-use Rattle.std.proofs.Common.{arith, length, inr, List, [], ℕ}
+use Rattle.std.proofs.Common.{arith, length, List, [], ℕ}
 use Rattle.std.specs.Prelude.{Result, Ok, Err, IfOk, MatchOption, Option, if◌then◌else◌}
 use Rattle.std.specs.Prelude as option
 use Rattle.std.proofs.lemmas.Bool.{and_parts}
 use Rattle.root2_cost.specs.declared.Cost.{Cost}
 use Rattle.grid_moves.specs.declared.Cell.{Cell}
+use Rattle.grid_moves.specs.declared.ends.Unsearched.{Unsearched}
+use Rattle.grid_moves.specs.declared.ends.Unsearched.TheVariants as why
+use Rattle.grid_moves.specs.Ends.{IsUnsearched}
 use Rattle.grid_moves.specs.Grid.{GridData, is_free}
 use Rattle.grid_moves.specs.Layers.{Layers, in_one_layer, query_grid}
 use Rattle.grid_moves.specs.Reply.{IsRight, are_free_ends}
 use Rattle.grid_moves.specs.Walk.{NoWalk, cost_of}
 use Rattle.path_points.specs.declared.points.Walk as points
 use Rattle.path_points.specs.Least.{IsLeastOrNone}
+use Rattle.edit_replay.specs.Found.{reply_with, reply_without}
 use Rattle.edit_replay.specs.Replies.{IsRightOn, IsShort, answer_of}
 use Rattle.edit_replay.specs.declared.reply.Reply.{Reply}
 use Rattle.edit_replay.specs.declared.reply.Reply.TheVariants.{Walk, None, Outside, Blocked}
-use Rattle.edit_replay.proofs.Answering.{result_on_grid}
+use Rattle.edit_replay.proofs.Answering.{result_on_grid, unsearched_right}
 use Rattle.grid_moves.proofs.Short.{least_steps, steps-cost_of}
 use Rattle.goal_boxes.specs.Answer.{IsBoxedRunOn}
 use Rattle.first_moves.specs.Follow.{IsFollowed}
 use Rattle.first_moves.proofs.Following.{stands}
-use Rattle.jps_run.specs.Answerers.{IsUnsearched, reply_with}
+use Rattle.jps_run.specs.Answerers.{by_small}
 use Rattle.call_files.specs.Reading.{AreSmall}
-use Rattle.jps_run.specs.Who.{By, IsBoxedReply, IsLedReply, IsReplyBy, IsReplyOn, by_boxes, by_moves}
+use Rattle.jps_run.specs.Who.{By, IsBoxedReply, IsLedReply, IsReplyBy, IsReplyOn}
+use Rattle.jps_run.specs.declared.replies.answerer.SmallEngine.{SmallEngine}
+use Rattle.jps_run.specs.declared.replies.answerer.SmallEngine.TheVariants as by_engine
 
 -- a reply on the grid of the query is one on the map
 pub reply-on-map : (ls : Layers) (by : By) (s t : Cell) (reply : Reply) → are_free_ends ls s t ≡ true
@@ -61,28 +67,27 @@ goal-free ls g s t from to e f same one =
     (subst (λ (c : Cell). is_free (query_grid ls s) c ≡ true) (sym f)
     (and_parts (is_free (query_grid ls s) s) (is_free (query_grid ls s) t) one).1))
 
--- where nothing is searched, the reply is that of a boxed run, and that of first moves
-pub unsearched-boxed : (ls : Layers) (s t : Cell) (reply : Reply) → IsUnsearched ls s t reply
-    → IsReplyBy (record { layers = ls; by = by_boxes }) s t reply
-unsearched-boxed ls s t (Walk points cost taken) u = absurd u.none
-unsearched-boxed ls s t (None taken) u = record { right = u.right; run = rw u.none.0 u.none.1 }
-unsearched-boxed ls s t Outside u = record { right = u.right; run = tt }
-unsearched-boxed ls s t Blocked u = record { right = u.right; run = tt }
+-- where nothing is searched, the reply is that of an engine for small maps
+unsearched-run : (engine : SmallEngine) (ls : Layers) (s t : Cell) (reason : Unsearched)
+    → IsUnsearched ls s t reason
+    → IsReplyOn (by_small engine) (query_grid ls s) s t (reply_without reason)
+unsearched-run by_engine.Boxes ls s t why.Outside is = tt
+unsearched-run by_engine.Boxes ls s t why.Blocked is = tt
+unsearched-run by_engine.Boxes ls s t (why.Apart ends) is = rw is.two refl
+unsearched-run by_engine.Moves ls s t why.Outside is = tt
+unsearched-run by_engine.Moves ls s t why.Blocked is = tt
+unsearched-run by_engine.Moves ls s t (why.Apart ends) is = refl
 
-pub unsearched-led : (ls : Layers) (s t : Cell) (reply : Reply) → IsUnsearched ls s t reply
-    → IsReplyBy (record { layers = ls; by = by_moves }) s t reply
-unsearched-led ls s t (Walk points cost taken) u = absurd u.none
-unsearched-led ls s t (None taken) u = record { right = u.right; run = u.none.1 }
-unsearched-led ls s t Outside u = record { right = u.right; run = tt }
-unsearched-led ls s t Blocked u = record { right = u.right; run = tt }
+pub unsearched-small : (engine : SmallEngine) (ls : Layers) (s t : Cell) (reason : Unsearched)
+    → IsUnsearched ls s t reason
+    → IsReplyBy (record { layers = ls; by = by_small engine }) s t (reply_without reason)
+unsearched-small engine ls s t reason is = record {
+  right = unsearched_right ls s t reason is;
+  run = unsearched-run engine ls s t reason is;
+}
 
--- the reply of what was found between free cells is right where that is, and come to in the same way
+-- the reply of what was found between free cells is come to in the same way
 module _ (g : GridData) (s t : Cell) where
-  pub found_right : (walk : Option points.Walk) (taken : List ℕ) → is_free g s ≡ true → is_free g t ≡ true
-      → IsLeastOrNone g s t walk → IsRightOn g s t (reply_with walk taken)
-  found_right (option.Some w) taken from to least = (rw (from, to) refl, least)
-  found_right option.None taken from to none = inr none
-
   pub found_boxed : (walk : Option points.Walk) (taken : List ℕ) → is_free g s ≡ true → is_free g t ≡ true
       → IsBoxedRunOn g s t (record { walk = walk; taken = taken }) → IsBoxedReply g s t (reply_with walk taken)
   found_boxed (option.Some w) taken from to run = run

@@ -1,9 +1,11 @@
 -- What searches tell of the queries of entries.
 use Rattle.std.proofs.Common.{◌≡◌, refl, subst, inl, inr, true, false, Bool, ℕ, ◌&&◌, ◌||◌}
-use Rattle.std.specs.Prelude.{if◌then◌else◌}
+use Rattle.std.specs.Prelude.{if◌then◌else◌, None}
 use Rattle.grid_moves.specs.declared.Cell.{Cell}
+use Rattle.grid_moves.specs.declared.ends.Ends.{Ends}
+use Rattle.grid_moves.specs.Ends.{AreApart}
 use Rattle.grid_moves.specs.Grid.{is_free}
-use Rattle.grid_moves.specs.Layers.{Layers, is_free_ground, is_on_map, query_grid}
+use Rattle.grid_moves.specs.Layers.{Layers, in_one_layer, is_free_ground, is_on_map, query_grid}
 use Rattle.grid_moves.specs.Reply.{IsRight, are_free_ends}
 use Rattle.edit_replay.proofs.Replying.{has_reply}
 use Rattle.edit_replay.specs.Replies.{answer_of}
@@ -15,7 +17,7 @@ use Rattle.grid_moves.proofs.Legal.{same_cell}
 use Rattle.plain_search.specs.Costs.{IsCostTo}
 use Rattle.scen_text.specs.declared.entry.Entry.{Entry}
 use Rattle.walk_judge.proofs.Judgements.{none_to_blocked, stands_costs}
-use Rattle.scen_maker.specs.Settling.{IsSettled, cost_in, goal_of, has_sides, start_of}
+use Rattle.scen_maker.specs.Settling.{IsSearched, IsSettled, cost_in, goal_of, has_sides, start_of}
 use Rattle.scen_maker.specs.declared.costs.Settled.{Settled}
 use Rattle.scen_maker.specs.declared.costs.Settled.TheVariants as settled
 
@@ -44,14 +46,29 @@ first-free : (a b : Bool) → (a && b) ≡ true → a ≡ true
 first-free true b e = refl
 first-free false b e = absurd (cc)
 
+apart-costs : (ls : Layers) (s t : Cell) → are_free_ends ls s t ≡ true → in_one_layer ls s t ≡ false
+    → IsCostTo (query_grid ls s) s t None
+apart-costs ls s t free apart = none_to_blocked (query_grid ls s) s t
+    (apart-none ls s t (first-free (is_free_ground ls s) (is_free_ground ls t) free) apart)
+
+-- so an entry between two layers has no least cost
+pub apart_searched : (ls : Layers) (entry : Entry) (ends : Ends) → has_sides ls entry ≡ true
+    → AreApart ls (start_of entry) (goal_of entry) ends → IsSearched ls entry ends.from ends.to None
+apart_searched ls entry ends sides a = record {
+  sides = sides;
+  start = a.from;
+  goal = a.to;
+  free = rw (a.from, a.to) a.free;
+  least = rw (a.from, a.to) (apart-costs ls (start_of entry) (goal_of entry) a.free a.two);
+}
+
 -- a right reply between free ends tells the least cost
 pub right-costs : (ls : Layers) (s t : Cell) (r : Reply) → (is_on_map ls s && is_on_map ls t) ≡ true
     → are_free_ends ls s t ≡ true → IsRight ls s t (answer_of r) → IsCostTo (query_grid ls s) s t (cost_in r)
 right-costs ls s t reply.Outside on free right = absurd (cc)
 right-costs ls s t reply.Blocked on free right = absurd (let no = right.1 in cc)
 right-costs ls s t (reply.None taken) on free right = elim right.1 [
-  | inl apart ↦ none_to_blocked (query_grid ls s) s t
-      (apart-none ls s t (first-free (is_free_ground ls s) (is_free_ground ls t) free) apart)
+  | inl apart ↦ apart-costs ls s t free apart
   | inr none ↦ none
 ]
 right-costs ls s t (reply.Walk points cost taken) on free right =

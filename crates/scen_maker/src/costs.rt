@@ -9,7 +9,7 @@ ghost use Rattle.scen_maker.specs.Settling as spec;
 use crate::NoMemory;
 use call_files::{Extent, OfMap};
 use edit_replay::{Engine, Reply, Session};
-use grid_moves::{Cell, Grid, Layers};
+use grid_moves::{Cell, Ends, Grid, Layers, Unsearched};
 use map_text::MapText;
 use root2_cost::Cost;
 use scen_text::Entry;
@@ -155,15 +155,16 @@ impl LeastCosts {
         if !has_sides(self.session.width(), self.session.height(), entry) {
             return Ok(Settled::Scale);
         }
-        let Some(from) = self.layers.cell_at(entry.sx, entry.sy) else {
-            return Ok(Settled::Outside);
+        let ends = match self.layers.ends(entry.sx, entry.sy, entry.gx, entry.gy) {
+            Ok(ends) => ends,
+            Err(Unsearched::Outside) => return Ok(Settled::Outside),
+            Err(Unsearched::Blocked) => return Ok(Settled::Blocked),
+            Err(Unsearched::Apart(Ends { from, to })) => {
+                let least = None;
+                return Ok(Settled::Searched { from, to, least });
+            }
         };
-        let Some(to) = self.layers.cell_at(entry.gx, entry.gy) else {
-            return Ok(Settled::Outside);
-        };
-        if !self.layers.are_free_ends(from, to) {
-            return Ok(Settled::Blocked);
-        }
+        let Ends { from, to } = ends;
         let least = self.between(alloc, from, to, steps)?;
         Ok(Settled::Searched { from, to, least })
     }

@@ -3,13 +3,13 @@
 
 ghost use Rattle.std.specs.Prelude.{◌≡◌, ◌<◌, [], ◌∷◌, IfOk};
 ghost use Rattle.script_text.specs.declared.command.Command.TheVariants.{Query};
-ghost use Rattle.jps_run.specs.Answerers.{who_from};
+ghost use Rattle.jps_run.specs.Answerers as spec;
 ghost use Rattle.jps_run.specs.Lines.{Unfolds, reply_line};
 ghost use Rattle.jps_run.specs.Querying.{IsQueryWork};
 ghost use Rattle.jps_run.specs.Who.{who_is};
 
 use crate::NoMemory;
-use crate::replies::{Answers, Basis, boxed_reply, led_reply, put_reply};
+use crate::replies::{Answers, Basis, SmallEngine, put_reply, small_reply};
 use crate::work::Work;
 use cell_lines::Ends;
 use edit_replay::{Reply, Session};
@@ -49,34 +49,29 @@ fn by_session(alloc: Global, session: Session, ends: Ends, show: Show) -> Result
     Ok(Work::Answer { job, commands })
 }
 
-// The line of the reply by the boxed run.
-fn by_boxes(alloc: Global, layers: &Layers, ends: Ends, show: Show) -> Result<Work, NoMemory>
-    ensures { IfOk result (IsQueryWork (who_from (Basis.Boxes layers.now)) show
+// The line of the reply by an engine for small maps.
+fn by_small(
+    alloc: Global,
+    layers: &Layers,
+    engine: SmallEngine,
+    ends: Ends,
+    show: Show,
+) -> Result<Work, NoMemory>
+    ensures { IfOk result (IsQueryWork (record { layers = layers.now; by = spec.by_small engine }) show
         (record { x = ends.sx; y = ends.sy }) (record { x = ends.gx; y = ends.gy })) }
 {
-    let reply = boxed_reply(alloc, layers, ends)?;
-    let text = line_of(alloc, &reply, layers.land().width(), show)?;
-    Ok(Work::Print { text, status: 0 })
-}
-
-// The line of the reply by the walk of first moves.
-fn by_moves(alloc: Global, layers: &Layers, ends: Ends, show: Show) -> Result<Work, NoMemory>
-    ensures { IfOk result (IsQueryWork (who_from (Basis.Moves layers.now)) show
-        (record { x = ends.sx; y = ends.sy }) (record { x = ends.gx; y = ends.gy })) }
-{
-    let reply = led_reply(alloc, layers, ends)?;
+    let reply = small_reply(alloc, layers, engine, ends)?;
     let text = line_of(alloc, &reply, layers.land().width(), show)?;
     Ok(Work::Print { text, status: 0 })
 }
 
 /// The work on one query, by what was made of a map.
 pub fn work_on(alloc: Global, basis: Basis, ends: Ends, show: Show) -> Result<Work, NoMemory>
-    ensures { IfOk result (IsQueryWork (who_from basis) show
+    ensures { IfOk result (IsQueryWork (spec.who_from basis) show
         (record { x = ends.sx; y = ends.sy }) (record { x = ends.gx; y = ends.gy })) }
 {
     match basis {
         Basis::Session(session) => by_session(alloc, session, ends, show),
-        Basis::Boxes(layers) => by_boxes(alloc, &layers, ends, show),
-        Basis::Moves(layers) => by_moves(alloc, &layers, ends, show),
+        Basis::Small { layers, engine } => by_small(alloc, &layers, engine, ends, show),
     }
 }

@@ -15,7 +15,7 @@ ghost use Rattle.jps_run.specs.Who.{IsBoxedReply, IsLedReply, IsReplyBy, fewest_
 
 use crate::NoMemory;
 use crate::replies::session_on;
-use crate::replies::small::{ends_on, follow_moves, search_boxed};
+use crate::replies::small::{follow_moves, search_boxed};
 use call_files::{Extent, OfMap};
 use cell_lines::Ends;
 use edit_replay::{Reply, Session};
@@ -28,14 +28,21 @@ use std::sync::ledger::Ledger;
 use steps::Steps;
 use word_list::{Pick, Settings};
 
+/// The engines for small maps, which answer without a session.
+#[derive(Clone, Copy, Debug, PartialEq, Eq)]
+pub enum SmallEngine {
+    /// By the search that goes by goal boxes.
+    Boxes,
+    /// By following first moves.
+    Moves,
+}
+
 /// What is made of a map for the picked engine at once: a session, or the grids of a small map.
 #[derive(Drop)]
 pub enum Basis {
     Session(Session),
-    /// For goal boxes.
-    Boxes(Layers),
-    /// For first moves.
-    Moves(Layers),
+    /// For an engine of small maps.
+    Small { layers: Layers, engine: SmallEngine },
 }
 
 impl OfMap for Basis {
@@ -58,8 +65,14 @@ impl OfMap for Basis {
             Pick::Plain | Pick::Jps | Pick::Block | Pick::Plus => {
                 Ok(Basis::Session(session_on(alloc, &map, settings)?))
             }
-            Pick::Boxes => Ok(Basis::Boxes(Layers::of_map(alloc, map, settings)?)),
-            Pick::Moves => Ok(Basis::Moves(Layers::of_map(alloc, map, settings)?)),
+            Pick::Boxes => Ok(Basis::Small {
+                layers: Layers::of_map(alloc, map, settings)?,
+                engine: SmallEngine::Boxes,
+            }),
+            Pick::Moves => Ok(Basis::Small {
+                layers: Layers::of_map(alloc, map, settings)?,
+                engine: SmallEngine::Moves,
+            }),
         }
     }
 }
@@ -95,9 +108,9 @@ impl BoxLibrary {
         ensures reply { IfOk result (IsReplyBy (who_of (Answerer.Boxes self.now))
             (record { x = ends.sx; y = ends.sy }) (record { x = ends.gx; y = ends.gy })) }
     {
-        match ends_on(alloc, &self.layers, ends) {
-            Ok((from, to)) => self.search(alloc, from, to),
-            Err(reply) => Ok(reply),
+        match self.layers.ends(ends.sx, ends.sy, ends.gx, ends.gy) {
+            Ok(both) => self.search(alloc, both.from, both.to),
+            Err(why) => Ok(Reply::unsearched(alloc, why)),
         }
     }
 
@@ -130,9 +143,9 @@ impl MoveLibrary {
             (record { x = ends.sx; y = ends.sy }) (record { x = ends.gx; y = ends.gy })) }
         ensures later { OnOk result (steps.old ≤ steps.new) }
     {
-        match ends_on(alloc, &self.layers, ends) {
-            Ok((from, to)) => self.follow(alloc, from, to, steps),
-            Err(reply) => Ok(reply),
+        match self.layers.ends(ends.sx, ends.sy, ends.gx, ends.gy) {
+            Ok(both) => self.follow(alloc, both.from, both.to, steps),
+            Err(why) => Ok(Reply::unsearched(alloc, why)),
         }
     }
 
@@ -169,7 +182,10 @@ impl Answerer {
     {
         match basis {
             Basis::Session(session) => Ok(Answerer::Session(session)),
-            Basis::Boxes(layers) => {
+            Basis::Small {
+                layers,
+                engine: SmallEngine::Boxes,
+            } => {
                 let land = Boxes::build(alloc, layers.land())?;
                 let water = Boxes::build(alloc, layers.water())?;
                 Ok(Answerer::Boxes(BoxLibrary {
@@ -178,7 +194,10 @@ impl Answerer {
                     water,
                 }))
             }
-            Basis::Moves(layers) => {
+            Basis::Small {
+                layers,
+                engine: SmallEngine::Moves,
+            } => {
                 let land = Moves::build(alloc, layers.land())?;
                 let water = Moves::build(alloc, layers.water())?;
                 Ok(Answerer::Moves(MoveLibrary {

@@ -1,8 +1,7 @@
 //! A picture of a query.
 
-ghost use Rattle.std.specs.Prelude.{◌≡◌, false, IfOk, MatchOption, OnOk};
+ghost use Rattle.std.specs.Prelude.{◌≡◌, IfOk, OnOk};
 ghost use Rattle.std.specs.Option.{option_map};
-ghost use Rattle.grid_moves.specs.Layers.{is_on_map};
 ghost use Rattle.map_text.specs.Faults.{plain};
 ghost use Rattle.picture.specs.Picture as pictures;
 ghost use Rattle.jps_run.specs.Pictures as spec;
@@ -50,21 +49,6 @@ impl OfMap for Canvas {
     fn of_map(alloc: Global, map: MapText, settings: Settings) -> Result<Canvas, NoMemory> {
         let session = session_on(alloc, &map, settings)?;
         Ok(Canvas { map, session })
-    }
-}
-
-// The cell of this column and row, where it lies on the session's map.
-fn end_at(session: &Session, x: u32, y: u32) -> Option<Cell>
-    ensures { MatchOption result (is_on_map session.now.layers (record { x = x; y = y }) ≡ false)
-        (λ c. c ≡ record { x = x; y = y }) }
-{
-    if x < u32::from(session.width()) && y < u32::from(session.height()) {
-        Some(Cell {
-            x: x as u16,
-            y: y as u16,
-        })
-    } else {
-        None
     }
 }
 
@@ -138,10 +122,10 @@ fn drawn<L: Ledger>(
     ensures counted { OnOk result (RoseForQuery (who_is session.old) (record { x = ends.sx; y = ends.sy })
         (record { x = ends.gx; y = ends.gy }) steps.old steps.new) }
 {
-    let Some(from) = end_at(session, ends.sx, ends.sy) else {
+    let Some(from) = session.cell_at(ends.sx, ends.sy) else {
         return said(alloc, b"outside\n");
     };
-    let Some(to) = end_at(session, ends.gx, ends.gy) else {
+    let Some(to) = session.cell_at(ends.gx, ends.gy) else {
         return said(alloc, b"outside\n");
     };
     let reply = session.query(alloc, ends.sx, ends.sy, ends.gx, ends.gy, steps)?;

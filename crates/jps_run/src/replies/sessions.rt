@@ -122,6 +122,6 @@ pub fn session_of(basis: Basis) -> Session
 {
     match basis {
         Basis::Session(session) => session,
-        Basis::Boxes(_) | Basis::Moves(_) => unreachable!(),
+        Basis::Small { .. } => unreachable!(),
     }
 }

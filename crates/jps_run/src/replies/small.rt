@@ -1,64 +1,28 @@
 //! Replies on small maps: by the search that goes by goal boxes, and by following first moves.
 
-ghost use Rattle.std.specs.Prelude.{◌≡◌, ◌≤◌, ◌*◌, ◌<◌, true, MatchResult, IfOk, OnOk};
+ghost use Rattle.std.specs.Prelude.{◌≡◌, ◌≤◌, ◌*◌, ◌<◌, true, IfOk, OnOk};
 ghost use Rattle.edit_replay.specs.Replies.{IsRightOn};
 ghost use Rattle.first_moves.specs.Row.{AreMoves};
 ghost use Rattle.goal_boxes.specs.Stored.{HoldsBoxes};
 ghost use Rattle.grid_moves.specs.Grid.{is_free};
-ghost use Rattle.jps_run.specs.Answerers.{AreEndsOn, IsUnsearched, reply_with};
-ghost use Rattle.jps_run.specs.Who.{IsBoxedReply, IsLedReply, IsReplyBy, by_boxes, by_moves};
+ghost use Rattle.jps_run.specs.Answerers.{by_small};
+ghost use Rattle.jps_run.specs.Who.{IsBoxedReply, IsLedReply, IsReplyBy, IsReplyOn};
 
 use crate::NoMemory;
+use crate::replies::answerer::SmallEngine;
 use cell_lines::Ends;
 use edit_replay::Reply;
 use first_moves::{Moves, follow_by_pass};
 use goal_boxes::{Boxes, boxed_query, boxed_search};
 use grid_moves::{Cell, Grid, Layers};
-use path_points::Walk;
 use plain_search::Taken;
 use std::alloc::Global;
 use std::marker::Brand;
 use std::sync::ledger::{Blank, Ledger};
 use steps::Steps;
 
-/// The ends of a query, where both are free on its grid; else the reply, for which nothing is searched.
-pub fn ends_on(alloc: Global, layers: &Layers, ends: Ends) -> Result<(Cell, Cell), Reply>
-    ensures { MatchResult result
-        (AreEndsOn layers.now (record { x = ends.sx; y = ends.sy }) (record { x = ends.gx; y = ends.gy }))
-        (IsUnsearched layers.now (record { x = ends.sx; y = ends.sy }) (record { x = ends.gx; y = ends.gy })) }
-{
-    let Some(from) = layers.cell_at(ends.sx, ends.sy) else {
-        return Err(Reply::Outside);
-    };
-    let Some(to) = layers.cell_at(ends.gx, ends.gy) else {
-        return Err(Reply::Outside);
-    };
-    if !layers.are_free_ends(from, to) {
-        return Err(Reply::Blocked);
-    }
-    if !layers.in_one_layer(from, to) {
-        return Err(Reply::None {
-            taken: Taken::new(alloc),
-        });
-    }
-    Ok((from, to))
-}
-
-// The reply of what was found between free cells.
-fn reply_of(walk: Option<Walk>, taken: Taken) -> Reply
-    ensures { result ≡ reply_with walk taken }
-{
-    match walk {
-        Some(Walk { points, cost }) => Reply::Walk {
-            points,
-            cost,
-            taken,
-        },
-        None => Reply::None { taken },
-    }
-}
-
 /// The reply of the boxed run between free cells of a grid, by its boxes.
+#[tactic(auto, using(edit_replay::proofs::Answering::found_right))]
 pub fn search_boxed(
     alloc: Global,
     grid: &Grid,
@@ -73,10 +37,11 @@ pub fn search_boxed(
     ensures run { IfOk result (IsBoxedReply grid.now from to) }
 {
     let found = boxed_search(alloc, grid, boxes, from, to)?;
-    Ok(reply_of(found.walk, found.taken))
+    Ok(Reply::found(found.walk, found.taken))
 }
 
 /// The reply of the walk of first moves between free cells of a small grid, by its first moves.
+#[tactic(auto, using(edit_replay::proofs::Answering::found_right))]
 pub fn follow_moves<L: Ledger>(
     alloc: Global,
     grid: &Grid,
@@ -95,13 +60,16 @@ pub fn follow_moves<L: Ledger>(
 {
     let taken = Taken::new(alloc);
     let walk = moves.follow(alloc, grid, from, to, steps)?;
-    Ok(reply_of(walk, taken))
+    Ok(Reply::found(walk, taken))
 }
 
-// The reply of the boxed run with no boxes at hand: a pass for each taken cell, at most.
-fn search_alone<L: Ledger>(
+// The reply between free cells of a grid of which nothing is kept: by the boxed run, with a pass for each
+// taken cell at most, or by the walk of first moves, with one pass, from the goal.
+#[tactic(auto, using(edit_replay::proofs::Answering::found_right))]
+fn reply_alone<L: Ledger>(
     alloc: Global,
     grid: &Grid,
+    engine: SmallEngine,
     from: Cell,
     to: Cell,
     blank: Blank,
@@ -112,55 +80,41 @@ fn search_alone<L: Ledger>(
     requires from { is_free grid.now from ≡ true }
     requires to { is_free grid.now to ≡ true }
     ensures right { IfOk result (IsRightOn grid.now from to) }
-    ensures run { IfOk result (IsBoxedReply grid.now from to) }
-{
-    let mut passes = Steps::<L>::new(blank);
-    let found = boxed_query(alloc, grid, from, to, &mut passes)?;
-    Ok(reply_of(found.walk, found.taken))
-}
-
-// The reply of the walk of first moves with none of them at hand: one pass, from the goal.
-fn follow_alone<L: Ledger>(
-    alloc: Global,
-    grid: &Grid,
-    from: Cell,
-    to: Cell,
-    blank: Blank,
-) -> Result<Reply, NoMemory>
-    requires name { blank.name ≡ L.name }
-    requires parts { blank.parts ≡ L.parts }
-    requires some { 0 < L.parts }
-    requires from { is_free grid.now from ≡ true }
-    requires to { is_free grid.now to ≡ true }
-    ensures right { IfOk result (IsRightOn grid.now from to) }
-    ensures run { IfOk result (IsLedReply grid.now from to) }
+    ensures run { IfOk result (IsReplyOn (by_small engine) grid.now from to) }
 {
     let mut steps = Steps::<L>::new(blank);
-    let taken = Taken::new(alloc);
-    let walk = follow_by_pass(alloc, grid, from, to, &mut steps)?;
-    Ok(reply_of(walk, taken))
+    match engine {
+        SmallEngine::Boxes => {
+            let found = boxed_query(alloc, grid, from, to, &mut steps)?;
+            Ok(Reply::found(found.walk, found.taken))
+        }
+        SmallEngine::Moves => {
+            let walk = follow_by_pass(alloc, grid, from, to, &mut steps)?;
+            Ok(Reply::found(walk, Taken::new(alloc)))
+        }
+    }
 }
 
-/// The reply to one query by the boxed run. No more boxes are found than it asks for.
-pub fn boxed_reply(alloc: Global, layers: &Layers, ends: Ends) -> Result<Reply, NoMemory>
-    ensures { IfOk result (IsReplyBy (record { layers = layers.now; by = by_boxes })
+/// The reply to one query by an engine for small maps. No more boxes or first moves are found than it asks
+/// for.
+pub fn small_reply(
+    alloc: Global,
+    layers: &Layers,
+    engine: SmallEngine,
+    ends: Ends,
+) -> Result<Reply, NoMemory>
+    ensures { IfOk result (IsReplyBy (record { layers = layers.now; by = by_small engine })
         (record { x = ends.sx; y = ends.sy }) (record { x = ends.gx; y = ends.gy })) }
 {
-    let (from, to) = match ends_on(alloc, layers, ends) {
-        Ok(both) => both,
-        Err(reply) => return Ok(reply),
-    };
-    search_alone::<Brand>(alloc, layers.query_grid(from), from, to, Blank::new(1))
-}
-
-/// The reply to one query by the walk of first moves. No more of them are found than it asks for.
-pub fn led_reply(alloc: Global, layers: &Layers, ends: Ends) -> Result<Reply, NoMemory>
-    ensures { IfOk result (IsReplyBy (record { layers = layers.now; by = by_moves })
-        (record { x = ends.sx; y = ends.sy }) (record { x = ends.gx; y = ends.gy })) }
-{
-    let (from, to) = match ends_on(alloc, layers, ends) {
-        Ok(both) => both,
-        Err(reply) => return Ok(reply),
-    };
-    follow_alone::<Brand>(alloc, layers.query_grid(from), from, to, Blank::new(1))
+    match layers.ends(ends.sx, ends.sy, ends.gx, ends.gy) {
+        Ok(both) => reply_alone::<Brand>(
+            alloc,
+            layers.query_grid(both.from),
+            engine,
+            both.from,
+            both.to,
+            Blank::new(1),
+        ),
+        Err(why) => Ok(Reply::unsearched(alloc, why)),
+    }
 }

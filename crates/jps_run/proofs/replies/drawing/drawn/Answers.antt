@@ -21,11 +21,11 @@ returns-in_default-clause-counted g c =
     outside_counted c.said.result d s t c.args.steps.now
     (first (is_on_map d.layers s) (is_on_map d.layers t) c.in_default.ensures)
 
-pub returns-in_default-end_at-clause-counted : goal.returns-in_default-end_at-clause-counted
-returns-in_default-end_at-clause-counted g c =
+pub returns-in_default-cell_at-clause-counted : goal.returns-in_default-cell_at-clause-counted
+returns-in_default-cell_at-clause-counted g c =
     let e = c.args.ends in
     let s : Cell = record { x = e.sx; y = e.sy } in
     let t : Cell = record { x = e.gx; y = e.gy } in
     let d = c.args.session.now in
-    outside_counted c.said-in_default-end_at.result d s t c.args.steps.now
-    (second (is_on_map d.layers s) (is_on_map d.layers t) c.in_default-end_at.ensures)
+    outside_counted c.said-in_default-cell_at.result d s t c.args.steps.now
+    (second (is_on_map d.layers s) (is_on_map d.layers t) c.in_default-cell_at.ensures)

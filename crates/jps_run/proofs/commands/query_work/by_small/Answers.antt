@@ -1,0 +1,18 @@
+use Rattle.std.proofs.Common.{ap, ◌∙◌}
+use Rattle.grid_moves.specs.Grid.{GridData}
+use Rattle.jps_run.specs.Answerers.{by_small}
+use Rattle.jps_run.proofs.Querying.{small_fewest, small_most, told-work}
+use Rattle.jps_run.proofs.Unfolding.{replied_unfolds}
+use Rattle.jps_run.proofs.commands.query_work.by_small.Goals as goal
+
+pub line_of-requires-clause-unfolds : goal.line_of-requires-clause-unfolds
+line_of-requires-clause-unfolds c =
+    replied_unfolds (record { layers = c.args.layers.now; by = by_small c.args.engine }) _ _
+    c.in_ok-reply.reply c.in_ok-reply.ensures
+
+pub returns : goal.returns
+returns c =
+    told-work (record { layers = c.args.layers.now; by = by_small c.args.engine }) c.args.show _ _
+    c.in_ok-reply.reply c.width.result c.in_ok-text.text c.in_ok-reply.ensures (small_fewest c.args.engine)
+    (small_most c.args.engine) (c.width.ensures.is ∙ ap (λ (g : GridData). g.width) c.land.ensures)
+    c.in_ok-text.ensures
