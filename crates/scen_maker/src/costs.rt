@@ -155,13 +155,19 @@ impl LeastCosts {
         if !has_sides(self.session.width(), self.session.height(), entry) {
             return Ok(Settled::Scale);
         }
-        let ends = match self.layers.ends(entry.sx, entry.sy, entry.gx, entry.gy) {
+        let layers = self.layers();
+        // (by their clause these are the layers of one map)
+        let _both = layers.both();
+        let ends = match layers.ends(entry.sx, entry.sy, entry.gx, entry.gy) {
             Ok(ends) => ends,
             Err(Unsearched::Outside) => return Ok(Settled::Outside),
             Err(Unsearched::Blocked) => return Ok(Settled::Blocked),
             Err(Unsearched::Apart(Ends { from, to })) => {
-                let least = None;
-                return Ok(Settled::Searched { from, to, least });
+                return Ok(Settled::Searched {
+                    from,
+                    to,
+                    least: None,
+                });
             }
         };
         let Ends { from, to } = ends;
