@@ -2,8 +2,8 @@ use Rattle.jps_run.specs.Answerers.{by_small}
 use Rattle.jps_run.proofs.Replying.{goal-free, result-on-map, unsearched-small}
 use Rattle.jps_run.proofs.replies.small.small_reply.Goals as goal
 
-pub reply_alone-requires-in-Ok-clause-to : goal.reply_alone-requires-in-Ok-clause-to
-reply_alone-requires-in-Ok-clause-to c =
+pub reply_alone-requires-clause-to : goal.reply_alone-requires-clause-to
+reply_alone-requires-clause-to c =
     goal-free c.args.layers.now c.query_grid.result.now _ _ c.in-Ok.both.from c.in-Ok.both.to
     c.in-Ok.ensures.from c.in-Ok.ensures.to c.query_grid.ensures c.in-Ok.ensures.one
 
