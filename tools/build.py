@@ -330,7 +330,9 @@ class KeptBuild(Build):
 
 
 if __name__ == "__main__":
-    signal.signal(signal.SIGTERM, lambda *_: sys.exit(1))
+    for it in (signal.SIGTERM, signal.SIGHUP):
+        if signal.getsignal(it) != signal.SIG_IGN:
+            signal.signal(it, lambda *_: sys.exit(1))
     KEEPS = sys.argv[4:] == ["--keep"]
     PROGRAM, LOG, LANES = sys.argv[1:4] if KEEPS else sys.argv[1:]
     BUILD = (KeptBuild if KEEPS else Build)(PROGRAM, LOG, int(LANES))
