@@ -6,16 +6,17 @@ ghost use Rattle.grid_moves.specs.Grid.{GridData, grid_with, is_inside};
 use crate::NoMemory;
 use crate::lines::{Columns, Lines, Rows};
 use grid_moves::{Cell, Corner, Grid, Terrain};
+use pruning::AllowedTable;
 use std::alloc::Global;
 use std::marker::Model;
 
 /// Which cells of a grid are free, as bits of its rows and of its columns. They keep the grid's sides and its
-/// corner rule.
+/// corner rule, this one as a table of the allowed directions by the bits around a cell.
 #[derive(Drop)]
 pub struct BitGrid {
     width: u16,
     height: u16,
-    corner: Corner,
+    allowed: AllowedTable,
     rows: Lines,
     columns: Lines,
 }
@@ -30,7 +31,7 @@ impl Model for BitGrid {
     ghost view = { λ b. record {
       width = b.width;
       height = b.height;
-      corner = b.corner;
+      corner = b.allowed;
       rows = b.rows;
       columns = b.columns;
     } };
@@ -38,7 +39,7 @@ impl Model for BitGrid {
     ghost invariant = { λ b. HasRoom (record {
       width = b.width;
       height = b.height;
-      corner = b.corner;
+      corner = b.allowed;
       rows = b.rows;
       columns = b.columns;
     }) };
@@ -47,18 +48,19 @@ impl Model for BitGrid {
 impl BitGrid {
     ghost use Rattle.bit_grid.specs.Bits.{AreBitsOf, AreColumnsOf, AreRowsOf, IsOnMap};
 
-    /// The bits of a grid: 9 blocks for each of 4098 rows and as many columns at most, 4.7 MB.
+    /// The bits of a grid: 9 blocks for each of 4098 rows and as many columns at most, 4.7 MB; and 9 KB of
+    /// allowed directions.
     pub fn of_grid(alloc: Global, grid: &Grid) -> Result<BitGrid, NoMemory>
         ensures { IfOk result (λ bits. AreBitsOf bits grid.now) }
     {
         let (width, height) = (grid.width(), grid.height());
-        let corner = grid.corner();
+        let allowed = AllowedTable::of_rule(alloc, grid.corner())?;
         let rows = Lines::rows_of(alloc, grid)?;
         let columns = rows.turned(alloc, width, height)?;
         Ok(BitGrid {
             width,
             height,
-            corner,
+            allowed,
             rows,
             columns,
         })
@@ -96,7 +98,15 @@ impl BitGrid {
     pub fn corner(&self) -> Corner
         ensures { result ≡ self.now.corner }
     {
-        self.corner
+        self.allowed.corner()
+    }
+
+    /// The allowed directions by the bits around a cell, under the corner rule.
+    #[inline(always)]
+    pub fn allowed_table(&self) -> &AllowedTable
+        ensures { result.now ≡ self.now.corner }
+    {
+        &self.allowed
     }
 
     /// The rows.

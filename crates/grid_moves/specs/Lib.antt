@@ -11,3 +11,4 @@ pub mod Laws
 pub mod Ring
 pub mod Around
 pub mod Padded
+pub mod Ruled

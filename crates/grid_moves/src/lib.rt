@@ -15,6 +15,7 @@ pub mod laws;
 mod layers;
 mod moves;
 mod ring;
+mod ruled;
 mod terrain;
 
 pub use around::{Around, moves_around};
@@ -25,6 +26,7 @@ pub use moves::{
     before, beyond, cell_ahead, cell_behind, dir_number, estimate, move_cost, opposite,
 };
 pub use ring::Ring;
+pub use ruled::{Ruled, rule_of_number};
 pub use std::alloc::AllocError as NoMemory;
 pub use terrain::{
     Terrain, is_inside, is_legal, is_passable, may_cut, may_slip, number_of, passable_bits, step,

@@ -9,7 +9,6 @@ use Rattle.grid_moves.specs.declared.Cell.{Cell}
 use Rattle.grid_moves.specs.declared.Corner.{Corner}
 use Rattle.grid_moves.specs.declared.Dir.{Dir}
 use Rattle.grid_moves.specs.declared.Dir.TheVariants.{N, NE, E, SE, S, SW, W, NW}
-use Rattle.grid_moves.specs.declared.ring.Ring.{Ring}
 use Rattle.grid_moves.specs.Grid.{GridData, is_free}
 use Rattle.grid_moves.specs.Move.{is_open, is_passable}
 use Rattle.grid_moves.specs.Ring.{is_free_on}
@@ -17,6 +16,7 @@ use Rattle.bit_grid.specs.Bits.{is_set}
 use Rattle.pruning.specs.declared.turns.Side.TheVariants.{Right, Left}
 use Rattle.pruning.specs.Turns.{turn, is_diagonal}
 use Rattle.pruning.specs.Allowed.{can_move}
+use Rattle.pruning.specs.Eight.{has_bit, ring_of}
 use Rattle.pruning.proofs.Moves.{can_move-diagonal}
 use Rattle.jump_block.specs.Near.{AreThree}
 use Rattle.jump_block.specs.Source.{by_rows}
@@ -50,24 +50,70 @@ pub three_at : (f : ℕ → ℕ → Bool) (line first line' first' word : ℕ) �
     → AreThree f line first word → AreThree f line' first' word
 three_at f line first line' first' word e h three = grind (arith, nat_tests, common_steps)
 
--- the cells around a cell are the middle bits' neighbours
-pub ring_read : (g : GridData) (x : Cell) (above middle below : ℕ) (ring : Ring)
-    → AreThree (by_rows g) x.y x.x above → AreThree (by_rows g) (x.y + 1) x.x middle
-    → AreThree (by_rows g) (x.y + 2) x.x below
-    → ring.n ≡ is_set above 1 → ring.ne ≡ is_set above 2 → ring.e ≡ is_set middle 2 → ring.se ≡ is_set below 2
-    → ring.s ≡ is_set below 1 → ring.sw ≡ is_set below 0 → ring.w ≡ is_set middle 0 → ring.nw ≡ is_set above 0
-    → (d : Dir) → is_free_on ring d ≡ is_open g x d
-ring_read g x above middle below ring a m b n ne e se s sw w nw = by_dir
-  where
-    by_dir : (d : Dir) → is_free_on ring d ≡ is_open g x d
-    by_dir N = n ∙ a 1 (omega arith) ∙ is_open_there g N x.x x.y _ _ (omega arith) (omega arith)
-    by_dir NE = ne ∙ a 2 (omega arith) ∙ is_open_there g NE x.x x.y _ _ (omega arith) (omega arith)
-    by_dir E = e ∙ m 2 (omega arith) ∙ is_open_there g E x.x x.y _ _ (omega arith) (omega arith)
-    by_dir SE = se ∙ b 2 (omega arith) ∙ is_open_there g SE x.x x.y _ _ (omega arith) (omega arith)
-    by_dir S = s ∙ b 1 (omega arith) ∙ is_open_there g S x.x x.y _ _ (omega arith) (omega arith)
-    by_dir SW = sw ∙ b 0 (omega arith) ∙ is_open_there g SW x.x x.y _ _ (omega arith) (omega arith)
-    by_dir W = w ∙ m 0 (omega arith) ∙ is_open_there g W x.x x.y _ _ (omega arith) (omega arith)
-    by_dir NW = nw ∙ a 0 (omega arith) ∙ is_open_there g NW x.x x.y _ _ (omega arith) (omega arith)
+-- the eight bits that are taken from three words
+module _ (above middle below eight : ℕ)
+    (is : eight ≡ above % 8 + middle % 2 * 8 + middle / 4 % 2 * 16 + below % 8 * 32) where
+  above_at_0 : has_bit eight 1 ≡ is_set above 0
+  above_at_0 =
+      let same : eight / 1 % 2 ≡ above / 1 % 2 = omega (arith, is) in
+      ap (λ (n : ℕ). nat_eq n 1) same
+
+  above_at_1 : has_bit eight 2 ≡ is_set above 1
+  above_at_1 =
+      let same : eight / 2 % 2 ≡ above / 2 % 2 = omega (arith, is) in
+      ap (λ (n : ℕ). nat_eq n 1) same
+
+  above_at_2 : has_bit eight 4 ≡ is_set above 2
+  above_at_2 =
+      let same : eight / 4 % 2 ≡ above / 4 % 2 = omega (arith, is) in
+      ap (λ (n : ℕ). nat_eq n 1) same
+
+  middle_at_0 : has_bit eight 8 ≡ is_set middle 0
+  middle_at_0 =
+      let same : eight / 8 % 2 ≡ middle / 1 % 2 = omega (arith, is) in
+      ap (λ (n : ℕ). nat_eq n 1) same
+
+  middle_at_2 : has_bit eight 16 ≡ is_set middle 2
+  middle_at_2 =
+      let same : eight / 16 % 2 ≡ middle / 4 % 2 = omega (arith, is) in
+      ap (λ (n : ℕ). nat_eq n 1) same
+
+  below_at_0 : has_bit eight 32 ≡ is_set below 0
+  below_at_0 =
+      let same : eight / 32 % 2 ≡ below / 1 % 2 = omega (arith, is) in
+      ap (λ (n : ℕ). nat_eq n 1) same
+
+  below_at_1 : has_bit eight 64 ≡ is_set below 1
+  below_at_1 =
+      let same : eight / 64 % 2 ≡ below / 2 % 2 = omega (arith, is) in
+      ap (λ (n : ℕ). nat_eq n 1) same
+
+  below_at_2 : has_bit eight 128 ≡ is_set below 2
+  below_at_2 =
+      let same : eight / 128 % 2 ≡ below / 4 % 2 = omega (arith, is) in
+      ap (λ (n : ℕ). nat_eq n 1) same
+
+  -- the cells around a cell are the middle bit's neighbours
+  pub eight_read : (g : GridData) (x : Cell)
+      → AreThree (by_rows g) x.y x.x above → AreThree (by_rows g) (x.y + 1) x.x middle
+      → AreThree (by_rows g) (x.y + 2) x.x below
+      → (d : Dir) → is_free_on (ring_of eight) d ≡ is_open g x d
+  eight_read g x a m b N = above_at_1 ∙ a 1 (omega arith)
+      ∙ is_open_there g N x.x x.y _ _ (omega arith) (omega arith)
+  eight_read g x a m b NE = above_at_2 ∙ a 2 (omega arith)
+      ∙ is_open_there g NE x.x x.y _ _ (omega arith) (omega arith)
+  eight_read g x a m b E = middle_at_2 ∙ m 2 (omega arith)
+      ∙ is_open_there g E x.x x.y _ _ (omega arith) (omega arith)
+  eight_read g x a m b SE = below_at_2 ∙ b 2 (omega arith)
+      ∙ is_open_there g SE x.x x.y _ _ (omega arith) (omega arith)
+  eight_read g x a m b S = below_at_1 ∙ b 1 (omega arith)
+      ∙ is_open_there g S x.x x.y _ _ (omega arith) (omega arith)
+  eight_read g x a m b SW = below_at_0 ∙ b 0 (omega arith)
+      ∙ is_open_there g SW x.x x.y _ _ (omega arith) (omega arith)
+  eight_read g x a m b W = middle_at_0 ∙ m 0 (omega arith)
+      ∙ is_open_there g W x.x x.y _ _ (omega arith) (omega arith)
+  eight_read g x a m b NW = above_at_0 ∙ a 0 (omega arith)
+      ∙ is_open_there g NW x.x x.y _ _ (omega arith) (omega arith)
 
 -- a diagonal move is told by three cells
 pub leads_by : (g : GridData) (x : Cell) (d : Dir) → is_free g x ≡ true → is_diagonal d ≡ true

@@ -1,15 +1,16 @@
-//! The cells around a cell, read from the bits of three rows.
+//! The bits around a cell, read from three rows.
 
-ghost use Rattle.std.specs.Prelude.{◌≡◌, ℕ, suc, ◌+◌, ◌*◌, ◌/◌, ◌<◌, ◌≤◌, Bool};
+ghost use Rattle.std.specs.Prelude.{◌≡◌, ℕ, suc, ◌+◌, ◌*◌, ◌/◌, ◌%◌, ◌<◌, ◌≤◌, Bool};
 ghost use Rattle.grid_moves.specs.Move as moves;
 ghost use Rattle.grid_moves.specs.Ring.{is_free_on};
+ghost use Rattle.pruning.specs.Eight.{ring_of};
 ghost use Rattle.bit_grid.specs.Bits.{Shows, is_set};
 ghost use Rattle.jump_block.specs.Near.{AreThree, AreThreeBeside};
 ghost use Rattle.jump_block.specs.Source.{OnSome, OnEach};
 
 use crate::straight::Bits;
 use bit_grid::{Lines, ThreeWords};
-use grid_moves::{Cell, Ring};
+use grid_moves::Cell;
 use std::sync::ledger::Ledger;
 use steps::Steps;
 
@@ -110,29 +111,30 @@ fn three_beside<L: Ledger>(lines: &Lines, line: u32, first: u32, steps: &mut Ste
     }
 }
 
+// The bits around the middle one of each line's lowest three: three of the line before from the lowest, then
+// two of the line, and three of the line after.
+#[inline(always)]
+fn around_middle(words: ThreeWords) -> usize
+    ensures is { result
+        ≡ words.before % 8 + words.middle % 2 * 8 + words.middle / 4 % 2 * 16 + words.after % 8 * 32 }
+    ensures few { result < 256 }
+{
+    let beside = words.middle % 2 * 8 + words.middle / 4 % 2 * 16;
+    (words.before % 8 + beside + words.after % 8 * 32) as usize
+}
+
 impl<'a> Bits<'a> {
-    /// Reads which of the cells around a free cell are free.
+    /// Reads which of the cells around a free cell are free, as eight bits in the order of pruning's
+    /// `ring_of`.
     #[inline(always)]
-    pub(crate) fn ring<L: Ledger>(&self, at: Cell, steps: &mut Steps<L>) -> Ring
+    pub(crate) fn eight<L: Ledger>(&self, at: Cell, steps: &mut Steps<L>) -> usize
         requires stands { OnSome self.now at }
-        ensures around { OnEach self.now at (λ g. (d : _) → is_free_on result d ≡ moves.is_open g at d) }
+        ensures few { result < 256 }
+        ensures around { OnEach self.now at
+            (λ g. (d : _) → is_free_on (ring_of result) d ≡ moves.is_open g at d) }
         ensures fewest { steps.old + 3 ≤ steps.new }
     {
         let (x, y) = (u32::from(at.x), u32::from(at.y));
-        let ThreeWords {
-            middle,
-            before,
-            after,
-        } = three_beside(self.rows, y + 1, x, steps);
-        Ring {
-            n: is_set(before, 1),
-            ne: is_set(before, 2),
-            e: is_set(middle, 2),
-            se: is_set(after, 2),
-            s: is_set(after, 1),
-            sw: is_set(after, 0),
-            w: is_set(middle, 0),
-            nw: is_set(before, 0),
-        }
+        around_middle(three_beside(self.rows, y + 1, x, steps))
     }
 }

@@ -9,7 +9,7 @@ ghost use Rattle.pruning.specs.Allowed.{can_move};
 ghost use Rattle.pruning.specs.Marked.{is_forced};
 ghost use Rattle.bit_grid.specs.Bits.{is_free_from_one};
 ghost use Rattle.pruning.specs.First as first;
-ghost use Rattle.pruning.specs.Numbered as numbered;
+ghost use Rattle.grid_moves.specs.Ruled as ruled;
 ghost use Rattle.jump_block.specs.Source as spec;
 ghost use Rattle.jump_block.specs.Near.{AreNearStart};
 ghost use Rattle.jump_block.specs.Source.{OnSome, OnEach};
@@ -20,7 +20,7 @@ use crate::straight::Bits;
 use crate::word::Way;
 use bit_grid::ThreeWords;
 use grid_moves::{Cell, Dir, beyond, is_passable, may_cut};
-use pruning::{Side, forced_on, turn};
+use pruning::{Side, forced_on, ring_of, turn};
 use std::sync::ledger::Ledger;
 use steps::Steps;
 
@@ -147,7 +147,7 @@ impl<'a> Bits<'a> {
         ensures forces { OnEach self.now at (λ g. result ≡ is_forced g at d) }
         ensures more { steps.old ≤ steps.new }
     {
-        may_cut(self.corner) && forced_on(self.corner, self.ring(at, steps), d)
+        may_cut(self.corner) && forced_on(self.corner, ring_of(self.eight(at, steps)), d)
     }
 
     // Whether a diagonal jump stops at a cell: it is the goal, or a neighbour is forced there, or a straight
@@ -160,7 +160,7 @@ impl<'a> Bits<'a> {
         goal: Cell,
         steps: &mut Steps<L>,
     ) -> bool
-        requires rule { self.now.corner ≡ numbered.rule_of_number RULE }
+        requires rule { self.now.corner ≡ ruled.rule_of_number RULE }
         requires stands { OnSome self.now at }
         requires diagonal { is_diagonal d ≡ true }
         ensures stops { OnEach self.now at (λ g. result ≡ (is_same at goal || is_forced g at d
@@ -190,7 +190,7 @@ impl<'a> Bits<'a> {
         near: ThreeWords,
         steps: &mut Steps<L>,
     ) -> bool
-        requires rule { self.now.corner ≡ numbered.rule_of_number RULE }
+        requires rule { self.now.corner ≡ ruled.rule_of_number RULE }
         requires stands { OnSome self.now at }
         requires near { AreNearStart self.now.rows.now (at.y + 1) (at.x + 1) near }
         requires diagonal { is_diagonal d ≡ true }
@@ -217,7 +217,7 @@ impl<'a> Bits<'a> {
         goal: Cell,
         steps: &mut Steps<L>,
     ) -> Option<u16>
-        requires rule { self.now.corner ≡ numbered.rule_of_number RULE }
+        requires rule { self.now.corner ≡ ruled.rule_of_number RULE }
         requires stands { OnSome self.now at }
         requires diagonal { is_diagonal d ≡ true }
         ensures first { OnEach self.now at (λ g. result ≡ first.first_stop g goal at d) }

@@ -1,7 +1,7 @@
 //! Whether a scan along a line halts at a mark, where the goal does not lie on the line.
 
 ghost use Rattle.std.specs.Prelude.{◌≡◌, ℕ, ◌+◌, ◌<◌, ◌≤◌, Bool};
-ghost use Rattle.pruning.specs.Numbered as numbered;
+ghost use Rattle.grid_moves.specs.Ruled as ruled;
 ghost use Rattle.jump_block.specs.Trail.{Halts, Trail};
 ghost use Rattle.jump_block.specs.Scan.{ClearFrom, Finds, IsStart, MeetsFrom, looked};
 ghost use Rattle.jump_block.specs.Near.{AreNearStart};
@@ -11,8 +11,7 @@ use crate::block::{Halt, halt_near, halt_next};
 use crate::scan::{Start, scan, way_of};
 use crate::word::Way;
 use bit_grid::{Lines, ThreeWords};
-use grid_moves::Corner;
-use pruning::rule_of_number;
+use grid_moves::{Corner, rule_of_number};
 use std::sync::ledger::Ledger;
 use steps::Steps;
 
@@ -36,7 +35,7 @@ fn finds_far<const WAY: usize, const RULE: usize, L: Ledger>(
     place: u32,
     steps: &mut Steps<L>,
 ) -> bool
-    requires rule { rule ≡ numbered.rule_of_number RULE }
+    requires rule { rule ≡ ruled.rule_of_number RULE }
     requires starts { (free : ℕ → ℕ → Bool) × IsStart lines.now free line place }
     requires few { lines.now.lines < 65536 }
     requires short { lines.now.blocks ≤ 128 }
@@ -61,7 +60,7 @@ fn finds_next<const WAY: usize, const RULE: usize, L: Ledger>(
     near: ThreeWords,
     steps: &mut Steps<L>,
 ) -> bool
-    requires rule { rule ≡ numbered.rule_of_number RULE }
+    requires rule { rule ≡ ruled.rule_of_number RULE }
     requires starts { (free : ℕ → ℕ → Bool) × IsStart lines.now free line place }
     requires few { lines.now.lines < 65536 }
     requires short { lines.now.blocks ≤ 128 }
@@ -96,7 +95,7 @@ pub(crate) fn finds_mark<const RULE: usize, L: Ledger>(
     near: ThreeWords,
     steps: &mut Steps<L>,
 ) -> bool
-    requires rule { rule ≡ numbered.rule_of_number RULE }
+    requires rule { rule ≡ ruled.rule_of_number RULE }
     requires starts { (free : ℕ → ℕ → Bool) × IsStart lines.now free line place }
     requires few { lines.now.lines < 65536 }
     requires short { lines.now.blocks ≤ 128 }

@@ -1,15 +1,14 @@
 //! Scans along a line, block by block.
 
 ghost use Rattle.std.specs.Prelude.{◌≡◌, ℕ, ◌+◌, ◌-◌, ◌<◌, ◌≤◌, ◌&&◌, Bool, nat_lt, nat_le};
-ghost use Rattle.pruning.specs.Numbered as numbered;
+ghost use Rattle.grid_moves.specs.Ruled as ruled;
 ghost use Rattle.jump_block.specs.Scan.{FindsFrom, IsStart, PassedFrom, looked, most_lanes};
 ghost use Rattle.jump_block.specs.Word as spec;
 
 use crate::block::{Block, Halt, Seek};
 use crate::word::Way;
 use bit_grid::{Lines, ThreeWords};
-use grid_moves::Corner;
-use pruning::rule_of_number;
+use grid_moves::{Corner, rule_of_number};
 use std::sync::ledger::Ledger;
 use steps::Steps;
 
@@ -113,7 +112,7 @@ fn scan_on_by<const WAY: usize, const RULE: usize, L: Ledger>(
     last: ThreeWords,
     steps: &mut Steps<L>,
 ) -> Option<Halt>
-    requires rule { rule ≡ numbered.rule_of_number RULE }
+    requires rule { rule ≡ ruled.rule_of_number RULE }
     requires starts { (free : ℕ → ℕ → Bool) × IsStart lines.now free line place }
     requires few { lines.now.lines < 65536 }
     requires short { lines.now.blocks ≤ 128 }
@@ -137,7 +136,7 @@ pub(crate) fn scan<const RULE: usize, L: Ledger>(
     start: Start,
     steps: &mut Steps<L>,
 ) -> Option<Halt>
-    requires rule { rule ≡ numbered.rule_of_number RULE }
+    requires rule { rule ≡ ruled.rule_of_number RULE }
     requires starts { (free : ℕ → ℕ → Bool) × IsStart lines.now free start.line start.place }
     requires few { lines.now.lines < 65536 }
     requires short { lines.now.blocks ≤ 128 }

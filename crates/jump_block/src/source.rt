@@ -2,9 +2,8 @@
 
 ghost use Rattle.std.specs.Prelude.{◌≡◌, ℕ, ◌+◌, ◌≤◌, false, true, None};
 ghost use Rattle.grid_moves.specs.Grid.{GridData};
-ghost use Rattle.pruning.specs.Allowed.{allowed_dirs};
 ghost use Rattle.pruning.specs.First as first;
-ghost use Rattle.pruning.specs.Numbered as numbered;
+ghost use Rattle.grid_moves.specs.Ruled as ruled;
 ghost use Rattle.pruning.specs.Source.{IsWithin};
 ghost use Rattle.pruning.specs.Stop.{IsFirstStop};
 ghost use Rattle.pruning.specs.Turns.{is_diagonal};
@@ -15,8 +14,8 @@ ghost use Rattle.jump_block.specs.Source.{AreItsBits, JumpsOnEach, JumpsOnSome, 
 use crate::straight::Bits;
 use crate::word::Way;
 use bit_grid::BitGrid;
-use grid_moves::{Cell, Corner, Dir};
-use pruning::{Arrival, JumpSource, Packed, allowed_on, rule_of_number};
+use grid_moves::{Cell, Corner, Dir, rule_of_number};
+use pruning::{Arrival, JumpSource, Packed};
 use std::sync::ledger::Ledger;
 use steps::Steps;
 
@@ -31,7 +30,7 @@ impl<'a> Bits<'a> {
     // The same, where the rule is a constant.
     #[inline(always)]
     fn under<const RULE: usize>(&self) -> Bits<'a>
-        requires { self.now.corner ≡ numbered.rule_of_number RULE }
+        requires { self.now.corner ≡ ruled.rule_of_number RULE }
         ensures { result ≡ self.now }
     {
         Bits {
@@ -51,7 +50,7 @@ impl<'a> Bits<'a> {
         goal: Cell,
         steps: &mut Steps<L>,
     ) -> Option<u16>
-        requires rule { self.now.corner ≡ numbered.rule_of_number RULE }
+        requires rule { self.now.corner ≡ ruled.rule_of_number RULE }
         requires diagonal { is_diagonal d ≡ true }
         requires stands { OnSome self.now at }
         ensures first { OnEach self.now at (λ g. result ≡ first.first_stop g goal at d) }
@@ -76,7 +75,7 @@ impl<'a> Bits<'a> {
         goal: Cell,
         steps: &mut Steps<L>,
     ) -> Option<u16>
-        requires rule { self.now.corner ≡ numbered.rule_of_number RULE }
+        requires rule { self.now.corner ≡ ruled.rule_of_number RULE }
         requires stands { OnSome self.now at }
         ensures first { OnEach self.now at (λ g. result ≡ first.first_stop g goal at d) }
         ensures most { is_diagonal d ≡ false → OnEach self.now at
@@ -109,16 +108,6 @@ impl<'a> Bits<'a> {
             Corner::One => self.stop_by::<1, L>(at, d, goal, steps),
             Corner::Both => self.stop_by::<2, L>(at, d, goal, steps),
         }
-    }
-
-    // The allowed directions, in one word.
-    fn allowed_word<L: Ledger>(&self, at: Cell, by: Arrival, steps: &mut Steps<L>) -> Packed
-        requires stands { OnSome self.now at }
-        ensures rule { OnEach self.now at (λ g. result ≡ allowed_dirs g at by) }
-        ensures fewest { steps.old + 3 ≤ steps.new }
-    {
-        let ring = self.ring(at, steps);
-        allowed_on(self.corner, ring, by)
     }
 }
 
@@ -208,6 +197,7 @@ impl<'a> JumpSource for BlockJumps<'a> {
     }
 
     fn allowed_word<L: Ledger>(&self, at: Cell, by: Arrival, steps: &mut Steps<L>) -> Packed {
-        self.lines().allowed_word(at, by, steps)
+        let eight = self.lines().eight(at, steps);
+        self.bits.allowed_table().allowed(eight, by)
     }
 }

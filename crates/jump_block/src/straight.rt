@@ -3,7 +3,7 @@
 ghost use Rattle.std.specs.Prelude.{◌≡◌, ℕ, ◌+◌, ◌≤◌, Bool, false, true, is_some, nat_eq};
 ghost use Rattle.pruning.specs.Turns.{is_diagonal};
 ghost use Rattle.pruning.specs.First as first;
-ghost use Rattle.pruning.specs.Numbered as numbered;
+ghost use Rattle.grid_moves.specs.Ruled as ruled;
 ghost use Rattle.jump_block.specs.Trail.{begun};
 ghost use Rattle.jump_block.specs.Scan.{Finds, looked, most_lanes};
 ghost use Rattle.jump_block.specs.Near.{AreNearStart};
@@ -85,7 +85,7 @@ impl<'a> Bits<'a> {
         to_goal: u16,
         steps: &mut Steps<L>,
     ) -> Option<Halt>
-        requires rule { self.now.corner ≡ numbered.rule_of_number RULE }
+        requires rule { self.now.corner ≡ ruled.rule_of_number RULE }
         requires stands { OnSome self.now at }
         ensures finds { OnEach self.now at (λ g. Finds self.now.corner
             (begun self.now.corner (trail_of g (spec.row_dir way) at)) to_goal result) }
@@ -109,7 +109,7 @@ impl<'a> Bits<'a> {
         to_goal: u16,
         steps: &mut Steps<L>,
     ) -> Option<Halt>
-        requires rule { self.now.corner ≡ numbered.rule_of_number RULE }
+        requires rule { self.now.corner ≡ ruled.rule_of_number RULE }
         requires stands { OnSome self.now at }
         ensures finds { OnEach self.now at (λ g. Finds self.now.corner
             (begun self.now.corner (trail_of g (spec.column_dir way) at)) to_goal result) }
@@ -144,7 +144,7 @@ impl<'a> Bits<'a> {
         near: ThreeWords,
         steps: &mut Steps<L>,
     ) -> bool
-        requires rule { self.now.corner ≡ numbered.rule_of_number RULE }
+        requires rule { self.now.corner ≡ ruled.rule_of_number RULE }
         requires stands { OnSome self.now at }
         requires near { AreNearStart self.now.rows.now (at.y + 1) (at.x + 1) near }
         ensures finds { OnEach self.now at (λ g. (goal : Cell)
@@ -166,7 +166,7 @@ impl<'a> Bits<'a> {
         way: Way,
         steps: &mut Steps<L>,
     ) -> bool
-        requires rule { self.now.corner ≡ numbered.rule_of_number RULE }
+        requires rule { self.now.corner ≡ ruled.rule_of_number RULE }
         requires stands { OnSome self.now at }
         ensures finds { OnEach self.now at (λ g. (goal : Cell)
             → nat_eq at.x goal.x ≡ false → result ≡ is_some (first.first_stop g goal at (spec.column_dir way))) }
@@ -188,7 +188,7 @@ impl<'a> Bits<'a> {
         goal: Cell,
         steps: &mut Steps<L>,
     ) -> Option<u16>
-        requires rule { self.now.corner ≡ numbered.rule_of_number RULE }
+        requires rule { self.now.corner ≡ ruled.rule_of_number RULE }
         requires stands { OnSome self.now at }
         ensures first { OnEach self.now at (λ g. result ≡ first.first_stop g goal at (spec.row_dir way)) }
         ensures most { OnEach self.now at
@@ -209,7 +209,7 @@ impl<'a> Bits<'a> {
         goal: Cell,
         steps: &mut Steps<L>,
     ) -> Option<u16>
-        requires rule { self.now.corner ≡ numbered.rule_of_number RULE }
+        requires rule { self.now.corner ≡ ruled.rule_of_number RULE }
         requires stands { OnSome self.now at }
         ensures first { OnEach self.now at (λ g. result ≡ first.first_stop g goal at (spec.column_dir way)) }
         ensures most { OnEach self.now at

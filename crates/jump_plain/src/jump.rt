@@ -7,13 +7,12 @@ ghost use Rattle.pruning.specs.Turns as turns;
 ghost use Rattle.pruning.specs.Turns.{is_diagonal};
 ghost use Rattle.pruning.specs.Marked.{is_forced};
 ghost use Rattle.pruning.specs.First as first;
-ghost use Rattle.pruning.specs.Numbered as numbered;
+ghost use Rattle.grid_moves.specs.Ruled as ruled;
 ghost use Rattle.jump_plain.specs.Reach as spec;
 
 use crate::beside::Sides;
-use crate::ruled::Ruled;
 use crate::scan::{Reach, scan, scan_with};
-use grid_moves::{Cell, Corner, Dir, Terrain, beyond, is_passable, may_cut};
+use grid_moves::{Cell, Corner, Dir, Ruled, Terrain, beyond, is_passable, may_cut};
 use pruning::{Side, forced, turn};
 
 /// The number of moves in a straight direction that lead from one cell to another, or 0 where none do.
@@ -295,7 +294,7 @@ fn diagonal_stop<T: Terrain>(t: &T, at: Cell, d: Dir, goal: Cell) -> Option<u16>
 // own, in which its steps are constants too.
 #[inline(never)]
 fn first_stop_by<const RULE: usize, T: Terrain>(t: &T, at: Cell, d: Dir, goal: Cell) -> Option<u16>
-    requires rule { (T.grid t.now).corner ≡ numbered.rule_of_number RULE }
+    requires rule { (T.grid t.now).corner ≡ ruled.rule_of_number RULE }
     requires free { is_free (T.grid t.now) at ≡ true }
     requires whole { IsGrid (T.grid t.now) }
     ensures { result ≡ first.first_stop (T.grid t.now) goal at d }

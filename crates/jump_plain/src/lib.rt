@@ -9,7 +9,6 @@
 
 pub mod beside;
 pub mod jump;
-mod ruled;
 mod scan;
 mod source;
 

@@ -12,6 +12,7 @@
 ghost use Rattle.std.specs.Prelude.{◌≡◌, ◌+◌, ◌*◌, ◌<◌, ◌++◌, ◌∷◌, [], true, false, length, IfOk, OnOk, OnErr, IfSome, slice_get, Some};
 ghost use Rattle.grid_moves.specs.Grid.{IsGrid, is_free};
 ghost use Rattle.grid_moves.specs.Move.{is_same};
+ghost use Rattle.grid_moves.specs.Ruled.{rule_of_number};
 ghost use Rattle.path_points.specs.Least.{IsLeastOrNone};
 ghost use Rattle.plain_search.specs.Answer.{IsExhausted, IsPlainRun};
 ghost use Rattle.best_first.specs.State.{state_number, start_at};
@@ -24,7 +25,7 @@ use crate::lists::{Listed, closed_cells, reached_cells};
 use crate::offers::offer_all;
 use crate::{NoMemory, Taken, Workspace};
 use best_first::{Found, Layout, Space, State};
-use grid_moves::{Cell, Terrain};
+use grid_moves::{Cell, Corner, Ruled, Terrain};
 use path_points::{Walk, turns};
 use std::alloc::Global;
 use std::marker::Brand;
@@ -168,6 +169,29 @@ fn take_all<T: Terrain, L: Ledger>(
     Ok(Some(at))
 }
 
+// The same under a rule that the compiler knows.
+fn take_all_by<const RULE: usize, T: Terrain, L: Ledger>(
+    t: &T,
+    ends: Ends,
+    space: &mut Space,
+    taken: &mut Taken,
+    steps: &mut Steps<L>,
+) -> Result<Option<u32>, NoMemory>
+    requires rule { (T.grid t.now).corner ≡ rule_of_number RULE }
+    requires from { is_free (T.grid t.now) ends.from ≡ true }
+    requires to { IsNear (T.grid t.now) ends.to }
+    requires layout { space.old.layout ≡ Layout.ByCell }
+    requires room { HasRoom (T.grid t.now) space.old.places }
+    requires none { taken.old ≡ [] }
+    ensures ended { IfOk result (HasEnded (T.grid t.now) ends.from ends.to space.new.table taken.new) }
+    ensures whole { OnOk result (IsGrid (T.grid t.now)) }
+    ensures layout { space.new.layout ≡ space.old.layout }
+    ensures places { space.new.places ≡ space.old.places }
+{
+    let t = &Ruled::<RULE, T> { terrain: t };
+    take_all(t, ends, space, taken, steps)
+}
+
 /// Takes states until the goal is taken, and gives the number of its node, or until none waits. The
 /// steps of the open list are counted by a counter of its own.
 pub(crate) fn take_counted<T: Terrain, L: Ledger>(
@@ -190,8 +214,12 @@ pub(crate) fn take_counted<T: Terrain, L: Ledger>(
     ensures layout { space.new.layout ≡ space.old.layout }
     ensures places { space.new.places ≡ space.old.places }
 {
-    let mut steps = Steps::<L>::new(blank);
-    take_all(t, ends, space, taken, &mut steps)
+    let steps = &mut Steps::<L>::new(blank);
+    match t.corner() {
+        Corner::Never => take_all_by::<0, T, L>(t, ends, space, taken, steps),
+        Corner::One => take_all_by::<1, T, L>(t, ends, space, taken, steps),
+        Corner::Both => take_all_by::<2, T, L>(t, ends, space, taken, steps),
+    }
 }
 
 /// The plain engine's run from one free cell to another, over memory that is lent: its answer is a

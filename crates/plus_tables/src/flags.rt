@@ -5,12 +5,12 @@
 //! code.
 
 ghost use Rattle.std.specs.Prelude.{◌≡◌, ◌+◌, ◌-◌, ◌<◌, ◌≤◌, false, true, length};
-ghost use Rattle.pruning.specs.Numbered as numbered;
+ghost use Rattle.grid_moves.specs.Ruled as ruled;
 ghost use Rattle.plus_tables.specs.Fit.{AreLong};
 ghost use Rattle.plus_tables.specs.Rows as spec;
 
-use grid_moves::{Corner, Dir, Ring, Terrain};
-use pruning::{forced_on, rule_of_number};
+use grid_moves::{Corner, Dir, Ring, Terrain, rule_of_number};
+use pruning::forced_on;
 
 // The flags around a column.
 #[inline(always)]
@@ -43,7 +43,7 @@ fn force_by<const RULE: usize>(
 )
     requires some { 2 ≤ length forced.old }
     requires rows { AreLong (length forced.old) above.now here.now below.now }
-    ensures { spec.AreForced (numbered.rule_of_number RULE) above.now here.now below.now d forced.new }
+    ensures { spec.AreForced (ruled.rule_of_number RULE) above.now here.now below.now d forced.new }
 {
     for x in 0..forced.len() - 2 {
         forced[x + 1] = forced_on(rule_of_number(RULE), ring_at(above, here, below, x), d);
@@ -61,7 +61,7 @@ fn force_under<const RULE: usize>(
 )
     requires some { 2 ≤ length forced.old }
     requires rows { AreLong (length forced.old) above.now here.now below.now }
-    ensures { spec.AreForced (numbered.rule_of_number RULE) above.now here.now below.now d forced.new }
+    ensures { spec.AreForced (ruled.rule_of_number RULE) above.now here.now below.now d forced.new }
 {
     match d {
         Dir::N => force_by::<RULE>(above, here, below, Dir::N, forced),

@@ -3,6 +3,7 @@ pub mod Table
 pub mod Moves
 pub mod Packing
 pub mod Ringing
+pub mod Eights
 pub mod Bridging
 pub mod Kept
 pub mod Replacing

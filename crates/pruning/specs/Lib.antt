@@ -4,6 +4,7 @@ pub mod Marked
 pub mod Ring
 pub mod Packed
 pub mod Numbered
+pub mod Eight
 pub mod Canonical
 pub mod Stop
 pub mod First

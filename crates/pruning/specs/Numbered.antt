@@ -1,15 +1,13 @@
--- The rules and the arrivals by numbers.
--- No public clause cites `arrival_of`.
-use Rattle.std.specs.Prelude.{ℕ, nat_eq, if◌then◌else◌}
+-- Arrivals by numbers, and the lists of allowed directions by places.
+-- No public clause cites a definition of this module.
+use Rattle.std.specs.Prelude.{◌≡◌, ℕ, ◌/◌, ◌%◌, ◌<◌, nat_eq, if◌then◌else◌, List, [], length, get_or}
 use Rattle.grid_moves.specs.declared.Corner.{Corner}
-use Rattle.grid_moves.specs.declared.Corner.TheVariants.{Never, One, Both}
+use Rattle.grid_moves.specs.declared.Dir.{Dir}
 use Rattle.grid_moves.specs.declared.Dir.TheVariants.{N, NE, E, SE, S, SW, W, NW}
 use Rattle.pruning.specs.declared.Arrival.{Arrival}
 use Rattle.pruning.specs.declared.Arrival.TheVariants.{Start, By}
-
--- no corner is cut, one blocked cell may be passed, or two
-abbrev pub rule_of_number : ℕ → Corner
-rule_of_number n = if nat_eq n 0 then Never else if nat_eq n 1 then One else Both
+use Rattle.pruning.specs.Eight.{ring_of}
+use Rattle.pruning.specs.Ring.{allowed_on}
 
 -- by a move in the direction of this number, or the start
 abbrev pub arrival_of : ℕ → Arrival
@@ -17,3 +15,12 @@ arrival_of n =
     if nat_eq n 0 then By N else if nat_eq n 1 then By NE else if nat_eq n 2 then By E
     else if nat_eq n 3 then By SE else if nat_eq n 4 then By S else if nat_eq n 5 then By SW
     else if nat_eq n 6 then By W else if nat_eq n 7 then By NW else Start
+
+-- the allowed directions at a place: 256 lists for each arrival, by the eight bits
+abbrev pub allowed_at : Corner → ℕ → List Dir
+allowed_at corner place = allowed_on corner (ring_of (place % 256)) (arrival_of (place / 256))
+
+-- so many lists are those at their places
+pub record AreAllowed (corner : Corner) (count : ℕ) (lists : List (List Dir)) : Type 0 where
+  pub as_many : length lists ≡ count
+  pub each : (place : ℕ) → place < count → get_or lists place [] ≡ allowed_at corner place

@@ -22,6 +22,7 @@ ghost use Rattle.grid_moves.specs.Ring as rings;
 ghost use Rattle.pruning.specs.Turns as turns;
 ghost use Rattle.pruning.specs.Allowed as spec;
 ghost use Rattle.pruning.specs.Numbered as numbered;
+ghost use Rattle.grid_moves.specs.Ruled as ruled;
 ghost use Rattle.pruning.specs.Ring as told;
 ghost use Rattle.pruning.specs.Marked as marks;
 ghost use Rattle.pruning.specs.First as first;
@@ -30,7 +31,7 @@ use crate::Arrival;
 use crate::packed::Packed;
 use crate::turns::{Side, is_diagonal, quarter, rear, turn};
 use arrayvec::ArrayVec;
-use grid_moves::{Cell, Corner, Dir, Ring, Terrain, dir_number, may_cut};
+use grid_moves::{Cell, Corner, Dir, Ring, Terrain, dir_number, may_cut, rule_of_number};
 
 /// Whether the directions are one.
 #[inline(always)]
@@ -123,22 +124,9 @@ fn put_allowed(rule: Corner, ring: Ring, by: Arrival, d: Dir, others: Packed) ->
     }
 }
 
-/// The rule of this number, so that it can be a constant of a function, which has code of its own for each: 0
-/// is `never`, 1 is `one`, any other `both`.
+/// The arrival of this number: a direction's, or 8 for the start.
 #[inline(always)]
-pub fn rule_of_number(number: usize) -> Corner
-    ensures { result ≡ numbered.rule_of_number number }
-{
-    match number {
-        0 => Corner::Never,
-        1 => Corner::One,
-        _ => Corner::Both,
-    }
-}
-
-// The arrival of this number.
-#[inline(always)]
-fn arrival_of(number: usize) -> Arrival
+pub(crate) fn arrival_of(number: usize) -> Arrival
     ensures { result ≡ numbered.arrival_of number }
 {
     match number {
@@ -157,7 +145,7 @@ fn arrival_of(number: usize) -> Arrival
 // All directions that are allowed, for a rule and an arrival that the compiler knows.
 fn allowed_of<const RULE: usize, const BY: usize>(ring: Ring) -> Packed
     ensures { result ≡ filter
-        (told.is_allowed_on (numbered.rule_of_number RULE) ring (numbered.arrival_of BY)) moves.all_dirs }
+        (told.is_allowed_on (ruled.rule_of_number RULE) ring (numbered.arrival_of BY)) moves.all_dirs }
 {
     let rule = rule_of_number(RULE);
     let by = arrival_of(BY);
@@ -174,7 +162,7 @@ fn allowed_of<const RULE: usize, const BY: usize>(ring: Ring) -> Packed
 // The same, with code of its own for each arrival.
 #[inline(always)]
 fn allowed_by<const RULE: usize>(ring: Ring, by: Arrival) -> Packed
-    ensures { result ≡ filter (told.is_allowed_on (numbered.rule_of_number RULE) ring by) moves.all_dirs }
+    ensures { result ≡ filter (told.is_allowed_on (ruled.rule_of_number RULE) ring by) moves.all_dirs }
 {
     match by {
         Arrival::Start => allowed_of::<RULE, 8>(ring),

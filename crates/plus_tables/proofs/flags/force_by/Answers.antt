@@ -1,7 +1,7 @@
 use Rattle.std.proofs.Common.{◌+◌, ◌<◌, length, arith, ap, ◌∙◌}
 use Rattle.grid_moves.specs.declared.Corner.{Corner}
 use Rattle.grid_moves.specs.declared.ring.Ring.{Ring}
-use Rattle.pruning.specs.Numbered.{rule_of_number}
+use Rattle.grid_moves.specs.Ruled.{rule_of_number}
 use Rattle.pruning.specs.Ring.{forced_on}
 use Rattle.plus_tables.specs.Rows.{ring_of}
 use Rattle.plus_tables.proofs.Growing.{flag_more}

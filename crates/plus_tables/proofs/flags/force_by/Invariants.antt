@@ -1,5 +1,5 @@
 use Rattle.std.proofs.Common.{◌≡◌, ℕ, ◌+◌, ◌<◌}
-use Rattle.pruning.specs.Numbered.{rule_of_number}
+use Rattle.grid_moves.specs.Ruled.{rule_of_number}
 use Rattle.pruning.specs.Ring.{forced_on}
 use Rattle.plus_tables.specs.Rows as spec
 use Rattle.plus_tables.proofs.flags.force_by.Given as goal

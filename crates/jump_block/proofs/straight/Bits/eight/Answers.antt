@@ -1,7 +1,7 @@
 use Rattle.std.proofs.Common.{◌≡◌, ℕ, ◌+◌, ◌-◌, arith, ap}
 use Rattle.jump_block.specs.Source.{by_rows}
-use Rattle.jump_block.proofs.Rings.{ring_read, three_at}
-use Rattle.jump_block.proofs.straight.Bits.ring.Goals as goal
+use Rattle.jump_block.proofs.Rings.{eight_read, three_at}
+use Rattle.jump_block.proofs.straight.Bits.eight.Goals as goal
 
 pub returns-clause-around : goal.returns-clause-around
 returns-clause-around g c = λ grid are free.
@@ -9,11 +9,8 @@ returns-clause-around g c = λ grid are free.
     let row = c.from-y.ensures in
     let above : c.from-y.result + 1 - 1 ≡ c.args.at.y = omega (arith, row) in
     let below : c.from-y.result + 1 + 1 ≡ c.args.at.y + 2 = omega (arith, row) in
-    let three = c.three_beside-middle.ensures.shown _ _ _ are.are_rows in
-    ring_read grid c.args.at _ _ _ _
+    let three = c.three_beside.ensures.shown _ _ _ are.are_rows in
+    eight_read _ _ _ _ c.around_middle.ensures.is grid c.args.at
     (three_at (by_rows grid) _ _ _ _ _ above column three.before)
     (three_at (by_rows grid) _ _ _ _ _ (ap (λ (n : ℕ). n + 1) row) column three.middle)
     (three_at (by_rows grid) _ _ _ _ _ below column three.after)
-    c.is_set.ensures c.is_set-2.ensures c.is_set-3.ensures c.is_set-4.ensures c.is_set-5.ensures
-    c.is_set-6.ensures
-    c.is_set-7.ensures c.is_set-8.ensures
