@@ -131,16 +131,6 @@ pub record IsMadeOf {X : Type 0} (IsOf : Map → X → Type 0) (holds : List ℕ
   pub accepted : AreAccepted holds [] files (text ∷ loaded)
   pub is : IsMade IsOf text made
 
--- so they do, and one file more was read as a value: it holds a text that is accepted behind these
-pub record IsMadeAnd {X Y : Type 0} (IsOf : Map → X → Type 0) (SpellsMore : List ℕ → Y → Type 0)
-    (holds : List ℕ → Held) (files : List File) (second : File) (values : X × Y) : Type 0 where
-  pub text : List ℕ
-  pub loaded : List (List ℕ)
-  pub more : List ℕ
-  pub accepted : AreAccepted holds [] (files ++ second ∷ []) (text ∷ (loaded ++ more ∷ []))
-  pub is : IsMade IsOf text values.0
-  pub spelled_more : SpellsMore more values.1
-
 -- the map and one file more were read as these values: the files hold these texts, the second one accepted
 -- behind the first
 pub record AreBothRead {X Y : Type 0} (Spells : List ℕ → X → Type 0) (SpellsMore : List ℕ → Y → Type 0)

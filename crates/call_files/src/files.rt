@@ -263,9 +263,6 @@ pub trait OfMap: Drop + Sized {
     /// The maps of which it is made.
     ghost extent_of: { Settings → Extent };
 
-    /// It can be made as the settings ask.
-    ghost serves: { Settings → Type 0 };
-
     /// It is what the settings ask to be made of the map.
     ghost is_of_map: { Settings → Map → Self → Type 0 };
 
@@ -275,8 +272,7 @@ pub trait OfMap: Drop + Sized {
 
     /// The value of the map.
     fn of_map(alloc: Global, map: MapText, settings: Settings) -> Result<Self, NoMemory>
-        requires serves { serves settings }
-        requires taken { takes (extent_of settings) (plain map) ≡ true }
+        requires { takes (extent_of settings) (plain map) ≡ true }
         ensures { IfOk result (is_of_map settings (plain map)) };
 }
 
@@ -287,7 +283,6 @@ pub fn read_map_file<F: Files, M: OfMap>(
     name: &str,
     settings: Settings,
 ) -> Result<M, Stop>
-    requires { M.serves settings }
     ensures read { Reads IsFirst (IsMade (M.is_of_map settings)) (kind_for (M.extent_of settings)) ((F.disk files.old).holds name.now)
         ((F.disk files.old).faults name.now) ((F.disk files.new).faults name.now) result }
     ensures unchanged { (F.disk files.new).holds ≡ (F.disk files.old).holds }
@@ -306,7 +301,6 @@ pub fn open_one<F: Files, M: OfMap>(
     map: &str,
     settings: Settings,
 ) -> Result<M, Stop>
-    requires { M.serves settings }
     ensures read { Ends (IsRead (IsMade (M.is_of_map settings)) [] (kind_for (M.extent_of settings))
         ((F.disk files.old).holds map.now))
         (open_stops (F.disk files.old) (F.disk files.new) (file_of (kind_for (M.extent_of settings)) map.now ∷ []))
@@ -328,8 +322,7 @@ pub fn open_two<F: Files, M: OfMap, T: Text>(
     second: &str,
     context: &T::Context,
 ) -> Result<(M, T), Stop>
-    requires serves { M.serves settings }
-    requires behind { (text : List ℕ) → T.is_behind context.now (text ∷ []) }
+    requires { (text : List ℕ) → T.is_behind context.now (text ∷ []) }
     ensures read { Ends (AreBothRead (IsMade (M.is_of_map settings)) (T.spells context.now) (F.disk files.old).holds
         (file_of (kind_for (M.extent_of settings)) map.now) (file_of (T.kind_of_text context.now) second.now))
         (open_stops (F.disk files.old) (F.disk files.new)

@@ -48,8 +48,8 @@ impl Extent {
         ensures { result ≡ extent_for pick }
     {
         match pick {
-            Pick::Boxes | Pick::Moves => Extent::Small,
-            Pick::Plain | Pick::Jps | Pick::Block | Pick::Plus => Extent::Any,
+            Pick::Session(_) => Extent::Any,
+            Pick::Small(_) => Extent::Small,
         }
     }
 

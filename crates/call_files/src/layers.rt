@@ -37,13 +37,10 @@ pub fn load_tables(
 }
 
 impl OfMap for Layers {
-    ghost use Rattle.std.specs.Prelude.{⊤};
     ghost use Rattle.call_files.specs.Reading.{AreLayersOf};
     ghost use Rattle.call_files.specs.declared.kind.Extent.TheVariants.{Any};
 
     ghost extent_of = { λ _. Any };
-
-    ghost serves = { λ _. ⊤ };
 
     ghost is_of_map = { AreLayersOf };
 
@@ -64,13 +61,10 @@ pub struct SmallLayers {
 }
 
 impl OfMap for SmallLayers {
-    ghost use Rattle.std.specs.Prelude.{⊤};
     ghost use Rattle.call_files.specs.Reading.{AreSmallLayersOf};
     ghost use Rattle.call_files.specs.declared.kind.Extent.TheVariants.{Small};
 
     ghost extent_of = { λ _. Small };
-
-    ghost serves = { λ _. ⊤ };
 
     ghost is_of_map = { AreSmallLayersOf };
 

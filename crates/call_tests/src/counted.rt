@@ -15,7 +15,7 @@ use grid_moves::Corner;
 use std::alloc::{AllocError, Global};
 use std::process::Abort;
 use std::test::Fail;
-use word_list::{Pick, Request, read_words};
+use word_list::{Pick, Request, SessionEngine, SmallEngine, read_words};
 
 const TABLES: [&str; 15] = [
     QUERIES, SCRIPTS, SCENARIOS, TOLD, PROVED, CHECKED, CELLS, PICTURES, UNDRAWN, MADE, REFUSED,
@@ -193,12 +193,12 @@ fn place_of_pick(pick: Pick) -> usize
     ensures { result < 6 }
 {
     match pick {
-        Pick::Plain => 0,
-        Pick::Jps => 1,
-        Pick::Block => 2,
-        Pick::Plus => 3,
-        Pick::Boxes => 4,
-        Pick::Moves => 5,
+        Pick::Session(SessionEngine::Plain) => 0,
+        Pick::Session(SessionEngine::Jps) => 1,
+        Pick::Session(SessionEngine::Block) => 2,
+        Pick::Session(SessionEngine::Plus) => 3,
+        Pick::Small(SmallEngine::Boxes) => 4,
+        Pick::Small(SmallEngine::Moves) => 5,
     }
 }
 

@@ -22,7 +22,7 @@ use Rattle.jps_run.specs.Answerers.{CanAnswer, who_of}
 use Rattle.jps_run.specs.Who.{By, IsReplyBy, IsReplyOn, by_boxes, by_moves}
 use Rattle.jps_run.specs.declared.replies.answerer.Answerer.{Answerer}
 use Rattle.jps_run.specs.declared.replies.answerer.Answerer.TheVariants as answerer
-use Rattle.jps_run.specs.declared.replies.answerer.SmallEngine.TheVariants as by_engine
+use Rattle.word_list.specs.declared.request.SmallEngine.TheVariants as by_engine
 use Rattle.jps_run.proofs.Replying.{followed_least, found_boxed, found_led, reply-on-map, unsearched-small}
 
 -- a reply on one grid, between cells that are free on it

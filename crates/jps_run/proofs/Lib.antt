@@ -12,8 +12,8 @@ pub mod Listening
 pub mod Incomings
 pub mod HeardCounts
 pub mod Tallies
-pub mod Judgements
-pub mod Refereed
+pub mod ScenRows
+pub mod Judged
 pub mod Querying
 pub mod Performing
 pub mod Opening

@@ -12,9 +12,9 @@ use Rattle.jps_run.specs.Answers.{AreAnswers, IsReplyLine}
 use Rattle.jps_run.specs.Rising.{RoseForQuery, RoseForCommands}
 use Rattle.jps_run.specs.Lines.{reply_line}
 use Rattle.jps_run.specs.Querying.{IsOneReply, IsQueryWork}
-use Rattle.jps_run.specs.Answerers.{by_small}
-use Rattle.jps_run.specs.declared.replies.answerer.SmallEngine.{SmallEngine}
-use Rattle.jps_run.specs.declared.replies.answerer.SmallEngine.TheVariants.{Boxes, Moves}
+use Rattle.jps_run.specs.Who.{by_small}
+use Rattle.word_list.specs.declared.request.SmallEngine.{SmallEngine}
+use Rattle.word_list.specs.declared.request.SmallEngine.TheVariants.{Boxes, Moves}
 use Rattle.jps_run.specs.declared.work.Work.TheVariants as work
 use Rattle.jps_run.specs.Who.{Who, IsReplyBy, fewest_by, most_by, who_is}
 use Rattle.jps_run.proofs.Solving.{nothing_edited}

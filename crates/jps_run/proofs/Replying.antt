@@ -24,11 +24,11 @@ use Rattle.grid_moves.proofs.Short.{least_steps, steps-cost_of}
 use Rattle.goal_boxes.specs.Answer.{IsBoxedRunOn}
 use Rattle.first_moves.specs.Follow.{IsFollowed}
 use Rattle.first_moves.proofs.Following.{stands}
-use Rattle.jps_run.specs.Answerers.{by_small}
+use Rattle.jps_run.specs.Who.{by_small}
 use Rattle.call_files.specs.Reading.{AreSmall}
 use Rattle.jps_run.specs.Who.{By, IsBoxedReply, IsLedReply, IsReplyBy, IsReplyOn}
-use Rattle.jps_run.specs.declared.replies.answerer.SmallEngine.{SmallEngine}
-use Rattle.jps_run.specs.declared.replies.answerer.SmallEngine.TheVariants as by_engine
+use Rattle.word_list.specs.declared.request.SmallEngine.{SmallEngine}
+use Rattle.word_list.specs.declared.request.SmallEngine.TheVariants as by_engine
 
 -- a reply on the grid of the query is one on the map
 pub reply-on-map : (ls : Layers) (by : By) (s t : Cell) (reply : Reply) → are_free_ends ls s t ≡ true

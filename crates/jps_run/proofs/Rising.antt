@@ -9,7 +9,7 @@ use Rattle.script_text.specs.declared.command.Command.{Command}
 use Rattle.jps_run.specs.Answerers.{who_of}
 use Rattle.jps_run.specs.Answering.{GoesOn, HaveCounted}
 use Rattle.jps_run.specs.Answers.{edits_with}
-use Rattle.jps_run.specs.Judging as judging
+use Rattle.jps_run.specs.ScenRows as scen
 use Rattle.jps_run.specs.Rising.{RoseAfter, RoseForCommand, RoseForCommands, RoseForEntry, RoseInTurn}
 use Rattle.jps_run.specs.Session.{session_after}
 use Rattle.jps_run.specs.declared.replies.answerer.Answerer.{Answerer}
@@ -60,13 +60,13 @@ taken-more (Ok done) job now command old new on more = λ first commands start h
 }
 
 -- one entry more that is judged
-pub judged-entry : {T E : Type 0} (result : Result T E) (job now : Scen) (entry : Entry) (old new : ℕ)
+pub counted-entry : {T E : Type 0} (result : Result T E) (job now : Scen) (entry : Entry) (old new : ℕ)
     → now.answerer ≡ job.answerer → RoseForEntry (who_of job.answerer) entry old new
     → OnOk result ((first : Scen) (entries : List Entry) (start : ℕ)
-    → judging.HaveCounted first job entries start old
-    → judging.HaveCounted first now (entries ++ entry ∷ []) start new)
-judged-entry (Err error) job now entry old new same more = tt
-judged-entry (Ok done) job now entry old new same more = λ first entries start h. record {
+    → scen.HaveCounted first job entries start old
+    → scen.HaveCounted first now (entries ++ entry ∷ []) start new)
+counted-entry (Err error) job now entry old new same more = tt
+counted-entry (Ok done) job now entry old new same more = λ first entries start h. record {
   rose = turns-rise {S = Unit {0}} (λ _ e. RoseForEntry (who_of first.answerer) e) (λ s _. s) tt entries
       entry start
       old new h.rose (subst (λ (a : Answerer). RoseForEntry (who_of a) entry old new) h.same more);

@@ -6,18 +6,11 @@ use Rattle.first_moves.specs.Row.{AreMoves}
 use Rattle.word_list.specs.declared.request.Settings.{Settings}
 use Rattle.call_files.specs.Reading.{AreSmall}
 use Rattle.jps_run.specs.Session.{who_on}
-use Rattle.jps_run.specs.Who.{By, Who, by_boxes, by_moves, who_is}
+use Rattle.jps_run.specs.Who.{Who, by_boxes, by_moves, by_small, who_is}
 use Rattle.jps_run.specs.declared.replies.answerer.Answerer.{Answerer}
 use Rattle.jps_run.specs.declared.replies.answerer.Answerer.TheVariants as answerer
 use Rattle.jps_run.specs.declared.replies.answerer.Basis.{Basis}
 use Rattle.jps_run.specs.declared.replies.answerer.Basis.TheVariants as basis
-use Rattle.jps_run.specs.declared.replies.answerer.SmallEngine.{SmallEngine}
-use Rattle.jps_run.specs.declared.replies.answerer.SmallEngine.TheVariants as by_engine
-
--- how an engine for small maps answers
-abbrev pub by_small : SmallEngine → By
-by_small by_engine.Boxes = by_boxes
-by_small by_engine.Moves = by_moves
 
 -- who answers by what is made of a map at once
 abbrev pub who_from : Basis → Who
@@ -32,11 +25,6 @@ IsFit (basis.Small layers engine) = AreSmall layers
 -- this was made of a map, as the settings ask
 abbrev pub IsBasisOn : Settings → Map → Basis → Type 0
 IsBasisOn set m made = (who_from made ≡ who_on set m) × IsFit made
-
--- a session was made
-abbrev pub HasSession : Basis → Type 0
-HasSession (basis.Session session) = ⊤
-HasSession (basis.Small layers engine) = ⊥
 
 -- who answers by a session, or by what is kept of all cells of a small map
 abbrev pub who_of : Answerer → Who

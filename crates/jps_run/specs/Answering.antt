@@ -2,14 +2,21 @@
 use Rattle.std.specs.Prelude.{◌≡◌, ℕ, List, [], ◌++◌}
 use Rattle.std.specs.List.{fold}
 use Rattle.grid_moves.specs.Layers.{Layers}
+use Rattle.map_text.specs.Map.{Map}
 use Rattle.edit_replay.specs.Edited.{Edit, edited}
 use Rattle.edit_replay.specs.Session.{SessionData}
 use Rattle.script_text.specs.declared.command.Command.{Command}
+use Rattle.word_list.specs.declared.request.Settings.{Settings}
 use Rattle.word_list.specs.declared.request.Show.{Show}
 use Rattle.jps_run.specs.Answers.{IsAnswerLine, AreAnswers, edits_with}
 use Rattle.jps_run.specs.Rising.{RoseForCommands}
-use Rattle.jps_run.specs.Session.{session_after}
+use Rattle.jps_run.specs.Session.{IsSessionOn, session_after}
 use Rattle.jps_run.specs.declared.replies.answers.Answers.{Answers}
+
+-- the session on a map answers, and shows what the settings ask for
+pub record AreAnswersOn (set : Settings) (m : Map) (job : Answers) : Type 0 where
+  pub session : IsSessionOn set m job.session
+  pub show : job.show ≡ set.show
 
 -- a line that answers the command was appended
 pub record PutsAnswer (d : SessionData) (show : Show) (command : Command) (before now : List ℕ) : Type 0 where

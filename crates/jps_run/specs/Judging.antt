@@ -1,38 +1,63 @@
--- How far the rows of a scenario have come.
-use Rattle.std.specs.Prelude.{◌≡◌, ℕ, ◌+◌, ◌^◌, ◌<◌, List}
+-- How far the judging of told walks has come.
+use Rattle.std.specs.Prelude.{◌≡◌, ℕ, ◌+◌, ◌^◌, ◌<◌, ◌≤◌, ◌++◌, List, [], length, count_by, codes, decimal}
 use Rattle.scen_text.specs.declared.entry.Entry.{Entry}
-use Rattle.jps_run.specs.Answerers.{CanAnswer, who_of}
-use Rattle.jps_run.specs.Rising.{RoseForEntries}
-use Rattle.jps_run.specs.Rows.{AreRows, row_lines, scen_lines, scen_status}
-use Rattle.jps_run.specs.Tally.{IsSmall, IsTally, tally_of}
-use Rattle.jps_run.specs.declared.replies.row.Row.{Row}
-use Rattle.jps_run.specs.declared.replies.scenario.Scen.{Scen}
+use Rattle.call_files.specs.Reading.{AreFit}
+use Rattle.jps_run.specs.Rulings.{AreRulings, is_accepted, is_refused, is_unjudged, judge_lines, judge_status}
+use Rattle.jps_run.specs.Rulings.{ruling_lines}
+use Rattle.jps_run.specs.declared.replies.judge.Judge.{Judge}
+use Rattle.jps_run.specs.declared.replies.ruling.Counts.{Counts}
+use Rattle.jps_run.specs.declared.replies.ruling.Ruling.{Ruling}
 
--- the entries have their rows with these lines, by one who can answer, and the rows are counted
-pub record HasJudged (first now : Scen) (entries : List Entry) (lines : List (List ℕ)) : Type 0 where
-  pub rows : List Row
-  pub ready : CanAnswer first.answerer
-  pub are : AreRows (who_of first.answerer) entries rows
-  pub all : lines ≡ row_lines first.show 1 rows
-  pub counted : now.tally ≡ tally_of rows
-  pub same : now.answerer ≡ first.answerer
-  pub shown : now.show ≡ first.show
+-- how many rows there are, and how many of each kind
+abbrev pub counts_of : List Ruling → Counts
+counts_of rulings = record {
+  rows = length rulings;
+  accepted = count_by is_accepted rulings;
+  refused = count_by is_refused rulings;
+  other = count_by is_unjudged rulings;
+}
 
--- the rows are counted, there is room for so many more, and they can be answered
-pub record HasRoom (job : Scen) (more : ℕ) : Type 0 where
-  pub ready : CanAnswer job.answerer
-  pub counts : IsTally job.tally
-  pub small : IsSmall job.tally
-  pub few : job.tally.rows + more < 2 ^ 64
+-- these are counts of some rows
+pub record IsCounts (counts : Counts) : Type 0 where
+  pub rulings : List Ruling
+  pub counted : counts ≡ counts_of rulings
 
--- the counter rose for these entries, by a job that goes on
-pub record HaveCounted (first now : Scen) (entries : List Entry) (old new : ℕ) : Type 0 where
-  pub rose : RoseForEntries (who_of first.answerer) entries old new
-  pub same : now.answerer ≡ first.answerer
+-- the last line, by the counts
+abbrev pub sum_text : Counts → List ℕ
+sum_text counts =
+    codes "sum " ++ decimal counts.rows
+    ++ codes " accepted " ++ decimal counts.accepted
+    ++ codes " refused " ++ decimal counts.refused
+    ++ codes " other " ++ decimal counts.other
+    ++ codes "\n"
+
+-- the entries have their rows with these lines, and the rows are counted
+pub record HasJudged (first now : Judge) (entries : List Entry) (lines : List (List ℕ)) : Type 0 where
+  pub rulings : List Ruling
+  pub are : AreRulings first.costs entries first.walks.items rulings
+  pub all : lines ≡ ruling_lines 1 rulings
+  pub as_many : length rulings ≡ length entries
+  pub counted : now.counts ≡ counts_of rulings
+  pub same : now.costs ≡ first.costs
+  pub told : now.walks ≡ first.walks
+
+-- nothing is judged yet, and there are walks for so many entries
+pub record IsReady (job : Judge) (entries : ℕ) : Type 0 where
+  pub fit : AreFit job.walks.items
+  pub none : job.counts ≡ counts_of []
+  pub enough : entries ≤ length job.walks.items
+
+-- the walks can be judged, the rows are counted, and walks and room are left for so many more
+pub record CanGoOn (job : Judge) (more : ℕ) : Type 0 where
+  pub fit : AreFit job.walks.items
+  pub counts : IsCounts job.counts
+  pub left : job.counts.rows + more ≤ length job.walks.items
+  pub few : job.counts.rows + more < 2 ^ 64
 
 -- the lines are a row for each entry and the sum, and the status is that of the rows
-pub record IsJudged (first : Scen) (entries : List Entry) (lines : List (List ℕ)) (status : ℕ) : Type 0 where
-  pub rows : List Row
-  pub are : AreRows (who_of first.answerer) entries rows
-  pub all : lines ≡ scen_lines first.show rows
-  pub same_status : status ≡ scen_status rows
+pub record IsJudged (first : Judge) (entries : List Entry) (lines : List (List ℕ))
+    (status : ℕ) : Type 0 where
+  pub rulings : List Ruling
+  pub are : AreRulings first.costs entries first.walks.items rulings
+  pub all : lines ≡ judge_lines rulings
+  pub same_status : status ≡ judge_status rulings

@@ -13,9 +13,9 @@ pub mod Heard
 pub mod Rows
 pub mod Rising
 pub mod Tally
-pub mod Judging
+pub mod ScenRows
 pub mod Rulings
-pub mod Refereeing
+pub mod Judging
 pub mod Cases
 pub mod Works
 pub mod Querying

@@ -10,8 +10,8 @@ use Rattle.call_files.specs.Reading.{open_stops}
 use Rattle.line_work.specs.Stops.{Ends}
 use Rattle.jps_run.specs.declared.replies.answers.Answers.{Answers}
 use Rattle.line_work.specs.declared.stop.Stop.{Stop}
-use Rattle.jps_run.specs.declared.top.Opened.{Opened}
-use Rattle.jps_run.specs.declared.top.Opened.TheVariants as opened
+use Rattle.jps_run.specs.declared.commands.Opened.{Opened}
+use Rattle.jps_run.specs.declared.commands.Opened.TheVariants as opened
 use Rattle.jps_run.specs.Works.{CanPerform, HasRisen, IsWhole}
 use Rattle.jps_run.specs.declared.work.Work.{Work}
 

@@ -13,6 +13,8 @@ use Rattle.edit_replay.specs.declared.reply.Reply.{Reply}
 use Rattle.edit_replay.specs.declared.reply.Reply.TheVariants.{Walk, None, Outside, Blocked}
 use Rattle.goal_boxes.specs.Answer.{IsBoxedRunOn}
 use Rattle.first_moves.specs.Follow.{IsFollowed}
+use Rattle.word_list.specs.declared.request.SmallEngine.{SmallEngine}
+use Rattle.word_list.specs.declared.request.SmallEngine.TheVariants as small
 
 -- how a query is answered: by the search of a session's engine, by the search that goes by goal boxes, or by
 -- the walk of first moves
@@ -20,6 +22,11 @@ pub data By : Type 0 where
   by_session : Engine → By
   by_boxes : By
   by_moves : By
+
+-- how an engine for small maps answers
+abbrev pub by_small : SmallEngine → By
+by_small small.Boxes = by_boxes
+by_small small.Moves = by_moves
 
 -- who answers: the grids of a map, and how
 pub record Who : Type 0 where

@@ -10,8 +10,8 @@ use Rattle.line_work.specs.Sending.{HasHead, IsText}
 use Rattle.scen_lines.specs.Line.{version_line}
 use Rattle.scen_maker.specs.Listing.{AreListed}
 use Rattle.jps_run.specs.Rising.{RoseForEntries, RoseForCommands, RoseForQuery}
-use Rattle.jps_run.specs.Judging.{IsJudged}
-use Rattle.jps_run.specs.Refereeing.{IsReady, IsRefereed}
+use Rattle.jps_run.specs.ScenRows.{AreAllRows}
+use Rattle.jps_run.specs.Judging.{IsReady, IsJudged}
 use Rattle.jps_run.specs.Tally.{tally_of}
 use Rattle.jps_run.specs.Answering.{IsSolved}
 use Rattle.jps_run.specs.Drilling.{IsDrilled, sums_of}
@@ -21,8 +21,8 @@ use Rattle.jps_run.specs.Who.{who_is}
 -- the whole output of the work, and the status
 abbrev pub IsWhole : Work → List (List ℕ) → ℕ → Type 0
 IsWhole (work.Answer job commands) = IsSolved job commands.items
-IsWhole (work.Scen job entries) = IsJudged job entries.items
-IsWhole (work.Judge job entries) = IsRefereed job entries.items
+IsWhole (work.Scen job entries) = AreAllRows job entries.items
+IsWhole (work.Judge job entries) = IsJudged job entries.items
 IsWhole (work.Lengths job entries) = HasHead version_line (AreListed job entries.items)
 IsWhole (work.Drill job commands) = IsDrilled job commands.items
 IsWhole (work.Draw canvas ends show) =

@@ -21,7 +21,7 @@ mod session;
 mod sessions;
 mod small;
 
-pub use answerer::{Answerer, Basis, BoxLibrary, MoveLibrary, SmallEngine};
+pub use answerer::{Answerer, Basis, BoxLibrary, MoveLibrary};
 pub use answers::{Answers, write_answers};
 pub use case::{Case, read_case};
 pub use drawing::{Canvas, write_drawing};
@@ -33,5 +33,5 @@ pub use row::{Row, Tally};
 pub use ruling::{Counts, Ruling};
 pub use scenario::{Scen, write_rows};
 pub use session::session_on;
-pub use sessions::{open_basis, open_basis_and, session_of};
+pub use sessions::{open_answers, open_basis};
 pub use small::small_reply;

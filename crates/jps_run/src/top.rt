@@ -1,19 +1,17 @@
 //! The top call.
 
-ghost use Rattle.std.specs.Prelude.{◌≡◌, ◌≤◌, ◌⊎◌, false, OnOk, map, string_bytes};
+ghost use Rattle.std.specs.Prelude.{◌≡◌, ◌≤◌, ◌⊎◌, OnOk, map, string_bytes};
 ghost use Rattle.io_edge.specs.Causes.{Rose};
-ghost use Rattle.word_list.specs.Request.{IsSound, asked, called};
-ghost use Rattle.word_list.specs.Serving.{IsServed};
+ghost use Rattle.word_list.specs.Request.{IsSound, called};
 ghost use Rattle.jps_run.specs.Counting.{RoseAsCalled, RoseForCall};
 ghost use Rattle.jps_run.specs.Ending.{Comes, Gets, HasFailed, HasLines, CanHear, HasPart, InputRose, NamedRose, Names, ending_line};
-ghost use Rattle.jps_run.specs.Opened.{Opens};
 ghost use Rattle.jps_run.specs.Calls.{MayHear};
 ghost use Rattle.jps_run.specs.Served.{HasServed};
 ghost use Rattle.call_files.specs.FaultLines.{word_line as line_of_word};
 
-use crate::commands::{live, open_work};
-use crate::replies::{Answers, hear};
-use crate::work::{Work, perform};
+use crate::commands::{Opened, open};
+use crate::replies::hear;
+use crate::work::perform;
 use call_files::word_line;
 use io_edge::{Files, Sink, Source, write_whole};
 use line_work::Stop;
@@ -21,33 +19,6 @@ use std::alloc::Global;
 use std::sync::ledger::Ledger;
 use steps::Steps;
 use word_list::{Request, Settings, first_bad, read_words};
-
-// A call whose files are read: its command made work of what was read, or a session that answers what comes
-// in.
-#[derive(Drop)]
-enum Opened {
-    Work(Work),
-    // A session that answers what comes in.
-    Listener(Answers),
-}
-
-// Reads the files of what is asked for, and makes what is to be done with them.
-fn open<F: Files>(
-    alloc: Global,
-    request: Request<'_>,
-    settings: Settings,
-    files: &mut F,
-) -> Result<Opened, Stop>
-    requires sound { IsSound request settings }
-    requires served { IsServed (asked request) settings }
-    ensures opened { Opens (called request.entry settings) (F.disk files.old) (F.disk files.new) result }
-    ensures unchanged { (F.disk files.new).holds ≡ (F.disk files.old).holds }
-{
-    if let Request::Live { map, tables } = request {
-        return Ok(Opened::Listener(live(alloc, files, map, tables, settings)?));
-    }
-    Ok(Opened::Work(open_work(alloc, request, settings, files)?))
-}
 
 // Does what is asked for, and gives the status.
 fn serve<F: Files, I: Source, O: Sink, L: Ledger>(
@@ -59,8 +30,7 @@ fn serve<F: Files, I: Source, O: Sink, L: Ledger>(
     out: &mut O,
     steps: &mut Steps<L>,
 ) -> Result<u8, Stop>
-    requires sound { IsSound request settings }
-    requires served { IsServed (asked request) settings }
+    requires { IsSound request settings }
     ensures served { HasServed (called request.entry settings) (F.disk files.old) (F.disk files.new)
         (I.inflow input.old) (I.inflow input.new) (O.outflow out.old) (O.outflow out.new) result }
     ensures counted { OnOk result (RoseForCall (called request.entry settings) (F.disk files.old).holds

@@ -13,14 +13,12 @@ use Rattle.script_text.specs.Faults.{script_of}
 use Rattle.scen_text.specs.Faults.{scen_of}
 use Rattle.walk_judge.specs.Walks.{walks_of}
 use Rattle.potential_check.specs.Text.{certificate_of}
-use Rattle.edit_replay.specs.Session.{SessionData}
-use Rattle.edit_replay.specs.declared.engine.Engine.{Engine}
-use Rattle.edit_replay.specs.declared.engine.Engine.TheVariants as engine
 use Rattle.edit_replay.specs.declared.reply.Reply.{Reply}
 use Rattle.word_list.specs.Request.{Asked, Query, Solve, Scen, Judge, Check, Lengths}
 use Rattle.word_list.specs.Settings.{is_for_small_maps}
 use Rattle.word_list.specs.declared.request.Pick.{Pick}
-use Rattle.word_list.specs.declared.request.Pick.TheVariants as pick
+use Rattle.word_list.specs.declared.request.Pick.TheVariants.{Session, Small}
+use Rattle.word_list.specs.declared.request.SmallEngine.TheVariants.{Boxes, Moves}
 use Rattle.word_list.specs.declared.request.Settings.{Settings}
 use Rattle.call_files.specs.FaultLines.{cert_line, map_line, scen_line, script_line, walks_line}
 use Rattle.call_files.specs.Files.{AreAccepted, File, file_of}
@@ -34,8 +32,8 @@ use Rattle.jps_run.specs.Lines.{reply_line}
 use Rattle.jps_run.specs.Parts.{OnLast, OnMap, Prints, Says}
 use Rattle.jps_run.specs.Rows.{scen_lines, scen_status}
 use Rattle.jps_run.specs.Rulings.{judge_lines, judge_status}
-use Rattle.jps_run.specs.Session.{IsSessionOn, by_of, who_on}
-use Rattle.jps_run.specs.Who.{By, IsReplyBy, Who, by_session}
+use Rattle.jps_run.specs.Session.{by_of, engine_for, session_on, who_on}
+use Rattle.jps_run.specs.Who.{IsReplyBy}
 use Rattle.jps_run.proofs.Existing.{boxed_exists, led_exists}
 use Rattle.jps_run.proofs.SessionReply.{reply_exists}
 use Rattle.outcome_laws.proofs.Checked.{verdict_exists}
@@ -102,33 +100,13 @@ module _ (holds : List ℕ → Held) where
   nothing earlier [] p = refl
   nothing earlier (text ∷ texts) p = absurd p
 
--- the session that answers, where the picked engine has one
-engine_of : (p : Pick) → is_for_small_maps p ≡ false → (e : Engine) × (by_session e ≡ by_of p)
-engine_of pick.Plain e = (engine.Plain, refl)
-engine_of pick.Jps e = (engine.Jps, refl)
-engine_of pick.Block e = (engine.Block, refl)
-engine_of pick.Plus e = (engine.Plus, refl)
-engine_of pick.Boxes e = absurd (cc)
-engine_of pick.Moves e = absurd (cc)
-
-pub session_on : (set : Settings) (m : Map) → is_for_small_maps set.pick ≡ false
-    → (d : SessionData) × IsSessionOn set m d
-session_on set m large =
-    let e = engine_of set.pick large in (
-      record { engine = e.0; layers = layers_on set m },
-      ap (λ (by : By). (let who : Who = record { layers = layers_on set m; by = by } in who)) e.1,
-    )
-
 -- whoever answers has a reply
 module _ (ls : Layers) (s t : Cell) where
   reply_by : (p : Pick)
       → (reply : Reply) × IsReplyBy (record { layers = ls; by = by_of p }) s t reply
-  reply_by pick.Plain = reply_exists (record { engine = engine.Plain; layers = ls }) s t
-  reply_by pick.Jps = reply_exists (record { engine = engine.Jps; layers = ls }) s t
-  reply_by pick.Block = reply_exists (record { engine = engine.Block; layers = ls }) s t
-  reply_by pick.Plus = reply_exists (record { engine = engine.Plus; layers = ls }) s t
-  reply_by pick.Boxes = boxed_exists ls s t
-  reply_by pick.Moves = let m = moves_exist (query_grid ls s) in led_exists ls s t m.0 m.1
+  reply_by (Session engine) = reply_exists (record { engine = engine_for engine; layers = ls }) s t
+  reply_by (Small Boxes) = boxed_exists ls s t
+  reply_by (Small Moves) = let m = moves_exist (query_grid ls s) in led_exists ls s t m.0 m.1
 
 who_replies : (set : Settings) (m : Map) (s t : Cell)
     → (reply : Reply) × IsReplyBy (who_on set m) s t reply
@@ -234,24 +212,22 @@ module _ (holds : List ℕ → Held) (set : Settings) where
   }
 
   pub solve_has : (map : List ℕ) (tables : Option (List ℕ)) (script : List ℕ) (texts : List (List ℕ))
-      → is_for_small_maps set.pick ≡ false
       → AreAccepted holds [] (map_files set map tables ++ file_of kind.Script script ∷ []) texts
       → HasAnswer (Solve map tables script) set texts
   unfolding IsAnswer
-  solve_has map tables script texts large p =
+  solve_has map tables script texts p =
       let file = file_of kind.Script script in
       let h = has_map holds set map tables (file ∷ []) texts p in
       let one = single holds (h.text ∷ h.loaded) file h.more h.accepted in
       let commands = read_of script_line (script_of one.0) one.1.1 in
-      let d = session_on set h.map large in
-      let all = answers_exist d.0 set.show commands.0 in (
+      let all = answers_exist (session_on set h.map) set.show commands.0 in (
         all.0,
         0,
         (
           on_last map tables file texts h one (record {
             value = commands.0;
             is = commands.1;
-            known = record { session = d.0; is = d.1; known = all.1 };
+            known = record { session = session_on set h.map; is = refl; known = all.1 };
           }),
           refl,
         ),

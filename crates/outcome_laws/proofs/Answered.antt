@@ -44,7 +44,7 @@ use Rattle.jps_run.specs.declared.replies.findings.Finding.{Finding}
 use Rattle.jps_run.specs.declared.replies.row.Row.{Row}
 use Rattle.jps_run.specs.declared.replies.row.Row.TheVariants as row
 use Rattle.jps_run.specs.declared.replies.ruling.Ruling.{Ruling}
-use Rattle.jps_run.proofs.Refereed.{settled-ruled}
+use Rattle.jps_run.proofs.Judged.{settled-ruled}
 use Rattle.jps_run.proofs.SessionReply.{reply_exists}
 use Rattle.outcome_laws.proofs.Reached.{cost_exists, on_grid}
 

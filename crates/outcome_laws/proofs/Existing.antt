@@ -8,10 +8,8 @@ use Rattle.script_text.specs.Feeding.{commands_of, commands_so_far, fault_of, fa
 use Rattle.edit_replay.specs.Session.{SessionData}
 use Rattle.word_list.specs.Calls.{call_of, is_call}
 use Rattle.word_list.specs.Request.{Asked, Call, Live}
-use Rattle.word_list.specs.Settings.{is_for_small_maps}
 use Rattle.word_list.specs.declared.request.Settings.{Settings}
 use Rattle.word_list.specs.declared.request.Show.{Show}
-use Rattle.word_list.proofs.Serving.{served}
 use Rattle.call_files.specs.FaultLines.{long_line, script_line, word_line}
 use Rattle.call_files.specs.Files.{AreAccepted, File, HasRefused}
 use Rattle.call_files.specs.Kinds.{limit_of}
@@ -24,7 +22,8 @@ use Rattle.jps_run.specs.Outcome.{IsOutcome, Outcome, Spell, answered, bad_line,
 use Rattle.outcome_laws.specs.Existing.{ArePresent}
 use Rattle.outcome_laws.proofs.Answered.{answers_exist}
 use Rattle.outcome_laws.proofs.Refusing.{accepted_or_refused, bad_word_exists, less_or_not}
-use Rattle.outcome_laws.proofs.Accepted.{HasAnswer, has_map, session_on}
+use Rattle.jps_run.specs.Session.{session_on}
+use Rattle.outcome_laws.proofs.Accepted.{HasAnswer, has_map}
 use Rattle.outcome_laws.proofs.Commands.{answers}
 
 module _ (holds : List ℕ → Held) (set : Settings) where
@@ -65,14 +64,14 @@ Ends words holds script = (outcome : Outcome) × IsOutcome words holds (Some scr
 
 module _ (words : List (List ℕ)) (holds : List ℕ → Held) (script : List ℕ) where
   live_ends : (map : List ℕ) (tables : Option (List ℕ)) (set : Settings)
-      → Spell words (call_with (Live map tables) set) → is_for_small_maps set.pick ≡ false
+      → Spell words (call_with (Live map tables) set)
       → (texts : List (List ℕ)) → AreAccepted holds [] (map_files set map tables) texts
       → Ends words holds script
-  live_ends map tables set spelled large texts p =
+  live_ends map tables set spelled texts p =
       let h = has_map holds set map tables [] texts (subst (λ (fs : List File). AreAccepted holds [] fs texts)
       (sym (append-nil (map_files set map tables))) p) in
-      let d = session_on set h.map large in
-      let heard = heard_exists holds set d.0 set.show script in
+      let d = session_on set h.map in
+      let heard = heard_exists holds set d set.show script in
       by_line heard.0 heard.1 (record {
         map = map;
         tables = tables;
@@ -83,8 +82,8 @@ module _ (words : List (List ℕ)) (holds : List ℕ → Held) (script : List �
         accepted = subst (λ (ts : List (List ℕ)). AreAccepted holds [] (map_files set map tables) ts) h.is p;
         read = h.map;
         spelled = h.read;
-        session = d.0;
-        answers = d.1;
+        session = d;
+        answers = refl;
         known = heard.2;
       })
     where
@@ -114,13 +113,13 @@ module _ (words : List (List ℕ)) (holds : List ℕ → Held) (script : List �
       → ((map : List ℕ) (tables : Option (List ℕ)) → ¬ (asked ≡ Live map tables)) → Ends words holds script
   not_live asked set spelled texts p other =
       done_ends (call_with asked set) spelled texts p
-      ((answers set asked).1 holds (served words (call_with asked set) spelled) texts p other)
+      ((answers set asked).1 holds texts p other)
 
   call_ends : (asked : Asked) (set : Settings) → Spell words (call_with asked set)
       → (texts : List (List ℕ)) → AreAccepted holds [] (files_of (call_with asked set)) texts
       → Ends words holds script
   call_ends (Live map tables) set spelled texts p =
-      live_ends map tables set spelled (served words (call_with (Live map tables) set) spelled refl) texts p
+      live_ends map tables set spelled texts p
   call_ends asked set spelled texts p = not_live asked set spelled texts p (λ m t e. cc)
 
   refused_ends : (call : Call) → Spell words call → (line : List ℕ) → HasRefused holds (files_of call) line

@@ -26,7 +26,6 @@ use Rattle.edit_replay.proofs.Edits.{is_free-edited, is_inside-edited}
 use Rattle.word_list.specs.declared.request.Settings.{Settings}
 use Rattle.call_files.specs.Layered.{layers_on}
 use Rattle.jps_run.specs.Session.{IsSessionOn, session_after}
-use Rattle.jps_run.specs.Who.{Who}
 
 pub are_layers-map : (set : Settings) (m : Map) → IsMap m.width m.height m.cells → AreLayers (layers_on set m)
 are_layers-map set m is = are_layers-of set.rule m.width m.height m.cells (record {
@@ -129,4 +128,4 @@ pub are_layers-after : (set : Settings) (m : Map) (d : SessionData) (edits : Lis
     → AreLayers (layers_on set m)
     → IsSessionOn set m d → AreLayers (session_after d edits).layers
 are_layers-after set m d edits are is =
-    are_layers-edited d.layers edits (subst (λ (who : Who). AreLayers who.layers) (sym is) are)
+    are_layers-edited d.layers edits (subst (λ (k : SessionData). AreLayers k.layers) (sym is) are)

@@ -50,3 +50,4 @@ pub mod Proved
 pub mod Forms
 pub mod Readable
 pub mod Existing
+pub mod Serving

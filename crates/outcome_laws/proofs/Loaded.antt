@@ -7,7 +7,8 @@ use Rattle.map_text.specs.Faults.{map_of}
 use Rattle.grid_moves.specs.declared.Corner.{Corner}
 use Rattle.word_list.specs.Request.{Asked, Call, Query, Solve, Live, Scen}
 use Rattle.word_list.specs.declared.request.Pick.{Pick}
-use Rattle.word_list.specs.declared.request.Pick.TheVariants as pick
+use Rattle.word_list.specs.declared.request.Pick.TheVariants.{Session}
+use Rattle.word_list.specs.declared.request.SessionEngine.TheVariants.{Plus}
 use Rattle.word_list.specs.declared.request.Settings.{Settings}
 use Rattle.word_list.specs.declared.request.Show.{Show}
 use Rattle.call_files.specs.Files.{AreAccepted, File, HasRefused, file_of, faulty, too_long}
@@ -189,7 +190,7 @@ not_live holds call input lines line other p =
 module _ (holds : List ℕ → Held) (map tables : List ℕ) (show : Show) (rule : Corner)
     (right : AreTablesOf holds rule map tables) where
   abbrev set : Settings
-  set = record { pick = pick.Plus; show = show; rule = rule }
+  set = record { pick = Session Plus; show = show; rule = rule }
 
   -- what is asked for with a table file and without, where files that stand alone are read behind it, and its
   -- text is no matter for an answer
@@ -339,11 +340,11 @@ module _ (holds : List ℕ → Held) (map tables : List ℕ) (show : Show) (rule
   }
 
 abbrev RightTables : (List ℕ → Held) → List ℕ → List ℕ → Settings → Type 0
-RightTables holds map tables set = (set.pick ≡ pick.Plus) × AreTablesOf holds set.rule map tables
+RightTables holds map tables set = (set.pick ≡ Session Plus) × AreTablesOf holds set.rule map tables
 
 -- settings that pick the engine
-as_plus : (set : Settings) → set.pick ≡ pick.Plus
-    → record { pick = pick.Plus; show = set.show; rule = set.rule } ≡ set
+as_plus : (set : Settings) → set.pick ≡ Session Plus
+    → record { pick = Session Plus; show = set.show; rule = set.rule } ≡ set
 as_plus set e = ap (λ (p : Pick). record { pick = p; show = set.show; rule = set.rule }) (sym e)
 
 both_lead : (holds : List ℕ → Held) (map tables : List ℕ) (call like : Call)

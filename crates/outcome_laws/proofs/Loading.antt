@@ -7,7 +7,8 @@ use Rattle.word_list.specs.Kinds.{is_of}
 use Rattle.word_list.specs.Request.{Asked, Call, Query, Solve, Live, Row, Scen, asked_by, row_of}
 use Rattle.word_list.specs.Settings.{all_follow, can_load, has_tables, is_complete, settings_of, tables_of}
 use Rattle.word_list.specs.declared.request.Pick.{Pick}
-use Rattle.word_list.specs.declared.request.Pick.TheVariants as pick
+use Rattle.word_list.specs.declared.request.Pick.TheVariants.{Session}
+use Rattle.word_list.specs.declared.request.SessionEngine.TheVariants.{Plus}
 use Rattle.word_list.specs.declared.request.Settings.{Settings}
 use Rattle.word_list.specs.declared.rows.Command.{Command}
 use Rattle.word_list.specs.declared.rows.Command.TheVariants as command
@@ -77,15 +78,15 @@ loads (name ∷ words) call is = by_name (row_of name) is
     by_name None e = absurd (cc)
     by_name (Some row) e = by_row words row call (fits row.takes row.allows words) refl e
 
-plus_picked : (set : Settings) → has_tables set.pick ≡ true → set.pick ≡ pick.Plus
+plus_picked : (set : Settings) → has_tables set.pick ≡ true → set.pick ≡ Session Plus
 plus_picked set has = by_pick set.pick has
   where
-    by_pick : (p : Pick) → has_tables p ≡ true → p ≡ pick.Plus
-    by_pick pick.Plus h = refl
+    by_pick : (p : Pick) → has_tables p ≡ true → p ≡ Session Plus
+    by_pick (Session Plus) h = refl
     by_pick p h = absurd (cc)
 
 pub picked : (words : List (List ℕ)) (call like : Call) (map tables : List ℕ) → Spell words call
-    → DifferInTables map tables call like → call.settings.pick ≡ pick.Plus
+    → DifferInTables map tables call like → call.settings.pick ≡ Session Plus
 unfolding named_in
 picked words _ _ map tables spelled (query sx sy gx gy set) =
     plus_picked set (loads words (call_with (Query map (Some tables) sx sy gx gy) set) spelled)

@@ -15,6 +15,8 @@ use Rattle.word_list.specs.Rule.{IsBadWord}
 use Rattle.word_list.specs.Settings.{is_for_small_maps}
 use Rattle.word_list.specs.declared.request.Pick.{Pick}
 use Rattle.word_list.specs.declared.request.Pick.TheVariants as pick
+use Rattle.word_list.specs.declared.request.SessionEngine.TheVariants.{Plain, Jps, Block, Plus}
+use Rattle.word_list.specs.declared.request.SmallEngine.TheVariants.{Boxes, Moves}
 use Rattle.word_list.specs.declared.request.Settings.{Settings}
 use Rattle.word_list.specs.declared.request.Show.{Show}
 use Rattle.call_files.specs.FaultLines.{word_line}
@@ -179,18 +181,24 @@ is_small by_moves = true
 
 small_by : (p : Pick) → is_for_small_maps p ≡ is_small (way_of (by_of p))
 unfolding is_small
-small_by pick.Plain = refl
-small_by p = refl
+small_by (pick.Session Plain) = refl
+small_by (pick.Session Jps) = refl
+small_by (pick.Session Block) = refl
+small_by (pick.Session Plus) = refl
+small_by (pick.Small Boxes) = refl
+small_by (pick.Small Moves) = refl
 
 same_small : (p q : Pick) → way_of (by_of p) ≡ way_of (by_of q) → is_for_small_maps p ≡ is_for_small_maps q
 same_small p q way = small_by p ∙ ap is_small way ∙ sym (small_by q)
 
 -- those that jump do
 jump_way : (p : Pick) → is_jump p ≡ true → way_of (by_of p) ≡ by_session engine.Jps
-jump_way pick.Jps e = refl
-jump_way pick.Block e = refl
-jump_way pick.Plus e = refl
-jump_way p e = absurd (cc)
+jump_way (pick.Session Jps) e = refl
+jump_way (pick.Session Block) e = refl
+jump_way (pick.Session Plus) e = refl
+jump_way (pick.Session Plain) e = absurd (cc)
+jump_way (pick.Small Boxes) e = absurd (cc)
+jump_way (pick.Small Moves) e = absurd (cc)
 
 module _ (holds : List ℕ → Held) (script : List ℕ) (call like : Call) (alike : DifferInEngine call like)
     (told : AreTold holds (files_of call)) where

@@ -1,14 +1,35 @@
 -- Who answers on one map, by two settings.
-use Rattle.std.proofs.Common.{◌≡◌, sym, ap, ◌∙◌, subst}
+use Rattle.std.proofs.Common.{◌≡◌, refl, sym, ap, ◌∙◌, subst}
 use Rattle.grid_moves.specs.declared.Corner.{Corner}
 use Rattle.grid_moves.specs.Layers.{AreLayers, Layers, layers_of}
 use Rattle.map_text.specs.Map.{Map}
 use Rattle.edit_replay.specs.Session.{SessionData}
 use Rattle.word_list.specs.declared.request.Settings.{Settings}
 use Rattle.call_files.specs.Layered.{layers_on}
-use Rattle.jps_run.specs.Session.{IsSessionOn, by_of, who_on}
-use Rattle.jps_run.specs.Who.{Who, who_is}
+use Rattle.edit_replay.specs.declared.engine.Engine.TheVariants as engine
+use Rattle.word_list.specs.Settings.{session_engine}
+use Rattle.word_list.specs.declared.request.Pick.{Pick}
+use Rattle.word_list.specs.declared.request.Pick.TheVariants as pick
+use Rattle.word_list.specs.declared.request.SessionEngine.TheVariants.{Plain, Jps, Block, Plus}
+use Rattle.word_list.specs.declared.request.SmallEngine.TheVariants.{Boxes, Moves}
+use Rattle.jps_run.specs.Session.{IsSessionOn, by_of, engine_for, who_on}
+use Rattle.jps_run.specs.Who.{By, by_boxes, by_moves, by_session, who_is}
 use Rattle.outcome_laws.specs.Alike.{AnswerAlike, way_of}
+
+-- the way of a session, by the way of the picked engine
+session_way : By → By
+session_way (by_session engine) = by_session engine
+session_way by_boxes = by_session engine.Plain
+session_way by_moves = by_session engine.Plain
+
+way_by_pick : (p : Pick) → way_of (by_session (engine_for (session_engine p))) ≡ session_way (way_of (by_of p))
+unfolding session_way
+way_by_pick (pick.Session Plain) = refl
+way_by_pick (pick.Session Jps) = refl
+way_by_pick (pick.Session Block) = refl
+way_by_pick (pick.Session Plus) = refl
+way_by_pick (pick.Small Boxes) = refl
+way_by_pick (pick.Small Moves) = refl
 
 module _ (set other : Settings) (m : Map) (rule : set.rule ≡ other.rule) where
   -- the grids are the same under one corner rule
@@ -23,17 +44,20 @@ module _ (set other : Settings) (m : Map) (rule : set.rule ≡ other.rule) where
   module _ (d e : SessionData) (is : IsSessionOn set m d) (also : IsSessionOn other m e) where
     pub sessions_layers : d.layers ≡ e.layers
     sessions_layers =
-        ap (λ (w : Who). w.layers) is ∙ layers_alike ∙ sym (ap (λ (w : Who). w.layers) also)
+        ap (λ (k : SessionData). k.layers) is ∙ layers_alike
+        ∙ sym (ap (λ (k : SessionData). k.layers) also)
 
     pub sessions_alike : way_of (by_of set.pick) ≡ way_of (by_of other.pick)
         → AnswerAlike (who_is d) (who_is e)
     sessions_alike way = record {
       layers = sessions_layers;
-      way = ap (λ (w : Who). way_of w.by) is ∙ way ∙ sym (ap (λ (w : Who). way_of w.by) also);
+      way = ap (λ (k : SessionData). way_of (by_session k.engine)) is ∙ way_by_pick set.pick
+          ∙ ap session_way way ∙ sym (way_by_pick other.pick)
+          ∙ sym (ap (λ (k : SessionData). way_of (by_session k.engine)) also);
     }
 
 -- the session's grids are layers where those of the map are
 pub session_layers : (set : Settings) (m : Map) (d : SessionData) → AreLayers (layers_on set m)
     → IsSessionOn set m d → AreLayers d.layers
 session_layers set m d are is =
-    subst (λ (ls : Layers). AreLayers ls) (sym (ap (λ (w : Who). w.layers) is)) are
+    subst (λ (ls : Layers). AreLayers ls) (sym (ap (λ (k : SessionData). k.layers) is)) are

@@ -14,3 +14,4 @@ pub mod Lines
 pub mod Outcomes
 pub mod Loaded
 pub mod Existing
+pub mod Serving

@@ -13,5 +13,5 @@ pub mod of_replies;
 
 pub use of_outcomes::{
     engines_print_the_same_costs, jump_engines_print_the_same, outcomes_are_one, outcomes_exist,
-    with_tables_the_same, written_begins_the_output,
+    small_engines_serve_two, with_tables_the_same, written_begins_the_output,
 };

@@ -4,6 +4,7 @@ ghost use Rattle.outcome_laws.specs.Outcomes.{OutcomesAreOne, JumpEnginesPrintTh
 ghost use Rattle.outcome_laws.specs.Outcomes.{EnginesPrintTheSameCosts, WrittenBeginsTheOutput};
 ghost use Rattle.outcome_laws.specs.Loaded.{WithTablesTheSame};
 ghost use Rattle.outcome_laws.specs.Existing.{OutcomesExist};
+ghost use Rattle.outcome_laws.specs.Serving.{SmallEnginesServeTwo};
 
 /// Words come to at most one outcome, where the files that they name and the input are told: one status, one
 /// output, and one line on `err`.
@@ -44,4 +45,10 @@ pub fn with_tables_the_same()
 /// file that they name is there and the input is told.
 pub fn outcomes_exist()
     ensures { OutcomesExist }
+{}
+
+/// Words that spell a call pick an engine for small maps only for `query` and `scen`, so no session is asked
+/// to begin with one.
+pub fn small_engines_serve_two()
+    ensures { SmallEnginesServeTwo }
 {}

@@ -40,13 +40,10 @@ impl Model for LeastCosts {
 }
 
 impl OfMap for LeastCosts {
-    ghost use Rattle.std.specs.Prelude.{⊤};
     ghost use Rattle.call_files.specs.Reading.{AreLayersOf};
     ghost use Rattle.call_files.specs.declared.kind.Extent.TheVariants.{Any};
 
     ghost extent_of = { λ _. Any };
-
-    ghost serves = { λ _. ⊤ };
 
     ghost is_of_map = { AreLayersOf };
 

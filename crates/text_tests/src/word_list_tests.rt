@@ -110,7 +110,7 @@ fn a_query_is_read_with_its_settings(rt: HostRuntime) -> Result<(), Fail> {
             assert_eq!(rt; map, "");
             assert!(rt; tables.is_none());
             assert_eq!(rt; (sx, sy, gx, gy), (7, 1, 2, 3));
-            assert_eq!(rt; settings.pick, Pick::Jps);
+            assert_eq!(rt; settings.pick, Pick::Session(SessionEngine::Jps));
             assert_eq!(rt; settings.show, Show::Trace);
             assert_eq!(rt; settings.rule, Corner::One);
         }
@@ -138,7 +138,9 @@ fn files_of<'a>(request: Request<'a>) -> (&'a str, &'a str, Option<&'a str>, &'a
 #[test]
 fn a_map_stands_before_its_script_or_scenario(rt: HostRuntime) -> Result<(), Fail> {
     let (t, ab) = (Some("t"), Some("a=b"));
-    let (plain, plus) = (Pick::Plain, Pick::Plus);
+    let plain = Pick::Session(SessionEngine::Plain);
+    let jps = Pick::Session(SessionEngine::Jps);
+    let plus = Pick::Session(SessionEngine::Plus);
     let (points, cells, taken) = (Show::Points, Show::Cells, Show::Taken);
     let none = Corner::Never;
     let solved = ("solve", "m", None, "s");
@@ -146,11 +148,7 @@ fn a_map_stands_before_its_script_or_scenario(rt: HostRuntime) -> Result<(), Fai
     let calls: [(&str, (&str, &str, Option<&str>, &str), (Pick, Show, Corner)); 8] = [
         ("solve m s show=cells", solved, (plain, cells, none)),
         ("scen m s rule=none", rows, (plain, points, none)),
-        (
-            "scen m s engine=jps show=taken",
-            rows,
-            (Pick::Jps, taken, none),
-        ),
+        ("scen m s engine=jps show=taken", rows, (jps, taken, none)),
         (
             "live m tables=a=b engine=plus",
             ("live", "m", ab, ""),

@@ -10,7 +10,8 @@ use Rattle.std.proofs.lemmas.Bool.{not-false, not-true, true≢false, false_from
 use Rattle.std.proofs.lemmas.List.Folds.{list_any-append}
 use Rattle.std.proofs.lemmas.List.Sums.{fold-append}
 use Rattle.word_list.specs.declared.request.Pick.{Pick}
-use Rattle.word_list.specs.declared.request.Pick.TheVariants.{Plus}
+use Rattle.word_list.specs.declared.request.Pick.TheVariants.{Session}
+use Rattle.word_list.specs.declared.request.SessionEngine.TheVariants.{Plus}
 use Rattle.word_list.specs.declared.request.Settings.{Settings}
 use Rattle.word_list.specs.declared.settings.Setting.{Setting}
 use Rattle.word_list.specs.declared.settings.Setting.TheVariants as setting
@@ -40,7 +41,7 @@ any_clash s words = list_any (λ word. are_clashing (setting_of word) (Some s)) 
 
 -- the words tell a table file, the engine for it is allowed, and none is picked yet
 pub record Waits (allows : List Family) (words : List (List ℕ)) : Type 0 where
-  pub allowed : is_allowed allows (Some (setting.Engine Plus)) ≡ true
+  pub allowed : is_allowed allows (Some (setting.Engine (Session Plus))) ≡ true
   pub named : any_file words ≡ true
   pub free : any_pick words ≡ false
 
@@ -133,11 +134,11 @@ pick_clash : (pick : Pick) (s : Option Setting) → picks s ≡ true
     → are_clashing s (Some (setting.Engine pick)) ≡ true
 pick_clash pick s h = grind (arith, nat_tests)
 
-clash_pick : (s : Option Setting) → are_clashing s (Some (setting.Engine Plus)) ≡ true → picks s ≡ true
+clash_pick : (s : Option Setting) → are_clashing s (Some (setting.Engine (Session Plus))) ≡ true → picks s ≡ true
 clash_pick s h = grind (arith, nat_tests)
 
 -- a family with the table file has the engine for it
-family_has : (f : Family) → has f setting.TableFile ≡ true → has f (setting.Engine Plus) ≡ true
+family_has : (f : Family) → has f setting.TableFile ≡ true → has f (setting.Engine (Session Plus)) ≡ true
 family_has f h = grind (arith, nat_tests)
 
 module _ (allows : List Family) (before : List (List ℕ)) (word : List ℕ) where
@@ -188,7 +189,7 @@ module _ (allows : List Family) (before : List (List ℕ)) (word : List ℕ) whe
   file_told is allowed clear = ⊎_elim
       (λ picked. loaded (rw is (sole_pick before default_settings clear picked)))
       (λ none. waits (record {
-        allowed = any_from (λ f. has f setting.TableFile) (λ f. has f (setting.Engine Plus)) family_has
+        allowed = any_from (λ f. has f setting.TableFile) (λ f. has f (setting.Engine (Session Plus))) family_has
             allows allowed;
         named = tells_now setting.TableFile is allowed clear ∙ or_right (any_file before) true refl;
         free = picks_now setting.TableFile is allowed clear ∙ rw none refl;
@@ -233,13 +234,13 @@ can_complete allows before (whole complete) = ([], rw append-nil complete)
 can_complete allows before (waits w) =
     let plus : List ℕ = codes "engine=plus" in
     let chosen : settings_of (before ++ plus ∷ [])
-    ≡ settings_with (settings_of before) (Some (setting.Engine Plus)) =
+    ≡ settings_with (settings_of before) (Some (setting.Engine (Session Plus))) =
     fold-append (λ set word. settings_with set (setting_of word)) default_settings before (plus ∷ []) in
-    let clear : any_clash (setting.Engine Plus) before ≡ false =
-    none_from (λ w. are_clashing (setting_of w) (Some (setting.Engine Plus))) (λ w. picks (setting_of w))
+    let clear : any_clash (setting.Engine (Session Plus)) before ≡ false =
+    none_from (λ w. are_clashing (setting_of w) (Some (setting.Engine (Session Plus)))) (λ w. picks (setting_of w))
     (λ w. clash_pick (setting_of w)) before w.free in
     let follows : may_follow allows before plus ≡ true =
-    and_from (is_allowed allows (Some (setting.Engine Plus))) (not (any_clash (setting.Engine Plus) before))
+    and_from (is_allowed allows (Some (setting.Engine (Session Plus)))) (not (any_clash (setting.Engine (Session Plus)) before))
     w.allowed (rw clear refl) in
     let complete : is_complete (before ++ plus ∷ []) ≡ true =
     or_right (is_none (tables_of (before ++ plus ∷ []))) (has_tables (settings_of (before ++ plus ∷ [])).pick)

@@ -3,4 +3,3 @@ pub mod Completed
 pub mod Settled
 pub mod Fitted
 pub mod Calls
-pub mod Serving

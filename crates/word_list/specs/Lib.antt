@@ -2,7 +2,6 @@ pub mod Settings
 pub mod Kinds
 pub mod Request
 pub mod Calls
-pub mod Serving
 pub mod Rule
 pub mod Steps
 pub mod Worked

@@ -6,7 +6,10 @@ use Rattle.std.specs.List.{list_any, fold, starts_with}
 use Rattle.std.specs.Option.{option_or}
 use Rattle.grid_moves.specs.declared.Corner.TheVariants.{Never, One, Both}
 use Rattle.word_list.specs.declared.request.Pick.{Pick}
-use Rattle.word_list.specs.declared.request.Pick.TheVariants.{Plain, Jps, Block, Plus, Boxes, Moves}
+use Rattle.word_list.specs.declared.request.Pick.TheVariants.{Session, Small}
+use Rattle.word_list.specs.declared.request.SessionEngine.{SessionEngine}
+use Rattle.word_list.specs.declared.request.SessionEngine.TheVariants.{Plain, Jps, Block, Plus}
+use Rattle.word_list.specs.declared.request.SmallEngine.TheVariants.{Boxes, Moves}
 use Rattle.word_list.specs.declared.request.Show.TheVariants.{Points, Cells, Trace, Taken}
 use Rattle.word_list.specs.declared.request.Settings.{Settings}
 use Rattle.word_list.specs.declared.settings.Setting.{Setting}
@@ -25,12 +28,12 @@ tables_in word = if starts_with nat_eq word (codes "tables=") && nat_lt 7 (lengt
 abbrev pub setting_of : List ℕ → Option Setting
 setting_of word =
     if is_some (tables_in word) then Some setting.TableFile
-    else if bytes_eq word (codes "engine=plain") then Some (setting.Engine Plain)
-    else if bytes_eq word (codes "engine=jps") then Some (setting.Engine Jps)
-    else if bytes_eq word (codes "engine=block") then Some (setting.Engine Block)
-    else if bytes_eq word (codes "engine=plus") then Some (setting.Engine Plus)
-    else if bytes_eq word (codes "engine=boxes") then Some (setting.Engine Boxes)
-    else if bytes_eq word (codes "engine=moves") then Some (setting.Engine Moves)
+    else if bytes_eq word (codes "engine=plain") then Some (setting.Engine (Session Plain))
+    else if bytes_eq word (codes "engine=jps") then Some (setting.Engine (Session Jps))
+    else if bytes_eq word (codes "engine=block") then Some (setting.Engine (Session Block))
+    else if bytes_eq word (codes "engine=plus") then Some (setting.Engine (Session Plus))
+    else if bytes_eq word (codes "engine=boxes") then Some (setting.Engine (Small Boxes))
+    else if bytes_eq word (codes "engine=moves") then Some (setting.Engine (Small Moves))
     else if bytes_eq word (codes "show=points") then Some (setting.Show Points)
     else if bytes_eq word (codes "show=cells") then Some (setting.Show Cells)
     else if bytes_eq word (codes "show=trace") then Some (setting.Show Trace)
@@ -57,14 +60,14 @@ is_same one other = false
 
 -- whether an engine searches by tables
 abbrev pub has_tables : Pick → Bool
-has_tables Plus = true
+has_tables (Session Plus) = true
 has_tables other = false
 
 -- whether a setting can't stand beside this one, which makes another choice: first moves take no states,
 -- which a trace could list or a row could count, and tables serve one engine alone
 abbrev pub excludes : Setting → Setting → Bool
-excludes (setting.Engine Moves) (setting.Show Trace) = true
-excludes (setting.Engine Moves) (setting.Show Taken) = true
+excludes (setting.Engine (Small Moves)) (setting.Show Trace) = true
+excludes (setting.Engine (Small Moves)) (setting.Show Taken) = true
 excludes setting.TableFile (setting.Engine pick) = not (has_tables pick)
 excludes one other = false
 
@@ -79,9 +82,14 @@ are_clashing one other = false
 
 -- whether an engine serves small maps alone
 abbrev pub is_for_small_maps : Pick → Bool
-is_for_small_maps Boxes = true
-is_for_small_maps Moves = true
-is_for_small_maps other = false
+is_for_small_maps (Session engine) = false
+is_for_small_maps (Small engine) = true
+
+-- the engine of a session: an engine for small maps is none, and leaves a session as it is where no word
+-- picks an engine
+abbrev pub session_engine : Pick → SessionEngine
+session_engine (Session engine) = engine
+session_engine (Small engine) = Plain
 
 -- whether a setting is of a family; a picture shows the points, and the states that the search took; rows
 -- count these states; a table file stands beside the engine that searches by tables
@@ -123,9 +131,12 @@ settings_with set (Some (setting.Rule rule)) = record { pick = set.pick; show = 
 settings_with set (Some setting.TableFile) = set
 settings_with set None = set
 
--- the settings of a call that is silent on them
+-- the engine of a call that picks none, and its settings where it is silent on all of them
+abbrev pub default_pick : Pick
+default_pick = Session Plain
+
 abbrev pub default_settings : Settings
-default_settings = record { pick = Plain; show = Points; rule = Never }
+default_settings = record { pick = default_pick; show = Points; rule = Never }
 
 -- what the words choose
 abbrev pub settings_of : List (List ℕ) → Settings

@@ -1,14 +1,17 @@
 -- Worked rows of the accepted lists, by computing.
-use Rattle.std.specs.Prelude.{◌≡◌, ℕ, List, [], ◌∷◌, codes, refl, Option, Some, None}
+use Rattle.std.specs.Prelude.{◌≡◌, ℕ, List, [], ◌∷◌, codes, refl, Option, Some, None, ◌||◌, if◌then◌else◌}
 use Rattle.grid_moves.specs.declared.Corner.{Corner}
 use Rattle.grid_moves.specs.declared.Corner.TheVariants.{Never, One, Both}
 use Rattle.text_line.specs.LongNumbers.{long_number_of}
 use Rattle.text_line.specs.Numbers.{number_of}
-use Rattle.word_list.specs.declared.request.Pick.TheVariants.{Plain, Jps, Plus, Boxes}
+use Rattle.word_list.specs.declared.request.Pick.TheVariants.{Session, Small}
+use Rattle.word_list.specs.declared.request.SessionEngine.TheVariants.{Plain, Jps, Plus}
+use Rattle.word_list.specs.declared.request.SmallEngine.TheVariants.{Boxes, Moves}
 use Rattle.word_list.specs.declared.request.Show.{Show}
 use Rattle.word_list.specs.declared.request.Show.TheVariants.{Points, Cells, Trace, Taken}
-use Rattle.word_list.specs.Request.{Call, Help, Query, Solve, Scen, Judge, Make, Lengths, Problems}
-use Rattle.word_list.specs.Settings.{default_settings, tables_in}
+use Rattle.word_list.specs.declared.settings.Setting.TheVariants as setting
+use Rattle.word_list.specs.Request.{Call, Named, Help, Query, Solve, Scen, Judge, Make, Lengths, Problems, rows}
+use Rattle.word_list.specs.Settings.{default_settings, is_allowed, tables_in}
 use Rattle.word_list.specs.Calls.{call_of}
 
 -- what the words after `query m 0 0 2 2` make of it
@@ -19,7 +22,7 @@ query_with words = call_of (codes "query" ∷ codes "m" ∷ codes "0" ∷ codes 
 abbrev query_of : Show → Corner → Option Call
 query_of show rule = Some (record {
   request = Query (codes "m") None 0 0 2 2;
-  settings = record { pick = Plain; show = show; rule = rule };
+  settings = record { pick = Session Plain; show = show; rule = rule };
 })
 
 pub defaults : query_with [] ≡ query_of Points Never
@@ -29,7 +32,7 @@ defaults = refl
 -- another engine, and a word that is none
 pub jumping : query_with (codes "engine=jps" ∷ []) ≡ Some (record {
   request = Query (codes "m") None 0 0 2 2;
-  settings = record { pick = Jps; show = Points; rule = Never };
+  settings = record { pick = Session Jps; show = Points; rule = Never };
 })
 unfolding number_of tables_in
 jumping = refl
@@ -41,7 +44,7 @@ no_engine = refl
 -- an engine of small maps, and a call for edits, which takes none
 pub boxed : query_with (codes "engine=boxes" ∷ []) ≡ Some (record {
   request = Query (codes "m") None 0 0 2 2;
-  settings = record { pick = Boxes; show = Points; rule = Never };
+  settings = record { pick = Small Boxes; show = Points; rule = Never };
 })
 unfolding number_of tables_in
 boxed = refl
@@ -49,6 +52,17 @@ boxed = refl
 pub boxed_edits : call_of (codes "solve" ∷ codes "m" ∷ codes "s" ∷ codes "engine=boxes" ∷ []) ≡ None
 unfolding tables_in
 boxed_edits = refl
+
+-- the commands that allow an engine for small maps: what they ask for is answered without a session
+abbrev allowing_small : List Named → List (List ℕ)
+allowing_small [] = []
+allowing_small (one ∷ others) =
+    if is_allowed one.row.allows (Some (setting.Engine (Small Boxes)))
+    || is_allowed one.row.allows (Some (setting.Engine (Small Moves)))
+    then one.name ∷ allowing_small others else allowing_small others
+
+pub boxed_commands : allowing_small rows ≡ codes "query" ∷ codes "scen" ∷ []
+boxed_commands = refl
 
 pub moves_before_trace : query_with (codes "engine=moves" ∷ codes "show=trace" ∷ []) ≡ None
 unfolding number_of tables_in
@@ -115,7 +129,7 @@ setting_for_name = refl
 abbrev loaded_query : Option Call
 loaded_query = Some (record {
   request = Query (codes "m") (Some (codes "t=x")) 0 0 2 2;
-  settings = record { pick = Plus; show = Points; rule = Never };
+  settings = record { pick = Session Plus; show = Points; rule = Never };
 })
 
 pub file_behind_engine : query_with (codes "engine=plus" ∷ codes "tables=t=x" ∷ []) ≡ loaded_query
@@ -155,7 +169,7 @@ drawn_by_file = refl
 pub three_files : call_of (codes "judge" ∷ codes "m" ∷ codes "s" ∷ codes "w" ∷ codes "rule=one" ∷ [])
     ≡ Some (record {
       request = Judge (codes "m") (codes "s") (codes "w");
-      settings = record { pick = Plain; show = Points; rule = One };
+      settings = record { pick = Session Plain; show = Points; rule = One };
     })
 unfolding tables_in
 three_files = refl
@@ -163,7 +177,7 @@ three_files = refl
 -- rows may tell counts, and nothing else is shown of them; no answer tells counts, and first moves have none
 pub counted_rows : call_of (codes "scen" ∷ codes "m" ∷ codes "s" ∷ codes "show=taken" ∷ []) ≡ Some (record {
   request = Scen (codes "m") None (codes "s");
-  settings = record { pick = Plain; show = Taken; rule = Never };
+  settings = record { pick = Session Plain; show = Taken; rule = Never };
 })
 unfolding tables_in
 counted_rows = refl
@@ -219,7 +233,7 @@ more_than_all = refl
 pub scenario_again : call_of (codes "lengths" ∷ codes "m" ∷ codes "s" ∷ codes "rule=both" ∷ [])
     ≡ Some (record {
       request = Lengths (codes "m") (codes "s");
-      settings = record { pick = Plain; show = Points; rule = Both };
+      settings = record { pick = Session Plain; show = Points; rule = Both };
     })
 unfolding tables_in
 scenario_again = refl

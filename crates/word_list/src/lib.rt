@@ -41,5 +41,5 @@ mod rows;
 mod settings;
 
 pub use reading::{first_bad, read_words};
-pub use request::{BadWord, Pick, Settings, Show};
+pub use request::{BadWord, Pick, SessionEngine, Settings, Show, SmallEngine};
 pub use rows::Request;

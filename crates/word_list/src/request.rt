@@ -1,5 +1,8 @@
 //! How a request is to be done, and which word is named where the words make none.
 
+ghost use Rattle.std.specs.Prelude.{◌≡◌};
+ghost use Rattle.word_list.specs.Settings as spec;
+
 use grid_moves::Corner;
 use thiserror::Error;
 
@@ -12,11 +15,43 @@ pub struct Settings {
     pub rule: Corner,
 }
 
-/// Which engine searches.
-#[derive(Clone, Copy, Debug, Default, PartialEq, Eq)]
+/// Which engine answers.
+#[derive(Clone, Copy, Debug, PartialEq, Eq)]
 pub enum Pick {
+    /// One by which a session answers, on a map of any size and through its edits.
+    Session(SessionEngine),
+    /// One for small maps, which answers without a session.
+    Small(SmallEngine),
+}
+
+impl Default for Pick {
+    ghost use Rattle.std.specs.Prelude.{◌≡◌};
+    ghost use Rattle.word_list.specs.Settings.{default_pick};
+
+    ghost is_default = { λ pick. pick ≡ default_pick };
+
+    fn default() -> Pick {
+        Pick::Session(SessionEngine::Plain)
+    }
+}
+
+impl Pick {
+    /// The engine of a session: an engine for small maps is none, and leaves a session as it is where no word
+    /// picks an engine.
+    pub fn session_engine(self) -> SessionEngine
+        ensures { result ≡ spec.session_engine self }
+    {
+        match self {
+            Pick::Session(engine) => engine,
+            Pick::Small(_) => SessionEngine::Plain,
+        }
+    }
+}
+
+/// The engines of sessions.
+#[derive(Clone, Copy, Debug, PartialEq, Eq)]
+pub enum SessionEngine {
     /// The one that goes on by every legal move, less those that the parent has offered as cheaply.
-    #[default]
     Plain,
     /// The one that jumps, cell by cell.
     Jps,
@@ -24,9 +59,14 @@ pub enum Pick {
     Block,
     /// The one that jumps, by tables.
     Plus,
-    /// The one that leaves out the moves whose boxes of goals don't hold the goal; for small maps.
+}
+
+/// The engines for small maps.
+#[derive(Clone, Copy, Debug, PartialEq, Eq)]
+pub enum SmallEngine {
+    /// The one that leaves out the moves whose boxes of goals don't hold the goal.
     Boxes,
-    /// The one that follows first moves; for small maps.
+    /// The one that follows first moves.
     Moves,
 }
 

@@ -7,7 +7,7 @@ ghost use Rattle.word_list.specs.Settings.{setting_of, choice_of, has as member,
 ghost use Rattle.word_list.specs.Settings as spec;
 ghost use Rattle.word_list.specs.Steps.{AreSettled, one_follows};
 
-use crate::request::{Pick, Settings, Show};
+use crate::request::{Pick, SessionEngine, Settings, Show, SmallEngine};
 use grid_moves::Corner;
 
 /// A setting.
@@ -81,9 +81,8 @@ impl Pick {
         ensures { result ≡ is_for_small_maps self }
     {
         match self {
-            Pick::Boxes => true,
-            Pick::Moves => true,
-            _ => false,
+            Pick::Session(_) => false,
+            Pick::Small(_) => true,
         }
     }
 
@@ -92,7 +91,7 @@ impl Pick {
         ensures { result ≡ has_tables self }
     {
         match self {
-            Pick::Plus => true,
+            Pick::Session(SessionEngine::Plus) => true,
             _ => false,
         }
     }
@@ -107,12 +106,12 @@ impl Setting {
             return Some(Setting::TableFile);
         }
         match word {
-            "engine=plain" => Some(Setting::Engine(Pick::Plain)),
-            "engine=jps" => Some(Setting::Engine(Pick::Jps)),
-            "engine=block" => Some(Setting::Engine(Pick::Block)),
-            "engine=plus" => Some(Setting::Engine(Pick::Plus)),
-            "engine=boxes" => Some(Setting::Engine(Pick::Boxes)),
-            "engine=moves" => Some(Setting::Engine(Pick::Moves)),
+            "engine=plain" => Some(Setting::Engine(Pick::Session(SessionEngine::Plain))),
+            "engine=jps" => Some(Setting::Engine(Pick::Session(SessionEngine::Jps))),
+            "engine=block" => Some(Setting::Engine(Pick::Session(SessionEngine::Block))),
+            "engine=plus" => Some(Setting::Engine(Pick::Session(SessionEngine::Plus))),
+            "engine=boxes" => Some(Setting::Engine(Pick::Small(SmallEngine::Boxes))),
+            "engine=moves" => Some(Setting::Engine(Pick::Small(SmallEngine::Moves))),
             "show=points" => Some(Setting::Show(Show::Points)),
             "show=cells" => Some(Setting::Show(Show::Cells)),
             "show=trace" => Some(Setting::Show(Show::Trace)),
@@ -149,8 +148,8 @@ impl Setting {
         ensures { result ≡ excludes self other }
     {
         match (self, other) {
-            (Setting::Engine(Pick::Moves), Setting::Show(Show::Trace)) => true,
-            (Setting::Engine(Pick::Moves), Setting::Show(Show::Taken)) => true,
+            (Setting::Engine(Pick::Small(SmallEngine::Moves)), Setting::Show(Show::Trace)) => true,
+            (Setting::Engine(Pick::Small(SmallEngine::Moves)), Setting::Show(Show::Taken)) => true,
             (Setting::TableFile, Setting::Engine(pick)) => !pick.has_tables(),
             _ => false,
         }

@@ -4,7 +4,6 @@ ghost use Rattle.std.specs.Prelude.{◌≡◌};
 ghost use Rattle.word_list.specs.Request as asked;
 ghost use Rattle.jps_run.specs.Calls.{call_with};
 ghost use Rattle.jps_run.specs.Opened.{OpensWork};
-ghost use Rattle.jps_run.specs.Session.{PicksSession};
 
 use crate::replies::Canvas;
 use crate::work::Work;
@@ -23,7 +22,6 @@ pub(crate) fn draw<F: Files>(
     ends: Ends,
     settings: Settings,
 ) -> Result<Work, Stop>
-    requires { PicksSession settings }
     ensures opened { OpensWork (call_with (asked.Draw map.now ends.sx ends.sy ends.gx ends.gy) settings)
         (F.disk files.old) (F.disk files.new) result }
     ensures unchanged { (F.disk files.new).holds ≡ (F.disk files.old).holds }

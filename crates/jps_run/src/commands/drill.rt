@@ -5,7 +5,6 @@ ghost use Rattle.std.specs.Prelude.{[], IfOk};
 ghost use Rattle.word_list.specs.Request as asked;
 ghost use Rattle.jps_run.specs.Calls.{call_with};
 ghost use Rattle.jps_run.specs.Opened.{IsWorkOf};
-ghost use Rattle.jps_run.specs.Session.{PicksSession};
 
 use crate::NoMemory;
 use crate::replies::{Summary, Sums, session_on};
@@ -22,7 +21,6 @@ const PERCENT: u8 = 25;
 
 /// Makes the session and the commands of a seed.
 pub(crate) fn drill(alloc: Global, seed: u64, settings: Settings) -> Result<Work, NoMemory>
-    requires { PicksSession settings }
     ensures { IfOk result (IsWorkOf (call_with (asked.Drill seed) settings) []) }
 {
     let map = map_maker::make(alloc, seed, SIDE, SIDE, PERCENT)?;

@@ -9,9 +9,8 @@ ghost use Rattle.word_list.specs.Request as asked;
 ghost use Rattle.word_list.specs.Settings as words;
 ghost use Rattle.jps_run.specs.Calls.{call_with};
 ghost use Rattle.jps_run.specs.Opened.{IsListener};
-ghost use Rattle.jps_run.specs.Session.{PicksSession};
 
-use crate::replies::{Answers, open_basis, session_of};
+use crate::replies::{Answers, open_answers};
 use io_edge::Files;
 use line_work::Stop;
 use std::alloc::Global;
@@ -25,17 +24,12 @@ pub(crate) fn live<F: Files>(
     tables: Option<&str>,
     settings: Settings,
 ) -> Result<Answers, Stop>
-    requires loads { words.can_load (option_copied tables) settings ≡ true }
-    requires session { PicksSession settings }
+    requires { words.can_load (option_copied tables) settings ≡ true }
     ensures opened { Ends (IsListener (call_with (asked.Live map.now (option_copied tables.entry)) settings)
         (F.disk files.old).holds)
         (open_stops (F.disk files.old) (F.disk files.new)
         (map_files settings map.now (option_copied tables.entry))) result }
     ensures unchanged { (F.disk files.new).holds ≡ (F.disk files.old).holds }
 {
-    let basis = open_basis(alloc, files, map, tables, settings)?;
-    Ok(Answers {
-        session: session_of(basis),
-        show: settings.show,
-    })
+    open_answers(alloc, files, map, tables, settings)
 }

@@ -25,7 +25,7 @@ pub(crate) fn query<F: Files>(
     ends: Ends,
     settings: Settings,
 ) -> Result<Work, Stop>
-    requires loads { words.can_load (option_copied tables) settings ≡ true }
+    requires { words.can_load (option_copied tables) settings ≡ true }
     ensures opened { OpensWork (call_with
         (asked.Query map.now (option_copied tables.entry) ends.sx ends.sy ends.gx ends.gy) settings)
         (F.disk files.old) (F.disk files.new) result }

@@ -3,20 +3,21 @@
 
 ghost use Rattle.std.specs.Prelude.{◌≡◌, ◌<◌, [], ◌∷◌, IfOk};
 ghost use Rattle.script_text.specs.declared.command.Command.TheVariants.{Query};
-ghost use Rattle.jps_run.specs.Answerers as spec;
+ghost use Rattle.jps_run.specs.Answerers.{who_from};
 ghost use Rattle.jps_run.specs.Lines.{Unfolds, reply_line};
 ghost use Rattle.jps_run.specs.Querying.{IsQueryWork};
+ghost use Rattle.jps_run.specs.Who as spec;
 ghost use Rattle.jps_run.specs.Who.{who_is};
 
 use crate::NoMemory;
-use crate::replies::{Answers, Basis, SmallEngine, put_reply, small_reply};
+use crate::replies::{Answers, Basis, put_reply, small_reply};
 use crate::work::Work;
 use cell_lines::Ends;
 use edit_replay::{Reply, Session};
 use grid_moves::{Layers, Terrain};
 use script_text::Command;
 use std::alloc::Global;
-use word_list::Show;
+use word_list::{Show, SmallEngine};
 
 // The query as the commands of a script.
 fn commands_of(alloc: Global, ends: Ends) -> Result<Vec<Command>, NoMemory>
@@ -67,7 +68,7 @@ fn by_small(
 
 /// The work on one query, by what was made of a map.
 pub fn work_on(alloc: Global, basis: Basis, ends: Ends, show: Show) -> Result<Work, NoMemory>
-    ensures { IfOk result (IsQueryWork (spec.who_from basis) show
+    ensures { IfOk result (IsQueryWork (who_from basis) show
         (record { x = ends.sx; y = ends.sy }) (record { x = ends.gx; y = ends.gy })) }
 {
     match basis {

@@ -7,8 +7,9 @@ ghost use Rattle.word_list.specs.Settings as words;
 ghost use Rattle.jps_run.specs.Opened.{OpensWork};
 ghost use Rattle.jps_run.specs.Calls.{call_with};
 
-use crate::replies::{Answerer, Basis, Scen, Tally, open_basis_and};
+use crate::replies::{Answerer, Scen, Tally, open_basis};
 use crate::work::Work;
+use call_files::read_file;
 use io_edge::Files;
 use line_work::Stop;
 use scen_text::Entry;
@@ -24,13 +25,13 @@ pub(crate) fn scen<F: Files>(
     name: &str,
     settings: Settings,
 ) -> Result<Work, Stop>
-    requires loads { words.can_load (option_copied tables) settings ≡ true }
+    requires { words.can_load (option_copied tables) settings ≡ true }
     ensures opened { OpensWork (call_with (asked.Scen map.now (option_copied tables.entry) name.now) settings)
         (F.disk files.old) (F.disk files.new) result }
     ensures unchanged { (F.disk files.new).holds ≡ (F.disk files.old).holds }
 {
-    let both: (Basis, Vec<Entry>) = open_basis_and(alloc, files, map, tables, settings, name, &())?;
-    let (basis, entries) = both;
+    let basis = open_basis(alloc, files, map, tables, settings)?;
+    let entries: Vec<Entry> = read_file(alloc, files, name, &())?;
     let answerer = Answerer::new(alloc, basis)?;
     let job = Scen {
         answerer,

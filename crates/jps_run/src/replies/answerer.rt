@@ -26,16 +26,7 @@ use map_text::MapText;
 use std::alloc::Global;
 use std::sync::ledger::Ledger;
 use steps::Steps;
-use word_list::{Pick, Settings};
-
-/// The engines for small maps, which answer without a session.
-#[derive(Clone, Copy, Debug, PartialEq, Eq)]
-pub enum SmallEngine {
-    /// By the search that goes by goal boxes.
-    Boxes,
-    /// By following first moves.
-    Moves,
-}
+use word_list::{Pick, Settings, SmallEngine};
 
 /// What is made of a map for the picked engine at once: a session, or the grids of a small map.
 #[derive(Drop)]
@@ -46,13 +37,10 @@ pub enum Basis {
 }
 
 impl OfMap for Basis {
-    ghost use Rattle.std.specs.Prelude.{⊤};
     ghost use Rattle.jps_run.specs.Answerers.{IsBasisOn};
     ghost use Rattle.call_files.specs.Kinds.{extent_for};
 
     ghost extent_of = { λ set. extent_for set.pick };
-
-    ghost serves = { λ _. ⊤ };
 
     ghost is_of_map = { IsBasisOn };
 
@@ -60,18 +48,13 @@ impl OfMap for Basis {
         Extent::of(settings.pick)
     }
 
+    #[tactic(auto, using(crate::proofs::Loading::session_answers))]
     fn of_map(alloc: Global, map: MapText, settings: Settings) -> Result<Basis, NoMemory> {
         match settings.pick {
-            Pick::Plain | Pick::Jps | Pick::Block | Pick::Plus => {
-                Ok(Basis::Session(session_on(alloc, &map, settings)?))
-            }
-            Pick::Boxes => Ok(Basis::Small {
+            Pick::Session(_) => Ok(Basis::Session(session_on(alloc, &map, settings)?)),
+            Pick::Small(engine) => Ok(Basis::Small {
                 layers: Layers::of_map(alloc, map, settings)?,
-                engine: SmallEngine::Boxes,
-            }),
-            Pick::Moves => Ok(Basis::Small {
-                layers: Layers::of_map(alloc, map, settings)?,
-                engine: SmallEngine::Moves,
+                engine,
             }),
         }
     }

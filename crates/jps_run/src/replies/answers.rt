@@ -7,21 +7,43 @@ ghost use Rattle.line_work.specs.Sending.{SendsWhole};
 
 use crate::NoMemory;
 use crate::replies::lines::{put_edit_reply, put_reply};
+use crate::replies::session_on;
+use call_files::{Extent, OfMap};
 use edit_replay::Session;
 use grid_moves::Ground;
 use io_edge::Sink;
 use line_work::{Job, Stop, work_items};
+use map_text::MapText;
 use script_text::Command;
 use std::alloc::Global;
 use std::sync::ledger::Ledger;
 use steps::Steps;
-use word_list::Show;
+use word_list::{Settings, Show};
 
 /// A session that answers commands in order, and what its lines show.
 #[derive(Drop)]
 pub struct Answers {
     pub session: Session,
     pub show: Show,
+}
+
+impl OfMap for Answers {
+    ghost use Rattle.call_files.specs.Kinds.{extent_for};
+    ghost use Rattle.jps_run.specs.Answering.{AreAnswersOn};
+
+    ghost extent_of = { λ set. extent_for set.pick };
+
+    ghost is_of_map = { AreAnswersOn };
+
+    fn extent(settings: Settings) -> Extent {
+        Extent::of(settings.pick)
+    }
+
+    fn of_map(alloc: Global, map: MapText, settings: Settings) -> Result<Answers, NoMemory> {
+        let session = session_on(alloc, &map, settings)?;
+        let show = settings.show;
+        Ok(Answers { session, show })
+    }
 }
 
 impl Job for Answers {

@@ -33,12 +33,9 @@ pub struct Canvas {
 
 impl OfMap for Canvas {
     ghost use Rattle.jps_run.specs.Pictures.{IsCanvasOf};
-    ghost use Rattle.jps_run.specs.Session.{PicksSession};
     ghost use Rattle.call_files.specs.declared.kind.Extent.TheVariants.{Any};
 
     ghost extent_of = { λ _. Any };
-
-    ghost serves = { PicksSession };
 
     ghost is_of_map = { IsCanvasOf };
 

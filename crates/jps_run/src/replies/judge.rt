@@ -3,7 +3,7 @@
 ghost use Rattle.std.specs.Prelude.{◌≡◌, length, IfOk};
 ghost use Rattle.walk_judge.specs.Telling.{IsFit};
 ghost use Rattle.scen_maker.specs.Settling.{IsSettled};
-ghost use Rattle.jps_run.specs.Refereeing.{IsReady, IsRefereed};
+ghost use Rattle.jps_run.specs.Judging.{IsReady, IsJudged};
 ghost use Rattle.jps_run.specs.Rulings.{IsRuling};
 ghost use Rattle.line_work.specs.Sending.{SendsWhole};
 
@@ -29,7 +29,7 @@ pub struct Judge {
 
 impl Job for Judge {
     ghost use Rattle.std.specs.Prelude.{⊤, true};
-    ghost use Rattle.jps_run.specs.Refereeing.{CanGoOn, HasRefereed, IsRefereed};
+    ghost use Rattle.jps_run.specs.Judging.{CanGoOn, HasJudged, IsJudged};
 
     type Item = Entry;
 
@@ -37,11 +37,11 @@ impl Job for Judge {
 
     ghost has_room = { CanGoOn };
 
-    ghost has_worked = { HasRefereed };
+    ghost has_worked = { HasJudged };
 
     ghost closes = { true };
 
-    ghost is_whole = { IsRefereed };
+    ghost is_whole = { IsJudged };
 
     ghost has_counted = { λ _ _ _ _ _. ⊤ };
 
@@ -105,7 +105,7 @@ pub fn write_rulings<O: Sink, L: Ledger>(
     steps: &mut Steps<L>,
 ) -> Result<u8, Stop>
     requires ready { IsReady job (length entries.items) }
-    ensures { SendsWhole (IsRefereed job entries.items) (O.outflow out.old) (O.outflow out.new) result }
+    ensures { SendsWhole (IsJudged job entries.items) (O.outflow out.old) (O.outflow out.new) result }
 {
     work_items(alloc, &mut job, entries.as_slice(), out, steps)
 }

@@ -1,7 +1,7 @@
 //! The rows that judge told walks, and the line that sums them up.
 
 ghost use Rattle.std.specs.Prelude.{◌≡◌, ℕ, ◌<◌, ◌+◌, ◌^◌, ◌++◌, ◌∷◌, [], List, OnOk};
-ghost use Rattle.jps_run.specs.Refereeing.{IsCounts, counts_of, sum_text};
+ghost use Rattle.jps_run.specs.Judging.{IsCounts, counts_of, sum_text};
 ghost use Rattle.jps_run.specs.Rulings as spec;
 
 use crate::NoMemory;

@@ -5,7 +5,7 @@ ghost use Rattle.scen_text.specs.Lengths.{IsKept};
 ghost use Rattle.edit_replay.specs.Replies.{IsShort, answer_of};
 ghost use Rattle.jps_run.specs.Answerers.{CanAnswer, who_of};
 ghost use Rattle.jps_run.specs.Rising.{RoseForEntries, RoseForEntry};
-ghost use Rattle.jps_run.specs.Judging.{IsJudged};
+ghost use Rattle.jps_run.specs.ScenRows.{AreAllRows};
 ghost use Rattle.jps_run.specs.Rows as rows;
 ghost use Rattle.line_work.specs.Sending.{SendsWhole};
 ghost use Rattle.call_files.specs.Reading.{AreKept};
@@ -37,7 +37,7 @@ pub struct Scen {
 impl Job for Scen {
     ghost use Rattle.std.specs.Prelude.{true};
     ghost use Rattle.scen_text.specs.Lengths.{IsKept};
-    ghost use Rattle.jps_run.specs.Judging.{HasJudged, HasRoom, HaveCounted, IsJudged};
+    ghost use Rattle.jps_run.specs.ScenRows.{HasRows, HasRoom, HaveCounted, AreAllRows};
 
     type Item = Entry;
 
@@ -45,11 +45,11 @@ impl Job for Scen {
 
     ghost has_room = { HasRoom };
 
-    ghost has_worked = { HasJudged };
+    ghost has_worked = { HasRows };
 
     ghost closes = { true };
 
-    ghost is_whole = { IsJudged };
+    ghost is_whole = { AreAllRows };
 
     ghost has_counted = { HaveCounted };
 
@@ -117,7 +117,7 @@ fn row_of<L: Ledger>(
     Ok(row_of_reply(entry.length, &reply))
 }
 
-/// Judges the entries in order by a judge who has judged none yet, and sums their rows up.
+/// Judges the lengths of the entries in order, where none is judged yet, and sums their rows up.
 pub fn write_rows<O: Sink, L: Ledger>(
     alloc: Global,
     mut job: Scen,
@@ -128,7 +128,7 @@ pub fn write_rows<O: Sink, L: Ledger>(
     requires ready { CanAnswer job.answerer }
     requires new { job.tally ≡ tally_of [] }
     requires kept { AreKept entries.items }
-    ensures sent { SendsWhole (IsJudged job entries.items) (O.outflow out.old) (O.outflow out.new) result }
+    ensures sent { SendsWhole (AreAllRows job entries.items) (O.outflow out.old) (O.outflow out.new) result }
     ensures counted { OnOk result (RoseForEntries (who_of job.answerer) entries.items steps.old steps.new) }
 {
     work_items(alloc, &mut job, entries.as_slice(), out, steps)

@@ -4,23 +4,24 @@
 //! A table file is read behind the map and before all other files. Its text is given back as soon as it is
 //! judged, before the session's own memory is taken.
 
-ghost use Rattle.std.specs.Prelude.{◌≡◌, ◌++◌, ◌∷◌, [], true, ℕ, List, IfOk};
+ghost use Rattle.std.specs.Prelude.{◌≡◌, ◌∷◌, [], true, IfOk};
 ghost use Rattle.std.specs.Option.{option_copied};
 ghost use Rattle.io_edge.specs.Causes.{NoneFell};
 ghost use Rattle.map_text.specs.Faults.{plain};
 ghost use Rattle.word_list.specs.Settings as words;
-ghost use Rattle.jps_run.specs.Answerers.{HasSession, IsBasisOn, who_from};
+ghost use Rattle.jps_run.specs.Answerers.{IsBasisOn};
+ghost use Rattle.jps_run.specs.Answering.{AreAnswersOn};
 ghost use Rattle.call_files.specs.MapFiles.{map_files};
 ghost use Rattle.call_files.specs.Files.{file_of};
-ghost use Rattle.call_files.specs.Reading.{AreMapTables, IsMadeAnd, IsMadeOf, open_stops};
+ghost use Rattle.call_files.specs.Reading.{AreMapTables, IsMadeOf, open_stops};
 ghost use Rattle.jps_run.specs.Session as spec;
 ghost use Rattle.line_work.specs.Stops.{Ends};
-ghost use Rattle.jps_run.specs.Who.{who_is};
 ghost use Rattle.call_files.specs.declared.kind.Kind.TheVariants as kinds;
 
 use crate::NoMemory;
 use crate::replies::answerer::Basis;
-use call_files::{Extent, MapTables, Text, open_one, read_file, read_tables};
+use crate::replies::answers::Answers;
+use call_files::{Extent, MapTables, open_one, read_file, read_tables};
 use edit_replay::Session;
 use io_edge::Files;
 use line_work::Stop;
@@ -29,6 +30,7 @@ use std::alloc::Global;
 use word_list::Settings;
 
 // The session on a map with tables of it, where the settings pick the engine for them.
+#[tactic(auto, using(crate::proofs::Loading::by_tables))]
 fn session_with(
     alloc: Global,
     map: &MapText,
@@ -51,7 +53,7 @@ fn open_loaded<F: Files>(
     name: &str,
     settings: Settings,
 ) -> Result<Session, Stop>
-    requires plus { words.has_tables settings.pick ≡ true }
+    requires { words.has_tables settings.pick ≡ true }
     ensures read { Ends (IsMadeOf (spec.IsSessionOn settings) (F.disk files.old).holds
         (file_of kinds.Map map.now ∷ file_of (kinds.Tables settings.rule) name.now ∷ []))
         (open_stops (F.disk files.old) (F.disk files.new)
@@ -67,6 +69,7 @@ fn open_loaded<F: Files>(
 
 /// What a call begins with, made of the map of the first file, for a call with this file and, where one is
 /// named, with a table file behind it.
+#[tactic(auto, using(crate::proofs::Loading::session_answers, crate::proofs::Loading::large_tables))]
 pub fn open_basis<F: Files>(
     alloc: Global,
     files: &mut F,
@@ -74,7 +77,7 @@ pub fn open_basis<F: Files>(
     tables: Option<&str>,
     settings: Settings,
 ) -> Result<Basis, Stop>
-    requires loads { words.can_load (option_copied tables) settings ≡ true }
+    requires { words.can_load (option_copied tables) settings ≡ true }
     ensures read { Ends (IsMadeOf (IsBasisOn settings) (F.disk files.old).holds
         (map_files settings map.now (option_copied tables.entry)))
         (open_stops (F.disk files.old) (F.disk files.new)
@@ -91,37 +94,28 @@ pub fn open_basis<F: Files>(
     }
 }
 
-/// The same, and what the last file is read as, for a call with these files and this one. The last one is
-/// read only where those before it are accepted; `context` says what it is judged by.
-pub fn open_basis_and<F: Files, T: Text>(
+/// The same where a session answers, for a call that gives it commands.
+pub fn open_answers<F: Files>(
     alloc: Global,
     files: &mut F,
     map: &str,
     tables: Option<&str>,
     settings: Settings,
-    last: &str,
-    context: &T::Context,
-) -> Result<(Basis, T), Stop>
-    requires loads { words.can_load (option_copied tables) settings ≡ true }
-    requires behind { (earlier : List (List ℕ)) → T.is_behind context.now earlier }
-    ensures read { Ends (IsMadeAnd (IsBasisOn settings) (T.spells context.now) (F.disk files.old).holds
-        (map_files settings map.now (option_copied tables.entry)) (file_of (T.kind_of_text context.now) last.now))
-        (open_stops (F.disk files.old) (F.disk files.new) (map_files settings map.now (option_copied tables.entry)
-        ++ file_of (T.kind_of_text context.now) last.now ∷ [])) result }
+) -> Result<Answers, Stop>
+    requires { words.can_load (option_copied tables) settings ≡ true }
+    ensures read { Ends (IsMadeOf (AreAnswersOn settings) (F.disk files.old).holds
+        (map_files settings map.now (option_copied tables.entry)))
+        (open_stops (F.disk files.old) (F.disk files.new)
+        (map_files settings map.now (option_copied tables.entry))) result }
     ensures unchanged { (F.disk files.new).holds ≡ (F.disk files.old).holds }
+    ensures later { NoneFell (F.disk files.old).faults (F.disk files.new).faults }
 {
-    let basis = open_basis(alloc, files, map, tables, settings)?;
-    let text: T = read_file(alloc, files, last, context)?;
-    Ok((basis, text))
-}
-
-/// The session that was made, where no engine of small maps is picked.
-pub fn session_of(basis: Basis) -> Session
-    requires { HasSession basis }
-    ensures { who_is result ≡ who_from basis }
-{
-    match basis {
-        Basis::Session(session) => session,
-        Basis::Small { .. } => unreachable!(),
+    match tables {
+        None => open_one(alloc, files, map, settings),
+        Some(name) => {
+            let session = open_loaded(alloc, files, map, name, settings)?;
+            let show = settings.show;
+            Ok(Answers { session, show })
+        }
     }
 }

@@ -5,11 +5,9 @@ ghost use Rattle.edit_replay.specs.Replies.{IsRightOn};
 ghost use Rattle.first_moves.specs.Row.{AreMoves};
 ghost use Rattle.goal_boxes.specs.Stored.{HoldsBoxes};
 ghost use Rattle.grid_moves.specs.Grid.{is_free};
-ghost use Rattle.jps_run.specs.Answerers.{by_small};
-ghost use Rattle.jps_run.specs.Who.{IsBoxedReply, IsLedReply, IsReplyBy, IsReplyOn};
+ghost use Rattle.jps_run.specs.Who.{IsBoxedReply, IsLedReply, IsReplyBy, IsReplyOn, by_small};
 
 use crate::NoMemory;
-use crate::replies::answerer::SmallEngine;
 use cell_lines::Ends;
 use edit_replay::Reply;
 use first_moves::{Moves, follow_by_pass};
@@ -20,6 +18,7 @@ use std::alloc::Global;
 use std::marker::Brand;
 use std::sync::ledger::{Blank, Ledger};
 use steps::Steps;
+use word_list::SmallEngine;
 
 /// The reply of the boxed run between free cells of a grid, by its boxes.
 #[tactic(auto, using(edit_replay::proofs::Answering::found_right))]

@@ -21,7 +21,7 @@ returns-in_err-text-clause-read g c =
     reading-stops disk _ second (next-file disk.holds (first ∷ []) second [] (r.text ∷ []) (r.accepted, tt))
     (g.F.Files.disk c.read_map_file.new.files) (g.F.Files.disk c.read_file.new.files)
     c.in_ok-made.ensures.unchanged c.in_ok-made.ensures.later _ c.from_residual-in_err-text.result
-    c.in_err-text.field-0.0 (c.in_err-text.ensures.read (r.text ∷ []) (c.requires.behind r.text))
+    c.in_err-text.field-0.0 (c.in_err-text.ensures.read (r.text ∷ []) (c.requires r.text))
     c.from_residual-in_err-text.ensures.1
 
 pub returns-clause-read : goal.returns-clause-read
@@ -30,7 +30,7 @@ returns-clause-read g c =
     let first = file_of (kind_for (g.M.OfMap.extent_of c.args.settings)) c.args.map.now in
     let second = file_of (g.T.Text.kind_of_text c.args.context.now) c.args.second.now in
     let r = c.in_ok-made.ensures.read [] tt in
-    let s = c.in_ok-text.ensures.read (r.text ∷ []) (c.requires.behind r.text) in
+    let s = c.in_ok-text.ensures.read (r.text ∷ []) (c.requires r.text) in
     record {
       text = r.text;
       more = s.text;

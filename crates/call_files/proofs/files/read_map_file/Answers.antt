@@ -9,11 +9,9 @@ use Rattle.line_work.proofs.Stopping.{passed, follow-same}
 use Rattle.call_files.proofs.files.read_map_file.Goals as goal
 
 pub of_map-requires : goal.of_map-requires
-of_map-requires g c = record {
-  serves = c.requires;
-  taken = subst (λ (e : Extent). takes e (plain c.in_ok-map.map) ≡ true) c.extent-extent.ensures
-      (c.in_ok-map.ensures.read [] tt).spelled.1;
-}
+of_map-requires g c =
+    subst (λ (e : Extent). takes e (plain c.in_ok-map.map) ≡ true) c.extent-extent.ensures
+    (c.in_ok-map.ensures.read [] tt).spelled.1
 
 pub returns-in_err-map-clause-read : goal.returns-in_err-map-clause-read
 returns-in_err-map-clause-read g c = λ earlier behind.

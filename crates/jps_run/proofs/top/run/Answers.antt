@@ -1,12 +1,7 @@
 use Rattle.std.specs.Prelude.{map, string_bytes}
 use Rattle.word_list.specs.Request.{called}
-use Rattle.word_list.proofs.Serving.{served}
 use Rattle.jps_run.proofs.Ended.{word-comes, call-comes, text-comes, read-comes, part-comes, memory-comes}
 use Rattle.jps_run.proofs.top.run.Goals as goal
-
-pub serve-requires-clause-served : goal.serve-requires-clause-served
-serve-requires-clause-served g c =
-    served (map string_bytes c.args.words.now) (called c.in-Ok.call.0 c.in-Ok.call.1) c.in-Ok.ensures.found
 
 pub returns-in-Err-clause-outcome : goal.returns-in-Err-clause-outcome
 returns-in-Err-clause-outcome g c =

@@ -1,7 +1,7 @@
 use Rattle.std.proofs.Common.{subst}
 use Rattle.word_list.specs.Request.{called}
 use Rattle.jps_run.specs.Opened.{IsOpenedAs}
-use Rattle.jps_run.specs.declared.top.Opened.{Opened}
+use Rattle.jps_run.specs.declared.commands.Opened.{Opened}
 use Rattle.jps_run.specs.Heard.{RoseHeard}
 use Rattle.jps_run.specs.Counting.{heard}
 use Rattle.jps_run.proofs.Rising.{on_ok}

@@ -6,5 +6,5 @@ pub returns : goal.returns
 returns c = record {
   layers = c.in_ok-layers.ensures;
   few = small-layers c.args.settings (plain c.args.map) c.in_ok-layers.layers c.in_ok-layers.ensures
-      c.requires.taken;
+      c.requires;
 }

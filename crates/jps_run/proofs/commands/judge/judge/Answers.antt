@@ -2,7 +2,7 @@ use Rattle.std.proofs.Common.{◌≤◌, refl, sym, subst, inl, [], ◌∷◌, a
 use Rattle.grid_moves.specs.Layers.{Layers}
 use Rattle.jps_run.specs.Calls.{IsAnswer}
 use Rattle.jps_run.specs.Rulings.{AreRulings}
-use Rattle.jps_run.proofs.Refereed.{small_judge_status}
+use Rattle.jps_run.proofs.Judged.{small_judge_status}
 use Rattle.jps_run.proofs.commands.judge.judge.Goals as goal
 
 pub returns-clause-opened : goal.returns-clause-opened

@@ -1,6 +1,6 @@
 use Rattle.std.proofs.Common.{ap, ◌∙◌}
 use Rattle.grid_moves.specs.Grid.{GridData}
-use Rattle.jps_run.specs.Answerers.{by_small}
+use Rattle.jps_run.specs.Who.{by_small}
 use Rattle.jps_run.proofs.Querying.{small_fewest, small_most, told-work}
 use Rattle.jps_run.proofs.Unfolding.{replied_unfolds}
 use Rattle.jps_run.proofs.commands.query_work.by_small.Goals as goal

@@ -1,4 +1,12 @@
-use Rattle.std.proofs.Common.{◌≡◌, ◌∙◌, ◌≤◌, sym, subst, inr, [], ◌∷◌, ◌++◌}
+use Rattle.std.proofs.Common.{◌≡◌, ◌∙◌, ◌≤◌, sym, subst, inr, ℕ, List, [], ◌∷◌, ◌++◌}
+use Rattle.std.specs.Option.{option_copied}
+use Rattle.io_edge.specs.Told.{Held}
+use Rattle.call_files.proofs.Opening.{accepted-more, next-file, reading-stops, stops-longer}
+use Rattle.call_files.specs.Files.{IsAccepted, file_of}
+use Rattle.call_files.specs.MapFiles.{map_files}
+use Rattle.call_files.specs.Reading.{open_stops}
+use Rattle.call_files.specs.declared.kind.Kind.TheVariants as kinds
+use Rattle.line_work.proofs.Stopping.{passed}
 use Rattle.jps_run.specs.Calls.{HasSearched, IsAnswer}
 use Rattle.jps_run.specs.Answerers.{who_of}
 use Rattle.jps_run.specs.Rising.{RoseForEntries}
@@ -9,23 +17,52 @@ use Rattle.jps_run.proofs.Opening.{on-last}
 use Rattle.jps_run.proofs.Tallies.{small_status}
 use Rattle.jps_run.proofs.commands.scen.scen.Goals as goal
 
+pub returns-in_err-basis-clause-opened : goal.returns-in_err-basis-clause-opened
+returns-in_err-basis-clause-opened g c =
+    let disk = g.F.Files.disk c.args.files.now in
+    let now = g.F.Files.disk c.open_basis.new.files in
+    let files = map_files c.args.settings c.args.map.now (option_copied c.args.tables) in
+    let last = file_of kinds.Scen c.args.name.now in
+    passed _ (open_stops disk now files) (open_stops disk now (files ++ last ∷ [])) c.from_residual.result
+    c.in_err-basis.field-0.0 c.from_residual.ensures.1 c.in_err-basis.ensures.read
+    (stops-longer disk now files (last ∷ []))
+
+pub returns-in_err-entries-clause-opened : goal.returns-in_err-entries-clause-opened
+returns-in_err-entries-clause-opened g c =
+    let disk = g.F.Files.disk c.args.files.now in
+    let files = map_files c.args.settings c.args.map.now (option_copied c.args.tables) in
+    let last = file_of kinds.Scen c.args.name.now in
+    let made = c.in_ok-basis.ensures in
+    let texts : List (List ℕ) = made.read.text ∷ made.read.loaded in
+    reading-stops disk _ last (next-file disk.holds files last [] texts made.read.accepted)
+    (g.F.Files.disk c.open_basis.new.files) (g.F.Files.disk c.read_file.new.files) made.unchanged made.later _
+    c.from_residual-in_err-entries.result c.in_err-entries.field-0.0
+    (c.in_err-entries.ensures.read texts tt) c.from_residual-in_err-entries.ensures.1
+
 pub returns-clause-opened : goal.returns-clause-opened
 unfolding IsAnswer HasSearched
 returns-clause-opened g c =
-    let r = c.in_ok-both.ensures.read in
+    let files = map_files c.args.settings c.args.map.now (option_copied c.args.tables) in
+    let last = file_of kinds.Scen c.args.name.now in
+    let made = c.in_ok-basis.ensures in
+    let r = made.read in
+    let texts : List (List ℕ) = r.text ∷ r.loaded in
+    let s = c.in_ok-entries.ensures.read texts tt in
     let answerer = c.in_ok-answerer.answerer in
     let is : who_of answerer ≡ who_on c.args.settings r.is.map = c.in_ok-answerer.ensures.who ∙ r.is.is.0 in
-    let entries = c.in_ok-both.both.1.items in
+    let entries = c.in_ok-entries.entries.items in
     record {
-      texts = r.text ∷ (r.loaded ++ r.more ∷ []);
-      accepted = r.accepted;
+      texts = r.text ∷ (r.loaded ++ s.text ∷ []);
+      accepted = accepted-more (g.F.Files.disk c.args.files.now).holds [] files texts last s.text r.accepted
+          (subst (λ (k : List ℕ → Held). IsAccepted texts last.kind (k last.name) s.text) made.unchanged
+          s.accepted);
       is = record {
-        can = (c.in_ok-answerer.ensures.ready, r.spelled_more.1, c.new-2.ensures);
+        can = (c.in_ok-answerer.ensures.ready, s.spelled.1, c.new-2.ensures);
         right = λ lines status w. (
           subst (λ n. n ≤ 1) (sym w.same_status) (small_status w.rows),
-          on-last r.text r.is.map r.is.spelled r.loaded r.more (record {
+          on-last r.text r.is.map r.is.spelled r.loaded s.text (record {
             value = entries;
-            is = r.spelled_more.0;
+            is = s.spelled.0;
             known = record {
               from = w.rows;
               all = w.all;
@@ -34,9 +71,9 @@ returns-clause-opened g c =
             };
           }),
         );
-        counted = λ old new rose. inr (on-last r.text r.is.map r.is.spelled r.loaded r.more (record {
+        counted = λ old new rose. inr (on-last r.text r.is.map r.is.spelled r.loaded s.text (record {
           value = entries;
-          is = r.spelled_more.0;
+          is = s.spelled.0;
           known = subst (λ (by : Who). RoseForEntries by entries old new) is rose;
         }));
       };

@@ -1,42 +1,78 @@
-use Rattle.std.proofs.Common.{◌≡◌, ◌∙◌, inr, [], ◌∷◌, ◌++◌, arith}
+use Rattle.std.proofs.Common.{◌≡◌, inr, subst, ℕ, List, [], ◌∷◌, ◌++◌, arith}
+use Rattle.std.specs.Option.{option_copied}
+use Rattle.io_edge.specs.Told.{Held}
+use Rattle.call_files.proofs.Opening.{accepted-more, next-file, reading-stops, stops-longer}
+use Rattle.call_files.specs.Files.{IsAccepted, file_of}
+use Rattle.call_files.specs.MapFiles.{map_files}
+use Rattle.call_files.specs.Reading.{open_stops}
+use Rattle.call_files.specs.declared.kind.Kind.TheVariants as kinds
+use Rattle.line_work.proofs.Stopping.{passed}
+use Rattle.word_list.specs.declared.request.Show.{Show}
+use Rattle.jps_run.specs.Answers.{AreAnswers}
 use Rattle.jps_run.specs.Calls.{HasSearched, IsAnswer}
-use Rattle.jps_run.specs.Session.{IsSessionOn}
-use Rattle.jps_run.proofs.Loading.{session-made}
 use Rattle.jps_run.proofs.Opening.{on-last}
 use Rattle.jps_run.proofs.commands.solve.solve.Goals as goal
 
-pub session_of-requires : goal.session_of-requires
-session_of-requires g c =
-    let r = c.in_ok-both.ensures.read in
-    session-made c.args.settings r.is.map c.in_ok-both.both.0 c.requires.session r.is.is
+pub returns-in_err-job-clause-opened : goal.returns-in_err-job-clause-opened
+returns-in_err-job-clause-opened g c =
+    let disk = g.F.Files.disk c.args.files.now in
+    let now = g.F.Files.disk c.open_answers.new.files in
+    let files = map_files c.args.settings c.args.map.now (option_copied c.args.tables) in
+    let last = file_of kinds.Script c.args.script.now in
+    passed _ (open_stops disk now files) (open_stops disk now (files ++ last ∷ [])) c.from_residual.result
+    c.in_err-job.field-0.0 c.from_residual.ensures.1 c.in_err-job.ensures.read
+    (stops-longer disk now files (last ∷ []))
+
+pub returns-in_err-commands-clause-opened : goal.returns-in_err-commands-clause-opened
+returns-in_err-commands-clause-opened g c =
+    let disk = g.F.Files.disk c.args.files.now in
+    let files = map_files c.args.settings c.args.map.now (option_copied c.args.tables) in
+    let last = file_of kinds.Script c.args.script.now in
+    let made = c.in_ok-job.ensures in
+    let texts : List (List ℕ) = made.read.text ∷ made.read.loaded in
+    reading-stops disk _ last (next-file disk.holds files last [] texts made.read.accepted)
+    (g.F.Files.disk c.open_answers.new.files) (g.F.Files.disk c.read_file.new.files) made.unchanged made.later _
+    c.from_residual-in_err-commands.result c.in_err-commands.field-0.0
+    (c.in_err-commands.ensures.read texts tt) c.from_residual-in_err-commands.ensures.1
 
 pub returns-clause-opened : goal.returns-clause-opened
 unfolding IsAnswer HasSearched
 returns-clause-opened g c =
-    let r = c.in_ok-both.ensures.read in
-    let session = c.session_of.result in
-    let on : IsSessionOn c.args.settings r.is.map session = c.session_of.ensures ∙ r.is.is.0 in
-    let commands = c.in_ok-both.both.1.items in
+    let files = map_files c.args.settings c.args.map.now (option_copied c.args.tables) in
+    let last = file_of kinds.Script c.args.script.now in
+    let made = c.in_ok-job.ensures in
+    let r = made.read in
+    let texts : List (List ℕ) = r.text ∷ r.loaded in
+    let s = c.in_ok-commands.ensures.read texts tt in
+    let job = c.in_ok-job.job in
+    let commands = c.in_ok-commands.commands.items in
     record {
-      texts = r.text ∷ (r.loaded ++ r.more ∷ []);
-      accepted = r.accepted;
+      texts = r.text ∷ (r.loaded ++ s.text ∷ []);
+      accepted = accepted-more (g.F.Files.disk c.args.files.now).holds [] files texts last s.text r.accepted
+          (subst (λ (k : List ℕ → Held). IsAccepted texts last.kind (k last.name) s.text) made.unchanged
+          s.accepted);
       is = record {
         can = tt;
         right = λ lines status w. (
           (let good : status ≡ 0 = w.good in omega arith),
           (
-            on-last r.text r.is.map r.is.spelled r.loaded r.more (record {
+            on-last r.text r.is.map r.is.spelled r.loaded s.text (record {
               value = commands;
-              is = r.spelled_more;
-              known = record { session = session; is = on; known = w.answers };
+              is = s.spelled;
+              known = record {
+                session = job.session;
+                is = r.is.is.session;
+                known = subst (λ (show : Show). AreAnswers job.session show commands lines) r.is.is.show
+                    w.answers;
+              };
             }),
             w.good,
           ),
         );
-        counted = λ old new rose. inr (on-last r.text r.is.map r.is.spelled r.loaded r.more (record {
+        counted = λ old new rose. inr (on-last r.text r.is.map r.is.spelled r.loaded s.text (record {
           value = commands;
-          is = r.spelled_more;
-          known = record { session = session; is = on; known = rose };
+          is = s.spelled;
+          known = record { session = job.session; is = r.is.is.session; known = rose };
         }));
       };
     }

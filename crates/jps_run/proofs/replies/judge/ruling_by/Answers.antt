@@ -1,7 +1,7 @@
 use Rattle.std.proofs.Common.{sym, subst}
 use Rattle.grid_moves.specs.Grid.{GridData}
 use Rattle.plain_search.specs.Costs.{IsCostTo}
-use Rattle.jps_run.proofs.Refereed.{ruled-searched, searched-so}
+use Rattle.jps_run.proofs.Judged.{ruled-searched, searched-so}
 use Rattle.jps_run.proofs.replies.judge.ruling_by.Goals as goal
 
 pub judge_told-requires : goal.judge_told-requires

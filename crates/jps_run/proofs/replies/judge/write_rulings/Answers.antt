@@ -1,4 +1,4 @@
-use Rattle.jps_run.proofs.Refereed.{rulings-complete}
+use Rattle.jps_run.proofs.Judged.{rulings-complete}
 use Rattle.jps_run.proofs.replies.judge.write_rulings.Goals as goal
 
 pub work_items-requires-clause-completes : goal.work_items-requires-clause-completes

@@ -4,7 +4,7 @@ use Rattle.scen_text.specs.declared.entry.Entry.{Entry}
 use Rattle.jps_run.specs.Rising.{RoseForEntries}
 use Rattle.jps_run.specs.Answerers.{who_of}
 use Rattle.jps_run.proofs.Rising.{on_ok}
-use Rattle.jps_run.proofs.Judgements.{new-room, rows-complete}
+use Rattle.jps_run.proofs.ScenRows.{new-room, rows-complete}
 use Rattle.jps_run.proofs.replies.scenario.write_rows.Goals as goal
 
 pub work_items-requires-clause-room : goal.work_items-requires-clause-room

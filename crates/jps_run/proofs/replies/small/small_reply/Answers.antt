@@ -1,4 +1,4 @@
-use Rattle.jps_run.specs.Answerers.{by_small}
+use Rattle.jps_run.specs.Who.{by_small}
 use Rattle.jps_run.proofs.Replying.{goal-free, result-on-map, unsearched-small}
 use Rattle.jps_run.proofs.replies.small.small_reply.Goals as goal
 

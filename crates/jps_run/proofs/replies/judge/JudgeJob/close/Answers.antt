@@ -1,7 +1,7 @@
-use Rattle.jps_run.proofs.Refereed.{refereed-all}
+use Rattle.jps_run.proofs.Judged.{judged-all}
 use Rattle.jps_run.proofs.replies.judge.JudgeJob.close.Goals as goal
 
 pub returns-clause-closed : goal.returns-clause-closed
 returns-clause-closed c =
-    refereed-all c.args.self.now c.status.result c.args.lines.now.items c.put.new.out.items
+    judged-all c.args.self.now c.status.result c.args.lines.now.items c.put.new.out.items
     c.in_ok-put.ensures c.status.ensures

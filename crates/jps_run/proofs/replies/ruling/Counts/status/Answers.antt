@@ -1,4 +1,4 @@
-use Rattle.jps_run.proofs.Refereed.{status_none, status_some}
+use Rattle.jps_run.proofs.Judged.{status_none, status_some}
 use Rattle.jps_run.proofs.replies.ruling.Counts.status.Goals as goal
 
 pub returns-then-self-eq0 : goal.returns-then-self-eq0

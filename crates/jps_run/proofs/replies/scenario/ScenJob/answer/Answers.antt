@@ -1,6 +1,6 @@
 use Rattle.std.proofs.Common.{refl, ◌+◌, ◌<◌, ◌^◌, arith}
-use Rattle.jps_run.proofs.Rising.{judged-entry}
-use Rattle.jps_run.proofs.Judgements.{judged-more, room-more}
+use Rattle.jps_run.proofs.Rising.{counted-entry}
+use Rattle.jps_run.proofs.ScenRows.{rows-more, room-more}
 use Rattle.jps_run.proofs.replies.scenario.ScenJob.answer.Goals as goal
 
 pub count-requires : goal.count-requires
@@ -16,7 +16,7 @@ row_of-requires-clause-ready g c = c.requires.room.1.ready
 
 pub returns-clause-worked : goal.returns-clause-worked
 returns-clause-worked g c =
-    judged-more c.put_row.result c.args.self.now
+    rows-more c.put_row.result c.args.self.now
     (record { answerer = c.row_of.new.answerer; show = c.args.self.now.show; tally = c.count.new.self })
     c.args.item c.in_ok-row.row c.args.lines.now.items c.put_row.new.out.items c.in_ok-row.ensures.row
     c.row_of.ensures.same refl c.count.ensures.counted c.put_row.ensures
@@ -29,6 +29,6 @@ returns-clause-room g c =
 
 pub returns-clause-counted : goal.returns-clause-counted
 returns-clause-counted g c =
-    judged-entry c.put_row.result c.args.self.now
+    counted-entry c.put_row.result c.args.self.now
     (record { answerer = c.row_of.new.answerer; show = c.args.self.now.show; tally = c.count.new.self })
     c.args.item c.args.steps.now c.row_of.new.steps c.row_of.ensures.same c.in_ok-row.ensures.counted

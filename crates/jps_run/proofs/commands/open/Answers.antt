@@ -6,7 +6,7 @@ use Rattle.jps_run.specs.Calls.{IsAnswer, call_with}
 use Rattle.jps_run.specs.Texts.{help_text, version_text}
 use Rattle.jps_run.specs.declared.work.Work.TheVariants as work
 use Rattle.jps_run.proofs.Opening.{says-of}
-use Rattle.jps_run.proofs.commands.open_work.Goals as goal
+use Rattle.jps_run.proofs.commands.open.Goals as goal
 
 pub returns-in-Help-clause-opened : goal.returns-in-Help-clause-opened
 unfolding IsAnswer

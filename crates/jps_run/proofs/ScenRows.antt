@@ -5,7 +5,7 @@ use Rattle.std.specs.Prelude.{◌≢◌, Result, Ok, Err, OnOk}
 use Rattle.std.proofs.lemmas.List.{append-nil}
 use Rattle.scen_text.specs.declared.entry.Entry.{Entry}
 use Rattle.jps_run.specs.Answerers.{CanAnswer, who_of}
-use Rattle.jps_run.specs.Judging.{HasJudged, HasRoom, IsJudged}
+use Rattle.jps_run.specs.ScenRows.{HasRows, HasRoom, AreAllRows}
 use Rattle.jps_run.specs.Rows.{has_sides, row_of, IsRow, scale, replied, row_line, row_lines, scen_status}
 use Rattle.jps_run.specs.Rows.{sum_line}
 use Rattle.word_list.specs.declared.request.Show.{Show}
@@ -70,16 +70,16 @@ room-more (Ok done) job now r room counts small same = λ n h.
     }
 
 -- one entry more has its row
-pub judged-more : {T E : Type 0} (result : Result T E) (job now : Scen) (entry : Entry) (r : Row)
+pub rows-more : {T E : Type 0} (result : Result T E) (job now : Scen) (entry : Entry) (r : Row)
     (before after : List ℕ) → IsRow (who_of job.answerer) entry r → now.answerer ≡ job.answerer
     → now.show ≡ job.show
     → ((rows : List Row) → job.tally ≡ tally_of rows → now.tally ≡ tally_of (rows ++ r ∷ []))
     → OnOk result (after ≡ before ++ row_line job.show now.tally.rows r)
     → OnOk result ((first : Scen) (entries : List Entry) (lines : List (List ℕ))
-    → HasJudged first job entries lines
-    → Adds (HasJudged first now (entries ++ entry ∷ [])) lines before after)
-judged-more (Err error) job now entry r before after is same shown counts w = tt
-judged-more (Ok done) job now entry r before after is same shown counts w = λ first entries lines h.
+    → HasRows first job entries lines
+    → Adds (HasRows first now (entries ++ entry ∷ [])) lines before after)
+rows-more (Err error) job now entry r before after is same shown counts w = tt
+rows-more (Ok done) job now entry r before after is same shown counts w = λ first entries lines h.
     let line : Show → ℕ → List ℕ = λ show k. row_line show k r in
     let one : now.tally.rows ≡ length (h.rows ++ r ∷ []) =
     ap (λ (t : Tally). t.rows) (counts h.rows h.counted) in
@@ -104,12 +104,12 @@ judged-more (Ok done) job now entry r before after is same shown counts w = λ f
     }
 
 -- the sum closes the rows
-pub judged-all : (job : Scen) (status : ℕ) (before after : List ℕ)
+pub rows-all : (job : Scen) (status : ℕ) (before after : List ℕ)
     → after ≡ before ++ sum_text job.show job.tally
     → ((rows : List Row) → job.tally ≡ tally_of rows → status ≡ scen_status rows)
-    → (first : Scen) (entries : List Entry) (lines : List (List ℕ)) → HasJudged first job entries lines
-    → Adds (λ all. IsJudged first entries all status) lines before after
-judged-all job status before after w s first entries lines h = record {
+    → (first : Scen) (entries : List Entry) (lines : List (List ℕ)) → HasRows first job entries lines
+    → Adds (λ all. AreAllRows first entries all status) lines before after
+rows-all job status before after w s first entries lines h = record {
   more = sum_line first.show h.rows ∷ [];
   stand = record {
     rows = h.rows;
@@ -139,7 +139,7 @@ not-empty [] line = λ e. (let never : line ∷ [] ≡ [] = e in cc)
 not-empty (l ∷ lines) line = λ e. (let never : l ∷ (lines ++ line ∷ []) ≡ [] = e in cc)
 
 -- so the first rows can be completed
-pub rows-complete : CanComplete HasJudged IsJudged true
+pub rows-complete : CanComplete HasRows AreAllRows true
 rows-complete first now some others lines h =
     let all = turns-all (Stands (who_of first.answerer)) stays (row_exists first.answerer h.ready) tt some
     others h.rows
@@ -162,6 +162,6 @@ rows-complete first now some others lines h =
     }
 
 -- nothing is judged yet
-pub judged-none : (job : Scen) → CanAnswer job.answerer → job.tally ≡ tally_of [] → HasJudged job job [] []
-judged-none job ready e =
+pub rows-none : (job : Scen) → CanAnswer job.answerer → job.tally ≡ tally_of [] → HasRows job job [] []
+rows-none job ready e =
     record { rows = []; ready = ready; are = tt; all = refl; counted = e; same = refl; shown = refl }

@@ -6,7 +6,8 @@ use Rattle.std.specs.List.{fold, list_all}
 use Rattle.std.proofs.lemmas.Bool.{and_parts, or_parts}
 use Rattle.std.proofs.lemmas.Bool.Decides.{nat_tests}
 use Rattle.word_list.specs.declared.request.Pick.{Pick}
-use Rattle.word_list.specs.declared.request.Pick.TheVariants.{Boxes, Moves}
+use Rattle.word_list.specs.declared.request.Pick.TheVariants.{Small}
+use Rattle.word_list.specs.declared.request.SmallEngine.TheVariants.{Boxes, Moves}
 use Rattle.word_list.specs.declared.request.Settings.{Settings}
 use Rattle.word_list.specs.declared.rows.Command.{Command}
 use Rattle.word_list.specs.declared.rows.Command.TheVariants as command
@@ -14,10 +15,10 @@ use Rattle.word_list.specs.declared.rows.Kind.{Kind}
 use Rattle.word_list.specs.declared.settings.Family.{Family}
 use Rattle.word_list.specs.declared.settings.Setting.{Setting}
 use Rattle.word_list.specs.declared.settings.Setting.TheVariants as setting
-use Rattle.word_list.specs.Calls.{fits, call_of}
+use Rattle.word_list.specs.Calls.{fits}
 use Rattle.word_list.specs.Kinds.{is_of}
 use Rattle.word_list.specs.Request.{Call, Named, Row, asked_by, row_in, row_of, rows}
-use Rattle.word_list.specs.Serving.{IsServed, takes_small_maps}
+use Rattle.outcome_laws.specs.Serving.{IsServed, SmallEnginesServeTwo, takes_small_maps}
 use Rattle.word_list.specs.Settings.{setting_of, is_for_small_maps, is_allowed, may_follow, all_follow}
 use Rattle.word_list.specs.Settings.{are_settings, settings_with, tables_of, default_settings}
 
@@ -26,8 +27,8 @@ abbrev BarSmall : List Family → Type 0
 BarSmall allows = (pick : Pick) → is_allowed allows (Some (setting.Engine pick)) ≡ true
     → is_for_small_maps pick ≡ false
 
-bars : (allows : List Family) → is_allowed allows (Some (setting.Engine Boxes)) ≡ false
-    → is_allowed allows (Some (setting.Engine Moves)) ≡ false → BarSmall allows
+bars : (allows : List Family) → is_allowed allows (Some (setting.Engine (Small Boxes))) ≡ false
+    → is_allowed allows (Some (setting.Engine (Small Moves))) ≡ false → BarSmall allows
 bars allows h i = grind (arith, nat_tests)
 
 module _ (allows : List Family) (bar : BarSmall allows) where
@@ -70,8 +71,8 @@ same_takes other words tables = refl
 
 -- so each row of the table does, by computing
 allows_small : Row → Bool
-allows_small row = is_allowed row.allows (Some (setting.Engine Boxes))
-    || is_allowed row.allows (Some (setting.Engine Moves))
+allows_small row = is_allowed row.allows (Some (setting.Engine (Small Boxes)))
+    || is_allowed row.allows (Some (setting.Engine (Small Moves)))
 
 may_allow : Named → Bool
 may_allow one = not (allows_small one.row) || takes_small_maps (asked_by one.row.command [] None)
@@ -81,8 +82,8 @@ unfolding may_allow allows_small
 serving one may = record {
   bar = λ words tables no.
       let is = same_takes one.row.command words tables in
-      let barred = or_parts (is_allowed one.row.allows (Some (setting.Engine Boxes)))
-      (is_allowed one.row.allows (Some (setting.Engine Moves)))
+      let barred = or_parts (is_allowed one.row.allows (Some (setting.Engine (Small Boxes))))
+      (is_allowed one.row.allows (Some (setting.Engine (Small Moves))))
       (not_small (allows_small one.row) (takes_small_maps (asked_by one.row.command [] None)) may
       (sym is ∙ no)) in
       bars one.row.allows barred.0 barred.1;
@@ -113,8 +114,7 @@ same_call : (one other : Call) → Some one ≡ Some other → one ≡ other
 same_call one other e = ap (λ (o : Option Call). unwrap_or o one) e
 
 -- so the engine of a call may serve what it asks for
-pub served : (words : List (List ℕ)) (call : Call) → call_of words ≡ Some call
-    → IsServed call.request call.settings
+pub served : SmallEnginesServeTwo
 served [] call e = absurd (cc)
 served (name ∷ words) call e = by_row (row_of name) refl e
   where

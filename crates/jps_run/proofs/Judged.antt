@@ -18,7 +18,7 @@ use Rattle.walk_judge.proofs.Existing.{judgement_exists}
 use Rattle.scen_text.specs.declared.entry.Entry.{Entry}
 use Rattle.walk_judge.specs.declared.telling.Told.{Told}
 use Rattle.call_files.specs.Reading.{AreFit}
-use Rattle.jps_run.specs.Refereeing.{IsReady, CanGoOn, HasRefereed, IsRefereed, counts_of, sum_text}
+use Rattle.jps_run.specs.Judging.{IsReady, CanGoOn, HasJudged, IsJudged, counts_of, sum_text}
 use Rattle.jps_run.specs.Rows.{has_sides}
 use Rattle.jps_run.specs.Rulings.{IsRuling, with_told, scale, outside, blocked, judged, goal_of, start_of}
 use Rattle.jps_run.specs.Rulings.{is_refused, judge_status, ruling_line, ruling_lines, rulings_line}
@@ -32,7 +32,7 @@ use Rattle.scen_maker.proofs.Searching.{settled_exists}
 use Rattle.scen_maker.specs.Settling.{IsSearched, IsSettled}
 use Rattle.scen_maker.specs.declared.costs.Settled.{Settled}
 use Rattle.scen_maker.specs.declared.costs.Settled.TheVariants as settled
-use Rattle.jps_run.proofs.Judgements.{not-empty}
+use Rattle.jps_run.proofs.ScenRows.{not-empty}
 use Rattle.line_work.proofs.Turns.{turns-more, turns-all}
 
 -- what is told between free cells is judged, and its row says how
@@ -123,17 +123,17 @@ goes-on (Ok done) job now r room walks counts = λ n h.
     }
 
 -- one entry more has its row
-pub refereed-more : {T E : Type 0} (result : Result T E) (job now : Judge) (entry : Entry) (told : Told)
+pub judged-more : {T E : Type 0} (result : Result T E) (job now : Judge) (entry : Entry) (told : Told)
     (r : Ruling)
     (before after : List ℕ) → IsRuling job.costs entry told r
     → slice_get job.walks.items job.counts.rows ≡ Some told → now.costs ≡ job.costs → now.walks ≡ job.walks
     → ((rulings : List Ruling) → job.counts ≡ counts_of rulings → now.counts ≡ counts_of (rulings ++ r ∷ []))
     → OnOk result (after ≡ before ++ ruling_line now.counts.rows r)
     → OnOk result ((first : Judge) (entries : List Entry) (lines : List (List ℕ))
-    → HasRefereed first job entries lines
-    → Adds (HasRefereed first now (entries ++ entry ∷ [])) lines before after)
-refereed-more (Err error) job now entry told r before after is found costs walks counts w = tt
-refereed-more (Ok done) job now entry told r before after is found costs walks counts w =
+    → HasJudged first job entries lines
+    → Adds (HasJudged first now (entries ++ entry ∷ [])) lines before after)
+judged-more (Err error) job now entry told r before after is found costs walks counts w = tt
+judged-more (Ok done) job now entry told r before after is found costs walks counts w =
     λ first entries lines h.
     let old : job.counts.rows ≡ length h.rulings = ap (λ (c : Counts). c.rows) h.counted in
     let one : now.counts.rows ≡ length (h.rulings ++ r ∷ []) =
@@ -165,12 +165,12 @@ refereed-more (Ok done) job now entry told r before after is found costs walks c
     }
 
 -- the sum closes the rows
-pub refereed-all : (job : Judge) (status : ℕ) (before after : List ℕ)
+pub judged-all : (job : Judge) (status : ℕ) (before after : List ℕ)
     → after ≡ before ++ sum_text job.counts
     → ((rulings : List Ruling) → job.counts ≡ counts_of rulings → status ≡ judge_status rulings)
-    → (first : Judge) (entries : List Entry) (lines : List (List ℕ)) → HasRefereed first job entries lines
-    → Adds (λ all. IsRefereed first entries all status) lines before after
-refereed-all job status before after w s first entries lines h = record {
+    → (first : Judge) (entries : List Entry) (lines : List (List ℕ)) → HasJudged first job entries lines
+    → Adds (λ all. IsJudged first entries all status) lines before after
+judged-all job status before after w s first entries lines h = record {
   more = rulings_line h.rulings ∷ [];
   stand = record {
     rulings = h.rulings;
@@ -197,7 +197,7 @@ ruling_exists ls s both =
     let h = settled_exists ls both.0 in settled-ruled ls both.0 both.1 h.0 h.1
 
 -- so the first rows can be completed
-pub rulings-complete : CanComplete HasRefereed IsRefereed true
+pub rulings-complete : CanComplete HasJudged IsJudged true
 rulings-complete first now some others lines h =
     let walks : List Told = first.walks.items in
     let all = turns-all (Stands first.costs) stays (ruling_exists first.costs) tt
@@ -223,8 +223,8 @@ rulings-complete first now some others lines h =
     }
 
 -- nothing is judged yet
-pub refereed-none : (job : Judge) → job.counts ≡ counts_of [] → HasRefereed job job [] []
-refereed-none job e = record {
+pub judged-none : (job : Judge) → job.counts ≡ counts_of [] → HasJudged job job [] []
+judged-none job e = record {
   rulings = [];
   are = tt;
   all = refl;
