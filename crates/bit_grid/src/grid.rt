@@ -53,8 +53,25 @@ impl BitGrid {
     pub fn of_grid(alloc: Global, grid: &Grid) -> Result<BitGrid, NoMemory>
         ensures { IfOk result (λ bits. AreBitsOf bits grid.now) }
     {
-        let (width, height) = (grid.width(), grid.height());
         let allowed = AllowedTable::of_rule(alloc, grid.corner())?;
+        BitGrid::with_table(alloc, grid, allowed)
+    }
+
+    /// The same, where other bits are at hand: under their rule, their allowed directions are copied and not
+    /// told anew.
+    pub fn of_grid_beside(alloc: Global, grid: &Grid, other: &BitGrid) -> Result<BitGrid, NoMemory>
+        ensures { IfOk result (λ bits. AreBitsOf bits grid.now) }
+    {
+        let allowed = other.allowed.for_rule(alloc, grid.corner())?;
+        BitGrid::with_table(alloc, grid, allowed)
+    }
+
+    // The bits of a grid, whose rule the table has.
+    fn with_table(alloc: Global, grid: &Grid, allowed: AllowedTable) -> Result<BitGrid, NoMemory>
+        requires { allowed ≡ grid.now.corner }
+        ensures { IfOk result (λ bits. AreBitsOf bits grid.now) }
+    {
+        let (width, height) = (grid.width(), grid.height());
         let rows = Lines::rows_of(alloc, grid)?;
         let columns = rows.turned(alloc, width, height)?;
         Ok(BitGrid {

@@ -103,6 +103,18 @@ impl AllowedTable {
         Ok(AllowedTable { corner, lists })
     }
 
+    /// The table of a corner rule, which is a copy of this one where its rule is the same.
+    pub fn for_rule(&self, alloc: Global, corner: Corner) -> Result<AllowedTable, NoMemory>
+        ensures { IfOk result (λ table. table ≡ corner) }
+    {
+        if self.corner != corner {
+            return AllowedTable::of_rule(alloc, corner);
+        }
+        let mut lists = Vec::with_capacity(alloc, LISTS)?;
+        lists.extend_from_slice(self.lists.as_slice())?;
+        Ok(AllowedTable { corner, lists })
+    }
+
     /// The corner rule.
     #[inline(always)]
     pub fn corner(&self) -> Corner
