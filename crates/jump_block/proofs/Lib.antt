@@ -8,4 +8,5 @@ pub mod Runs
 pub mod Directions
 pub mod Rings
 pub mod Diagonals
+pub mod Aside
 pub mod Around

@@ -1,12 +1,13 @@
 -- Jumps over bits: the grids for which they stand, where a scan on one halts, and how many cells it covers.
 use Rattle.std.specs.Prelude.{◌≡◌, ⊤, IsTrue, ℕ, ◌+◌, ◌<◌, ◌≤◌, Bool, true, false, if◌then◌else◌}
-use Rattle.std.specs.Prelude.{Option, Some, None, codes, refl}
+use Rattle.std.specs.Prelude.{◌&&◌, nat_lt, Option, Some, None, codes, refl}
 use Rattle.grid_moves.specs.declared.Cell.{Cell}
 use Rattle.grid_moves.specs.declared.Corner.{Corner}
 use Rattle.grid_moves.specs.declared.Corner.TheVariants.{One, Both}
 use Rattle.grid_moves.specs.declared.Dir.{Dir}
 use Rattle.grid_moves.specs.declared.Dir.TheVariants.{N, NE, E, SE, S, SW, W}
 use Rattle.grid_moves.specs.Grid.{GridData, IsGrid, grid_of, is_free}
+use Rattle.grid_moves.specs.Move.{is_same}
 use Rattle.bit_grid.specs.Bits.{BitData, AreBitsOf, AreRowsOf, AreColumnsOf, is_free_from_one}
 use Rattle.pruning.specs.First.{first_stop, run_length}
 use Rattle.jump_plain.specs.declared.scan.Reach.{Reach}
@@ -71,6 +72,21 @@ abbrev pub column_way : Dir → Way
 column_way SE = Forward
 column_way SW = Forward
 column_way _ = Back
+
+-- whether a number lies ahead of another one, on the way
+abbrev pub is_ahead : Way → ℕ → ℕ → Bool
+is_ahead Forward from to = nat_lt from to
+is_ahead Back from to = nat_lt to from
+
+-- a diagonal leads to where the goal lies
+abbrev pub is_toward : Dir → Cell → Cell → Bool
+is_toward d u goal = is_ahead (row_way d) u.x goal.x && is_ahead (column_way d) u.y goal.y
+
+-- the goal is not at a cell of a diagonal, nor does a component lead to it from there
+pub record IsAside (d : Dir) (u goal : Cell) : Type 0 where
+  pub row : reach.moves_to (row_dir (row_way d)) u goal ≡ 0
+  pub column : reach.moves_to (column_dir (column_way d)) u goal ≡ 0
+  pub apart : is_same u goal ≡ false
 
 -- cells by the row or the column that is the line
 abbrev pub by_rows : GridData → ℕ → ℕ → Bool

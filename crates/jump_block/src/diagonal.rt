@@ -12,7 +12,7 @@ ghost use Rattle.pruning.specs.First as first;
 ghost use Rattle.grid_moves.specs.Ruled as ruled;
 ghost use Rattle.jump_block.specs.Source as spec;
 ghost use Rattle.jump_block.specs.Near.{AreNearStart};
-ghost use Rattle.jump_block.specs.Source.{OnSome, OnEach};
+ghost use Rattle.jump_block.specs.Source.{IsAside, OnSome, OnEach};
 
 use crate::cells::bit_of;
 use crate::near::{has_next_bit, leads_from_bit};
@@ -60,6 +60,39 @@ fn is_in_line(one: Cell, other: Cell) -> bool
     ensures { result ≡ (nat_eq one.x other.x || nat_eq one.y other.y) }
 {
     one.x == other.x || one.y == other.y
+}
+
+// Whether a number lies ahead of another one, on the way.
+#[inline(always)]
+fn is_ahead(way: Way, from: u16, to: u16) -> bool
+    ensures { result ≡ spec.is_ahead way from to }
+{
+    match way {
+        Way::Forward => from < to,
+        Way::Back => to < from,
+    }
+}
+
+/// Whether a diagonal leads to where the goal lies: of the four from a cell one at most does, and the others
+/// meet it nowhere.
+#[inline(always)]
+pub(crate) fn is_toward(d: Dir, at: Cell, goal: Cell) -> bool
+    ensures { result ≡ spec.is_toward d at goal }
+{
+    both(
+        is_ahead(row_way(d), at.x, goal.x),
+        is_ahead(column_way(d), at.y, goal.y),
+    )
+}
+
+// Whether the goal has to be looked for at a cell of a diagonal.
+#[inline(always)]
+#[tactic(auto, using(crate::proofs::Aside::off_line))]
+fn may_meet<const AIMED: bool>(d: Dir, at: Cell, goal: Cell) -> bool
+    requires aside { AIMED ≡ false → IsAside d at goal }
+    ensures aside { result ≡ false → IsAside d at goal }
+{
+    AIMED && is_in_line(at, goal)
 }
 
 /// A bit of a row, both counted from 0, the border's among them.
@@ -178,11 +211,12 @@ impl<'a> Bits<'a> {
                 .is_some()
     }
 
-    // Whether a diagonal jump stops at a cell. Only in the goal's row or column is the goal looked for; at
-    // all other cells a component is asked for its mark alone, told the words around the cell. The call out
-    // of line gets a copy of the bits, so that their own stay in registers here.
+    // Whether a diagonal jump stops at a cell. Only in the goal's row or column is the goal looked for, and
+    // by no jump that leads elsewhere; at all other cells a component is asked for its mark alone, told the
+    // words around the cell. The call out of line gets a copy of the bits, so that their own stay in
+    // registers here.
     #[inline(always)]
-    fn stops_at<const RULE: usize, L: Ledger>(
+    fn stops_at<const RULE: usize, const AIMED: bool, L: Ledger>(
         &self,
         at: Cell,
         d: Dir,
@@ -194,12 +228,13 @@ impl<'a> Bits<'a> {
         requires stands { OnSome self.now at }
         requires near { AreNearStart self.now.rows.now (at.y + 1) (at.x + 1) near }
         requires diagonal { is_diagonal d ≡ true }
+        requires aside { AIMED ≡ false → IsAside d at goal }
         ensures stops { OnEach self.now at (λ g. result ≡ (is_same at goal || is_forced g at d
             || is_some (first.first_stop g goal at (spec.row_dir (spec.row_way d)))
             || is_some (first.first_stop g goal at (spec.column_dir (spec.column_way d))))) }
         ensures more { steps.old ≤ steps.new }
     {
-        if is_in_line(at, goal) {
+        if may_meet::<AIMED>(d, at, goal) {
             let bits = *self;
             return bits.stops_in_line::<RULE, L>(at, d, goal, steps);
         }
@@ -208,9 +243,9 @@ impl<'a> Bits<'a> {
             || self.finds_mark_on_column::<RULE, L>(at, column_way(d), steps)
     }
 
-    /// After how many moves a diagonal jump stops.
+    /// After how many moves a diagonal jump stops, told whether it may lead to where the goal lies.
     #[inline(always)]
-    pub(crate) fn diagonal<const RULE: usize, L: Ledger>(
+    pub(crate) fn diagonal<const RULE: usize, const AIMED: bool, L: Ledger>(
         &self,
         at: Cell,
         d: Dir,
@@ -220,6 +255,7 @@ impl<'a> Bits<'a> {
         requires rule { self.now.corner ≡ ruled.rule_of_number RULE }
         requires stands { OnSome self.now at }
         requires diagonal { is_diagonal d ≡ true }
+        requires aside { AIMED ≡ false → spec.is_toward d at goal ≡ false }
         ensures first { OnEach self.now at (λ g. result ≡ first.first_stop g goal at d) }
         ensures fewest { steps.old + 3 ≤ steps.new }
     {
@@ -230,7 +266,7 @@ impl<'a> Bits<'a> {
             let next = beyond(cell, d);
             moves += 1;
             near = self.near_on_row(next, steps);
-            if self.stops_at::<RULE, L>(next, d, goal, near, steps) {
+            if self.stops_at::<RULE, AIMED, L>(next, d, goal, near, steps) {
                 return Some(moves);
             }
             cell = next;

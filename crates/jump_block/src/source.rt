@@ -9,8 +9,9 @@ ghost use Rattle.pruning.specs.Stop.{IsFirstStop};
 ghost use Rattle.pruning.specs.Turns.{is_diagonal};
 ghost use Rattle.jump_block.specs.Scan.{most_lanes};
 ghost use Rattle.bit_grid.specs.Bits.{AreBitsOf};
-ghost use Rattle.jump_block.specs.Source.{AreItsBits, JumpsOnEach, JumpsOnSome, OnEach, OnSome, is_forward, is_back, scanned};
+ghost use Rattle.jump_block.specs.Source.{AreItsBits, JumpsOnEach, JumpsOnSome, OnEach, OnSome, is_forward, is_back, is_toward, scanned};
 
+use crate::diagonal::is_toward;
 use crate::straight::Bits;
 use crate::word::Way;
 use bit_grid::BitGrid;
@@ -41,9 +42,35 @@ impl<'a> Bits<'a> {
     }
 
     // A diagonal jump, under a rule that the compiler knows. It is a function of its own, so that straight
-    // jumps, which are short, keep clear of its many registers.
+    // jumps, which are short, keep clear of its many registers. A jump that leads elsewhere than to where the
+    // goal lies has loops of its own too, in which no cell is compared with the goal.
     #[inline(never)]
-    fn diagonal_by<const RULE: usize, L: Ledger>(
+    fn diagonal_by<const RULE: usize, const AIMED: bool, L: Ledger>(
+        &self,
+        at: Cell,
+        d: Dir,
+        goal: Cell,
+        steps: &mut Steps<L>,
+    ) -> Option<u16>
+        requires rule { self.now.corner ≡ ruled.rule_of_number RULE }
+        requires diagonal { is_diagonal d ≡ true }
+        requires stands { OnSome self.now at }
+        requires aside { AIMED ≡ false → is_toward d at goal ≡ false }
+        ensures first { OnEach self.now at (λ g. result ≡ first.first_stop g goal at d) }
+        ensures fewest { steps.old + 3 ≤ steps.new }
+    {
+        let bits = self.under::<RULE>();
+        match d {
+            Dir::NE => bits.diagonal::<RULE, AIMED, L>(at, Dir::NE, goal, steps),
+            Dir::SE => bits.diagonal::<RULE, AIMED, L>(at, Dir::SE, goal, steps),
+            Dir::SW => bits.diagonal::<RULE, AIMED, L>(at, Dir::SW, goal, steps),
+            _ => bits.diagonal::<RULE, AIMED, L>(at, Dir::NW, goal, steps),
+        }
+    }
+
+    // The same, for any goal.
+    #[inline(always)]
+    fn diagonal_stop<const RULE: usize, L: Ledger>(
         &self,
         at: Cell,
         d: Dir,
@@ -56,12 +83,10 @@ impl<'a> Bits<'a> {
         ensures first { OnEach self.now at (λ g. result ≡ first.first_stop g goal at d) }
         ensures fewest { steps.old + 3 ≤ steps.new }
     {
-        let bits = self.under::<RULE>();
-        match d {
-            Dir::NE => bits.diagonal::<RULE, L>(at, Dir::NE, goal, steps),
-            Dir::SE => bits.diagonal::<RULE, L>(at, Dir::SE, goal, steps),
-            Dir::SW => bits.diagonal::<RULE, L>(at, Dir::SW, goal, steps),
-            _ => bits.diagonal::<RULE, L>(at, Dir::NW, goal, steps),
+        if is_toward(d, at, goal) {
+            self.diagonal_by::<RULE, true, L>(at, d, goal, steps)
+        } else {
+            self.diagonal_by::<RULE, false, L>(at, d, goal, steps)
         }
     }
 
@@ -89,7 +114,7 @@ impl<'a> Bits<'a> {
             Dir::S => bits.straight_on_column::<RULE, L>(at, Way::Forward, goal, steps),
             Dir::W => bits.straight_on_row::<RULE, L>(at, Way::Back, goal, steps),
             Dir::NE | Dir::SE | Dir::SW | Dir::NW => {
-                self.diagonal_by::<RULE, L>(at, d, goal, steps)
+                self.diagonal_stop::<RULE, L>(at, d, goal, steps)
             }
         }
     }

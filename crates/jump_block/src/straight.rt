@@ -1,9 +1,10 @@
 //! Straight jumps: a scan along a row or a column, and the first stop that follows from where it halts.
 
-ghost use Rattle.std.specs.Prelude.{◌≡◌, ℕ, ◌+◌, ◌≤◌, Bool, false, true, is_some, nat_eq};
+ghost use Rattle.std.specs.Prelude.{◌≡◌, ℕ, ◌+◌, ◌≤◌, Bool, false, true, is_some};
 ghost use Rattle.pruning.specs.Turns.{is_diagonal};
 ghost use Rattle.pruning.specs.First as first;
 ghost use Rattle.grid_moves.specs.Ruled as ruled;
+ghost use Rattle.jump_plain.specs.Reach as reach;
 ghost use Rattle.jump_block.specs.Trail.{begun};
 ghost use Rattle.jump_block.specs.Scan.{Finds, looked, most_lanes};
 ghost use Rattle.jump_block.specs.Near.{AreNearStart};
@@ -134,7 +135,7 @@ impl<'a> Bits<'a> {
         words_near(self.rows, u32::from(at.y) + 1, u32::from(at.x) + 1, steps)
     }
 
-    /// Whether a straight jump along the row finds a stop, for a goal that is not on the row, told the
+    /// Whether a straight jump along the row finds a stop, for a goal to which it does not lead, told the
     /// words around the cell.
     #[inline(always)]
     pub(crate) fn finds_mark_on_row<const RULE: usize, L: Ledger>(
@@ -148,8 +149,9 @@ impl<'a> Bits<'a> {
         requires stands { OnSome self.now at }
         requires near { AreNearStart self.now.rows.now (at.y + 1) (at.x + 1) near }
         ensures finds { OnEach self.now at (λ g. (goal : Cell)
-            → nat_eq at.y goal.y ≡ false → result ≡ is_some (first.first_stop g goal at (spec.row_dir way))) }
-        ensures most { OnEach self.now at (λ g. (goal : Cell) → nat_eq at.y goal.y ≡ false
+            → reach.moves_to (spec.row_dir way) at goal ≡ 0
+            → result ≡ is_some (first.first_stop g goal at (spec.row_dir way))) }
+        ensures most { OnEach self.now at (λ g. (goal : Cell) → reach.moves_to (spec.row_dir way) at goal ≡ 0
             → LooksOut g goal at (spec.row_dir way) 3 steps.old steps.new) }
         ensures more { steps.old ≤ steps.new }
     {
@@ -157,7 +159,7 @@ impl<'a> Bits<'a> {
         finds_mark::<RULE, L>(way, self.corner, self.rows, line, place, near, steps)
     }
 
-    /// Whether a straight jump along the column finds a stop, for a goal that is not on the column. The words
+    /// Whether a straight jump along the column finds a stop, for a goal to which it does not lead. The words
     /// around the cell are read here.
     #[inline(always)]
     pub(crate) fn finds_mark_on_column<const RULE: usize, L: Ledger>(
@@ -169,8 +171,10 @@ impl<'a> Bits<'a> {
         requires rule { self.now.corner ≡ ruled.rule_of_number RULE }
         requires stands { OnSome self.now at }
         ensures finds { OnEach self.now at (λ g. (goal : Cell)
-            → nat_eq at.x goal.x ≡ false → result ≡ is_some (first.first_stop g goal at (spec.column_dir way))) }
-        ensures most { OnEach self.now at (λ g. (goal : Cell) → nat_eq at.x goal.x ≡ false
+            → reach.moves_to (spec.column_dir way) at goal ≡ 0
+            → result ≡ is_some (first.first_stop g goal at (spec.column_dir way))) }
+        ensures most { OnEach self.now at (λ g. (goal : Cell)
+            → reach.moves_to (spec.column_dir way) at goal ≡ 0
             → LooksOut g goal at (spec.column_dir way) 6 steps.old steps.new) }
         ensures more { steps.old ≤ steps.new }
     {

@@ -5,6 +5,7 @@ pub mod Refreshing
 pub mod Clear
 pub mod Stops
 pub mod Goals
+pub mod Aiming
 pub mod Told
 pub mod Turning
 pub mod Growing

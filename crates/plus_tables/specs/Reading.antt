@@ -1,6 +1,6 @@
 -- What jumps read off entries.
 use Rattle.std.specs.Prelude.{◌≡◌, ⊤, ℕ, zero, suc, ◌+◌, ◌-◌, ℤ, pos, negsuc, Bool, true, false, ◌&&◌, not}
-use Rattle.std.specs.Prelude.{nat_lt, nat_le, nat_eq, Option, Some, None, min, List, filter, if◌then◌else◌}
+use Rattle.std.specs.Prelude.{◌*◌, nat_lt, nat_le, nat_eq, Option, Some, None, min, List, filter, if◌then◌else◌}
 use Rattle.grid_moves.specs.declared.Cell.{Cell}
 use Rattle.grid_moves.specs.declared.Corner.{Corner}
 use Rattle.grid_moves.specs.declared.Corner.TheVariants.{Never, Both}
@@ -121,6 +121,26 @@ diagonal_by entry u d goal = stop_by (entry u d) (near_to d u goal)
 abbrev pub stop_told : (Cell → Dir → ℤ) → Cell → Dir → Cell → Option ℕ
 stop_told entry u d goal =
     if is_diagonal d then diagonal_by entry u d goal else stop_by (entry u d) (moves_to d u goal) true
+
+-- on which side of a number another one lies: 0 where it is less, 1 where they are the same, 2 where it is
+-- greater
+abbrev pub side_of : ℕ → ℕ → ℕ
+side_of from to = if nat_lt from to then 2 else if nat_lt to from then 0 else 1
+
+-- three times the side to which the rows of a direction lead, and the side to which its columns lead
+abbrev pub sides_ahead : Dir → ℕ
+sides_ahead N = 1
+sides_ahead NE = 2
+sides_ahead E = 5
+sides_ahead SE = 8
+sides_ahead S = 7
+sides_ahead SW = 6
+sides_ahead W = 3
+sides_ahead NW = 0
+
+-- the direction leads to where the goal lies
+abbrev pub is_aimed : Cell → Dir → Cell → Bool
+is_aimed u d goal = nat_eq (sides_ahead d) (side_of u.y goal.y * 3 + side_of u.x goal.x)
 
 -- Which cells around count as free for the rule: those to which a move is legal, as entries tell. Where no
 -- corner is cut, the walls that count after a straight move stand behind: beside the cell before, whose

@@ -3,7 +3,7 @@
 //! A straight jump stops at the goal, if it lies on the run before the first mark, else at the mark: its own
 //! entry tells both. A diagonal jump can see the goal at one cell alone, where it meets the goal's row or
 //! column first; if that comes before its own mark, the entry of the component there tells whether the run
-//! leads on to the goal.
+//! leads on to the goal. So only a jump that leads to where the goal lies asks for it.
 
 ghost use Rattle.std.specs.Prelude.{◌≡◌, ◌+◌, ◌<◌, ◌≤◌, false, true, min};
 ghost use Rattle.jump_plain.specs.Reach as reach;
@@ -12,7 +12,7 @@ ghost use Rattle.plus_tables.specs.Tables.{entry_at, is_on};
 ghost use Rattle.pruning.specs.Turns as turns;
 
 use crate::tables::{Tables, tells_mark};
-use grid_moves::{Cell, Dir};
+use grid_moves::{Cell, Dir, dir_number};
 use jump_plain::jump::moves_to;
 use std::sync::ledger::Ledger;
 use steps::Steps;
@@ -128,20 +128,40 @@ fn column_part(d: Dir) -> Dir
     }
 }
 
-// After how many moves a straight jump stops. One step.
+// On which side of a number another one lies: 0 where it is less, 1 where they are the same, 2 where it is
+// greater.
 #[inline(always)]
-fn straight_stop<L: Ledger>(
-    tables: &Tables,
-    at: Cell,
-    d: Dir,
-    goal: Cell,
-    steps: &mut Steps<L>,
-) -> Option<u16>
-    requires at { is_on tables.now at ≡ true }
-    ensures is { result ≡ spec.stop_by (entry_at tables.now at d) (reach.moves_to d at goal) true }
-    ensures step { steps.new ≡ steps.old + 1 }
+fn side_of(from: u16, to: u16) -> u8
+    ensures is { result ≡ spec.side_of from to }
 {
-    let entry = tables.entry(at, d, steps);
+    u8::from(from <= to) + u8::from(from < to)
+}
+
+// For each direction three times the side to which its rows lead, and the side to which its columns lead.
+const SIDES_AHEAD: [u8; 8] = [1, 2, 5, 8, 7, 6, 3, 0];
+
+// The sides to which a direction leads, read from a table, so that there is no branch on the direction.
+#[inline(always)]
+fn sides_ahead(d: Dir) -> u8
+    ensures is { result ≡ spec.sides_ahead d }
+{
+    SIDES_AHEAD[dir_number(d) as usize]
+}
+
+// Whether a direction leads to where the goal lies, so that the jump may come to it or see it: one direction
+// at most does. What is asked of the cell and the goal is the same for all directions.
+#[inline(always)]
+fn is_aimed(at: Cell, d: Dir, goal: Cell) -> bool
+    ensures is { result ≡ spec.is_aimed at d goal }
+{
+    sides_ahead(d) == side_of(at.y, goal.y) * 3 + side_of(at.x, goal.x)
+}
+
+// After how many moves a straight jump stops, told its entry.
+#[inline(always)]
+fn straight_stop(at: Cell, d: Dir, goal: Cell, entry: i16) -> Option<u16>
+    ensures is { result ≡ spec.stop_by entry (reach.moves_to d at goal) true }
+{
     let near = moves_to(d, at, goal);
     if 0 < near && is_clear(entry, near) {
         Some(near)
@@ -175,22 +195,23 @@ fn sees_goal<L: Ledger>(
     }
 }
 
-// After how many moves a diagonal jump stops. At most two steps.
+// After how many moves a diagonal jump stops, told its entry. At most one step.
 #[inline(always)]
 fn diagonal_stop<L: Ledger>(
     tables: &Tables,
     at: Cell,
     d: Dir,
     goal: Cell,
+    entry: i16,
     steps: &mut Steps<L>,
 ) -> Option<u16>
     requires at { is_on tables.now at ≡ true }
     requires goal { is_on tables.now goal ≡ true }
+    requires entry { entry ≡ entry_at tables.now at d }
     ensures is { result ≡ spec.diagonal_by (entry_at tables.now) at d goal }
-    ensures most { steps.new ≤ steps.old + 2 }
-    ensures fewest { steps.old + 1 ≤ steps.new }
+    ensures most { steps.new ≤ steps.old + 1 }
+    ensures fewest { steps.old ≤ steps.new }
 {
-    let entry = tables.entry(at, d, steps);
     let columns = columns_to(d, at.x, goal.x);
     let rows = rows_to(d, at.y, goal.y);
     let near = columns.min(rows);
@@ -204,11 +225,40 @@ fn diagonal_stop<L: Ledger>(
     }
 }
 
-/// After how many moves a jump stops. One step or two. Each direction has code of its own, in which it is a
-/// constant.
-// Not inlined: where it is, the compiler moves the arithmetic of all eight directions before the choice among
-// them.
+// After how many moves a jump stops, told its entry, where the goal may lie on its way: of the directions
+// from a cell one at most asks for it, so it stays out of line. Each direction has code of its own, in which
+// it is a constant.
 #[inline(never)]
+fn stop_aimed<L: Ledger>(
+    tables: &Tables,
+    at: Cell,
+    d: Dir,
+    goal: Cell,
+    entry: i16,
+    steps: &mut Steps<L>,
+) -> Option<u16>
+    requires at { is_on tables.now at ≡ true }
+    requires goal { is_on tables.now goal ≡ true }
+    requires entry { entry ≡ entry_at tables.now at d }
+    ensures is { result ≡ spec.stop_told (entry_at tables.now) at d goal }
+    ensures most { steps.new ≤ steps.old + 1 }
+    ensures fewest { steps.old ≤ steps.new }
+{
+    match d {
+        Dir::N => straight_stop(at, Dir::N, goal, entry),
+        Dir::NE => diagonal_stop(tables, at, Dir::NE, goal, entry, steps),
+        Dir::E => straight_stop(at, Dir::E, goal, entry),
+        Dir::SE => diagonal_stop(tables, at, Dir::SE, goal, entry, steps),
+        Dir::S => straight_stop(at, Dir::S, goal, entry),
+        Dir::SW => diagonal_stop(tables, at, Dir::SW, goal, entry, steps),
+        Dir::W => straight_stop(at, Dir::W, goal, entry),
+        Dir::NW => diagonal_stop(tables, at, Dir::NW, goal, entry, steps),
+    }
+}
+
+/// After how many moves a jump stops. One step or two. Where the direction does not lead to where the goal
+/// lies, the entry alone tells it.
+#[inline(always)]
 pub fn stop_told<L: Ledger>(
     tables: &Tables,
     at: Cell,
@@ -222,14 +272,9 @@ pub fn stop_told<L: Ledger>(
     ensures most { steps.new ≤ steps.old + 2 }
     ensures fewest { steps.old + 1 ≤ steps.new }
 {
-    match d {
-        Dir::N => straight_stop(tables, at, Dir::N, goal, steps),
-        Dir::NE => diagonal_stop(tables, at, Dir::NE, goal, steps),
-        Dir::E => straight_stop(tables, at, Dir::E, goal, steps),
-        Dir::SE => diagonal_stop(tables, at, Dir::SE, goal, steps),
-        Dir::S => straight_stop(tables, at, Dir::S, goal, steps),
-        Dir::SW => diagonal_stop(tables, at, Dir::SW, goal, steps),
-        Dir::W => straight_stop(tables, at, Dir::W, goal, steps),
-        Dir::NW => diagonal_stop(tables, at, Dir::NW, goal, steps),
+    let entry = tables.entry(at, d, steps);
+    if is_aimed(at, d, goal) {
+        return stop_aimed(tables, at, d, goal, entry, steps);
     }
+    mark_of(entry)
 }

@@ -128,6 +128,17 @@ fn found<J: JumpSource>(
     })
 }
 
+// So many states a short search takes at most, and there is room for their numbers from the start on: a list
+// that grows from nothing is moved a few times.
+const MANY_STATES: usize = 256;
+
+// No states, and room for some.
+fn none_taken(alloc: Global) -> Result<Taken, NoMemory>
+    ensures { IfOk result (λ taken. taken ≡ []) }
+{
+    Ok(Taken::of(Vec::with_capacity(alloc, MANY_STATES)?))
+}
+
 // The search's run.
 fn run<J: JumpSource, L: Ledger, M: Ledger>(
     alloc: Global,
@@ -145,7 +156,7 @@ fn run<J: JumpSource, L: Ledger, M: Ledger>(
     ensures fewest { IfOk result (λ f. RoseByTaken (J.fewest j.now) f steps.old steps.new) }
     ensures places { OnEach (J.StandsFor j.now) ends.from ends.to (λ g. HasPlaces g space.new) }
 {
-    let mut taken = Taken::new(alloc);
+    let mut taken = none_taken(alloc)?;
     begin(j, ends, space, &mut taken, own)?;
     let mut at: u32 = 0;
     'taking: while space.node(at).place.cell() != ends.to {

@@ -9,6 +9,7 @@ use Rattle.jump_block.proofs.Directions.{parts}
 use Rattle.jump_plain.proofs.Besides.{beyond_stuck}
 use Rattle.pruning.proofs.Lengths.{run_length-next, run_length-few}
 use Rattle.jump_plain.proofs.Diagonal.{is_stop-read, stops_nowhere, stops_here, stops_later}
+use Rattle.jump_block.proofs.Aside.{aside_ahead, still_aside}
 use Rattle.jump_block.proofs.Diagonals.{legal_next}
 use Rattle.jump_block.proofs.straight.Bits.diagonal.Goals as goal
 
@@ -56,6 +57,14 @@ pub run-preserved : goal.run-preserved
 run-preserved g c = record {
   read = grind (arith, nat_tests, common_steps);
   near = c.near_on_row-near-in-run.ensures.near;
+  aside = λ off.
+      let grid = c.requires.stands.0 in
+      let are = c.requires.stands.1 in
+      let there = c.run.invariant.there grid are c.requires.stands.2 in
+      still_aside grid c.args.d c.run.cell c.beyond-next.result c.args.goal c.requires.diagonal
+      (legal_next grid c.run.cell c.beyond-next.result c.args.d c.leads_near.result
+      (c.leads_near.ensures.leads grid are there.free) c.run-test.true c.beyond-next.ensures)
+      (c.run.invariant.aside off);
   there = λ grid are free.
       let there = c.run.invariant.there grid are free in
       let legal = legal_next grid c.run.cell c.beyond-next.result c.args.d c.leads_near.result
@@ -87,3 +96,13 @@ leads_near-requires-clause-near g c = c.run.invariant.near
 
 pub stops_at-requires-clause-near : goal.stops_at-requires-clause-near
 stops_at-requires-clause-near g c = c.near_on_row-near-in-run.ensures.near
+
+pub stops_at-requires-clause-aside : goal.stops_at-requires-clause-aside
+stops_at-requires-clause-aside g c = λ off.
+    let grid = c.requires.stands.0 in
+    let are = c.requires.stands.1 in
+    let there = c.run.invariant.there grid are c.requires.stands.2 in
+    aside_ahead grid c.args.d c.run.cell c.beyond-next.result c.args.goal c.requires.diagonal
+    (legal_next grid c.run.cell c.beyond-next.result c.args.d c.leads_near.result
+    (c.leads_near.ensures.leads grid are there.free) c.run-test.true c.beyond-next.ensures)
+    (c.run.invariant.aside (c.requires.aside off))

@@ -1,7 +1,7 @@
 use Rattle.std.proofs.Common.{ℕ, ◌+◌, arith}
 use Rattle.jump_block.specs.Scan.{MeetsFrom}
 use Rattle.jump_block.specs.Source.{column_dir}
-use Rattle.jump_block.proofs.Directions.{mark_on, off_column, one_on, column_met, column_straight}
+use Rattle.jump_block.proofs.Directions.{mark_on, one_on, column_met, column_straight}
 use Rattle.jump_block.proofs.straight.Bits.finds_mark_on_column.Goals as goal
 
 pub returns-clause-finds : goal.returns-clause-finds
@@ -12,7 +12,7 @@ returns-clause-finds g c = λ grid are free goal off.
     c.args.way line place old new c.finds_mark.result) c.from.ensures c.from-2.ensures
     c.finds_mark.ensures.finds in
     let told = mark_on grid c.args.at (column_dir c.args.way) c.args.self.now.corner
-    (column_straight c.args.way) are.rule free are.whole goal (off_column c.args.way c.args.at goal off)
+    (column_straight c.args.way) are.rule free are.whole goal off
     old new c.finds_mark.result
     (column_met grid c.args.way c.args.at c.args.self.now.corner c.args.self.now.columns.now free
     are.are_columns old new c.finds_mark.result met) in
@@ -26,7 +26,7 @@ returns-clause-most g c = λ grid are free goal off.
     c.args.way line place old new c.finds_mark.result) c.from.ensures c.from-2.ensures
     c.finds_mark.ensures.finds in
     let told = mark_on grid c.args.at (column_dir c.args.way) c.args.self.now.corner
-    (column_straight c.args.way) are.rule free are.whole goal (off_column c.args.way c.args.at goal off)
+    (column_straight c.args.way) are.rule free are.whole goal off
     old new c.finds_mark.result
     (column_met grid c.args.way c.args.at c.args.self.now.corner c.args.self.now.columns.now free
     are.are_columns old new c.finds_mark.result met) in

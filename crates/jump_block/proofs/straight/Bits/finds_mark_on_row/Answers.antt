@@ -2,7 +2,7 @@ use Rattle.std.proofs.Common.{ℕ, ◌+◌, arith, sym}
 use Rattle.jump_block.specs.Near.{AreNearStart}
 use Rattle.jump_block.specs.Scan.{MeetsFrom}
 use Rattle.jump_block.specs.Source.{row_dir}
-use Rattle.jump_block.proofs.Directions.{mark_on, off_row, one_on, row_met, row_straight}
+use Rattle.jump_block.proofs.Directions.{mark_on, one_on, row_met, row_straight}
 use Rattle.jump_block.proofs.straight.Bits.finds_mark_on_row.Goals as goal
 
 pub finds_mark-requires-clause-near : goal.finds_mark-requires-clause-near
@@ -18,7 +18,7 @@ returns-clause-finds g c = λ grid are free goal off.
     c.args.way line place old new c.finds_mark.result) c.from.ensures c.from-2.ensures
     c.finds_mark.ensures.finds in
     let told = mark_on grid c.args.at (row_dir c.args.way) c.args.self.now.corner
-    (row_straight c.args.way) are.rule free are.whole goal (off_row c.args.way c.args.at goal off) old new
+    (row_straight c.args.way) are.rule free are.whole goal off old new
     c.finds_mark.result
     (row_met grid c.args.way c.args.at c.args.self.now.corner c.args.self.now.rows.now free
     are.are_rows old new c.finds_mark.result met) in
@@ -32,7 +32,7 @@ returns-clause-most g c = λ grid are free goal off.
     c.args.way line place old new c.finds_mark.result) c.from.ensures c.from-2.ensures
     c.finds_mark.ensures.finds in
     let told = mark_on grid c.args.at (row_dir c.args.way) c.args.self.now.corner
-    (row_straight c.args.way) are.rule free are.whole goal (off_row c.args.way c.args.at goal off) old new
+    (row_straight c.args.way) are.rule free are.whole goal off old new
     c.finds_mark.result
     (row_met grid c.args.way c.args.at c.args.self.now.corner c.args.self.now.rows.now free
     are.are_rows old new c.finds_mark.result met) in
