@@ -2,17 +2,41 @@
 use Rattle.std.proofs.Common.{◌≡◌, ◌≢◌, refl, true, false, ℕ, ◌+◌, ◌*◌, ◌≤◌, Bool, arith}
 use Rattle.std.specs.Prelude.{if◌then◌else◌}
 use Rattle.best_first.specs.Space.{SpaceData}
-use Rattle.grid_moves.specs.Grid.{GridData}
-use Rattle.grid_moves.specs.Layers.{Layers}
+use Rattle.std.proofs.lemmas.Bool.Decides.{nat_tests}
+use Rattle.bit_grid.specs.Bits.{AreBitsOf, BitData, IsOnMap}
+use Rattle.grid_moves.specs.declared.Cell.{Cell}
+use Rattle.grid_moves.specs.Grid.{GridData, is_inside}
+use Rattle.grid_moves.specs.Layers.{AreLayers, Layers, is_on_map}
 use Rattle.plus_tables.specs.Tables.{TablesData, AreTablesOf, IsWhole}
 use Rattle.table_repair.specs.Counted.{places_differing}
-use Rattle.edit_replay.specs.Kept.{IsFinderOf, IsFinderOn, engine_of}
+use Rattle.edit_replay.specs.Kept.{IsFinderOf, IsFinderOn, Serves, engine_of}
 use Rattle.edit_replay.specs.Mended.{AreMended, IsEditCounted, MendsWithin, repaired}
 use Rattle.edit_replay.specs.declared.kept.Both.{Both}
 use Rattle.edit_replay.specs.declared.kept.Finder.{Finder}
 use Rattle.edit_replay.specs.declared.kept.Finder.TheVariants.{Cells, Bits, Tables}
 use Rattle.edit_replay.specs.declared.kept.Kept.{Kept}
 use Rattle.edit_replay.specs.declared.kept.Kept.TheVariants.{Jumps}
+
+-- a cell of the map lies inside both grids
+pub on_water : (ls : Layers) (c : Cell) → AreLayers ls → is_on_map ls c ≡ true → is_inside ls.water c ≡ true
+on_water ls c layers inside = rw (layers.width, layers.height) inside
+
+-- and on a grid's bits
+pub on_bits : (bits : BitData) (g : GridData) (c : Cell) → AreBitsOf bits g → is_inside g c ≡ true
+    → IsOnMap bits c
+on_bits bits g c are inside =
+    let wide = are.wide in
+    let high = are.high in
+    grind (arith, nat_tests)
+
+-- where jumps are found by bits, these are the grids'
+pub found_by_bits : (grids : Both GridData) (kept : Kept) (finder : Finder) (bits : Both BitData)
+    (space : SpaceData)
+    → kept ≡ Jumps finder space → finder ≡ Bits bits → Serves grids kept
+    → AreBitsOf bits.land grids.land × AreBitsOf bits.water grids.water
+found_by_bits grids kept finder bits space is found serves =
+    let all = rw (is, found) at serves in
+    all.1
 
 -- the tables of both grids were mended
 pub mended_both : (kept : Kept) (tables : Both TablesData) (space : SpaceData) (before after : Layers)

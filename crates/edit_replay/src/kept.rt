@@ -64,7 +64,7 @@ fn bits_of(alloc: Global, grids: &Both<Grid>) -> Result<Both<BitGrid>, NoMemory>
     ensures { IfOk result (λ bits. AreBitsOf bits.land grids.now.land × AreBitsOf bits.water grids.now.water) }
 {
     let land = BitGrid::of_grid(alloc, &grids.land)?;
-    let water = BitGrid::of_grid(alloc, &grids.water)?;
+    let water = BitGrid::of_grid_beside(alloc, &grids.water, &land)?;
     Ok(Both { land, water })
 }
 

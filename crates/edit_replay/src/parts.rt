@@ -65,24 +65,27 @@ impl Parts {
     {
         let (is_land, is_water) = (to == Ground::Land, to == Ground::Water);
         let grids = &mut self.grids;
-        if let Kept::Jumps {
-            finder: Finder::Tables(tables),
-            ..
-        } = &mut self.kept
-        {
-            set_and_mend(&mut grids.land, &mut tables.land, c, is_land, steps);
-            set_and_mend(&mut grids.water, &mut tables.water, c, is_water, steps);
-            return;
-        }
-        grids.land.set(c, is_land);
-        grids.water.set(c, is_water);
-        if let Kept::Jumps {
-            finder: Finder::Bits(bits),
-            ..
-        } = &mut self.kept
-        {
-            bits.land.set(c, is_land);
-            bits.water.set(c, is_water);
+        match &mut self.kept {
+            Kept::Jumps {
+                finder: Finder::Tables(tables),
+                ..
+            } => {
+                set_and_mend(&mut grids.land, &mut tables.land, c, is_land, steps);
+                set_and_mend(&mut grids.water, &mut tables.water, c, is_water, steps);
+            }
+            Kept::Jumps {
+                finder: Finder::Bits(bits),
+                ..
+            } => {
+                grids.land.set(c, is_land);
+                grids.water.set(c, is_water);
+                bits.land.set(c, is_land);
+                bits.water.set(c, is_water);
+            }
+            _ => {
+                grids.land.set(c, is_land);
+                grids.water.set(c, is_water);
+            }
         }
     }
 

@@ -10,7 +10,7 @@ ghost use Rattle.map_text.specs.declared.fault.MapFault.TheVariants.{NoMemory};
 ghost use Rattle.map_text.specs.Map.{Map, is_terrain as terrain};
 ghost use Rattle.map_text.specs.Spelling.{Spells};
 ghost use Rattle.map_text.specs.Faults as spec;
-ghost use Rattle.map_text.specs.Faults.{bytes_of, side_on, side_fault, row_fault};
+ghost use Rattle.map_text.specs.Faults.{bytes_of, side_on as told_side, side_fault, row_fault};
 ghost use Rattle.map_text.specs.Faults.{map_of, BreaksFirst, Tells, plain};
 ghost use Rattle.map_text.specs.Progress.{StandsAfterHeader};
 
@@ -101,21 +101,21 @@ fn has_words(line: Option<Line<'_>>, words: &[&[u8]]) -> bool
     fields.next().is_none()
 }
 
-/// The side that the line with this number names: its fields are the word and the side.
+/// The side that the line with this number names, if it is one of a map.
 fn side(line: Option<Line<'_>>, word: &[u8], number: u32) -> Result<u16, MapFault>
-    ensures { let named = side_on word.now (bytes_of line.entry) in
+    ensures { let named = told_side word.now (bytes_of line.entry) in
         Judges result (side_fault number named) (λ side. named ≡ Some side) }
 {
-    match number_after(line, word) {
+    match side_on(line, word) {
         None => Err(MapFault::Header { line: number }),
         Some(side) if 1 <= side && side <= MAX_SIDE => Ok(side as u16),
         Some(_) => Err(MapFault::Side { line: number }),
     }
 }
 
-/// The number of a line whose fields are the word and a number.
-fn number_after(line: Option<Line<'_>>, word: &[u8]) -> Option<u32>
-    ensures { result ≡ side_on word.now (bytes_of line.entry) }
+/// The side that a line names, whatever its size: its fields are the word and the side.
+fn side_on(line: Option<Line<'_>>, word: &[u8]) -> Option<u32>
+    ensures { result ≡ told_side word.now (bytes_of line.entry) }
 {
     let mut fields = Fields::of(line?.bytes);
     if fields.next()? != word {

@@ -1,6 +1,7 @@
 -- What a list has after one element is changed.
 use Rattle.std.proofs.Common.{◌≡◌, ◌≢◌, ℕ, ◌≤◌, zero, suc, List, [], ◌∷◌, ◌++◌, length, map, get_or, set}
-use Rattle.std.proofs.Common.{Some, slice_get, refl, ap, arith}
+use Rattle.std.proofs.Common.{Some, slice_get, take, drop, refl, ap, arith}
+use Rattle.std.proofs.lemmas.Grind.{common_steps}
 use Rattle.std.proofs.lemmas.Option.{same_Some, none-some}
 use Rattle.open_list.specs.Entry.{changed}
 
@@ -69,3 +70,8 @@ module _ {X : Type 0} where
   get_pushed_other [] e (suc i) ne = refl
   get_pushed_other (x ∷ es) e zero ne = refl
   get_pushed_other (x ∷ es) e (suc i) ne = get_pushed_other es e i (λ h. ne (ap suc h))
+
+  -- a whole list that was lent as a slice, and is back
+  pub back : (new old : List X) (len : ℕ) → len ≡ length old → length new ≡ len
+      → take len (new ++ drop (length new) old) ≡ new
+  back new old len all same = grind (arith, common_steps)

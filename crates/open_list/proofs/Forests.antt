@@ -8,11 +8,15 @@ use Rattle.std.proofs.lemmas.Option.{slice_get_within, slice_get_past}
 use Rattle.open_list.specs.declared.entry.Entry.{Entry}
 use Rattle.open_list.specs.declared.entry.TheConstants.{NONE}
 use Rattle.open_list.specs.Entry.{changed, next_of, is_open, with_next, list_len, list_len_to}
+use Rattle.open_list.specs.Entry.{KeepsNodes}
 use Rattle.open_list.specs.Heaps.{Heaps, no_heap, heap, first_id, count_at, node_count, heap_count, one_at}
 use Rattle.open_list.specs.Heaps.{open_count, AreChildren, AreRoots, HaveOpen, IsShifted}
 use Rattle.open_list.proofs.Changes.{get-changed, length-changed, map-changed}
 use Rattle.open_list.proofs.Counts.{one_at_same, open_count-le}
 use Rattle.open_list.proofs.Frames.{AreChildren-changed, AreRoots-changed}
+
+pub kept_on : {N : Type 0} {a b c : List (Entry N)} → KeepsNodes a b → KeepsNodes b c → KeepsNodes a c
+kept_on h k = record { nodes = k.nodes ∙ h.nodes; open_at = k.open_at ∙ h.open_at }
 
 module _ {N : Type 0} (before : N → N → Bool) where
   heap_count-le : (hs : Heaps N) → heap_count hs ≤ node_count hs

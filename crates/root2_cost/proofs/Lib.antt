@@ -10,3 +10,4 @@ pub mod Ranking
 pub mod Differences
 pub mod Decoding
 pub mod Rounding
+pub mod Casts
