@@ -82,7 +82,7 @@ module _ (words : List (List ℕ)) (disk disk_now : Disk) (input input_now : Inf
     (call : Call) (spelled : Spell words call) where
   -- a read failed
   pub read-comes : (FileRose (files_of call) disk disk_now × Wrote out out_now [])
-      ⊎ ((reads_input call.request ≡ true) × Rose input.faults input_now.faults
+      ⊎ ((reads_input call.request.command ≡ true) × Rose input.faults input_now.faults
       × WrotePending call disk.holds out out_now input.left input_now.left)
       → HasFailed words disk disk_now input input_now out out_now
   read-comes (inl f) = of_file (record { call = call; spelled = spelled; rose = f.0 }) f.1

@@ -32,7 +32,7 @@ module _ {Known : Map → List ℕ → ℕ → Type 0} (text : List ℕ) (m : Ma
 
   -- so it is work of a call that searches nothing
   pub prints-on : (call : Call) (holds : List ℕ → Held) → AreAccepted holds [] (files_of call) (text ∷ [])
-      → searches call.request ≡ false → (job : Work) (printed : List ℕ) (code : ℕ)
+      → searches call.request.command ≡ false → (job : Work) (printed : List ℕ) (code : ℕ)
       → CanPerform job → ((lines : List (List ℕ)) (status : ℕ) → IsWhole job lines status
       → IsText printed code lines status)
       → ((lines : List (List ℕ)) (status : ℕ) → Prints (text ∷ []) lines status Known
@@ -54,7 +54,7 @@ module _ {Known : Map → List ℕ → ℕ → Type 0} (text : List ℕ) (m : Ma
 
 -- a text of the program's own is work of a call that reads nothing
 pub says-of : (call : Call) (job : Work) (text printed : List ℕ) → printed ≡ text
-    → searches call.request ≡ false → CanPerform job
+    → searches call.request.command ≡ false → CanPerform job
     → ((lines : List (List ℕ)) (status : ℕ) → IsWhole job lines status → IsText printed 0 lines status)
     → ((lines : List (List ℕ)) (status : ℕ) → Says text [] lines status → IsAnswered call [] lines status)
     → IsWorkOf call [] job
@@ -87,11 +87,8 @@ on-last text m read loaded more known = record {
 
 -- what is known of the session that answers what comes in is known of the call
 pub retold : {call : Call} {holds : List ℕ → Held} {K L : SessionData → Show → Type 0} (p : OnLive call holds K)
-    → L p.session p.settings.show → OnLive call holds L
+    → L p.session call.settings.show → OnLive call holds L
 retold p known = record {
-  map = p.map;
-  tables = p.tables;
-  settings = p.settings;
   is = p.is;
   text = p.text;
   behind = p.behind;

@@ -11,7 +11,7 @@ use Rattle.jps_run.specs.Outcome.{Spell}
 
 -- the counter rose as the files make it that are held, or nothing is searched for the call
 pub data HasCounted (call : Call) (holds : List ℕ → Held) (old new : ℕ) : Type 0 where
-  none : searches call.request ≡ false → HasCounted call holds old new
+  none : searches call.request.command ≡ false → HasCounted call holds old new
   some : (texts : List (List ℕ)) → AreAccepted holds [] (files_of call) texts
       → RoseFor call texts old new → HasCounted call holds old new
 

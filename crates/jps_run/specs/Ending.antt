@@ -58,7 +58,7 @@ pub record CanHear (words : List (List ℕ)) (holds : List ℕ → Held) : Type 
 pub record InputRose (words : List (List ℕ)) (input input_now : Inflow) : Type 0 where
   pub call : Call
   pub spelled : Spell words call
-  pub reads : reads_input call.request ≡ true
+  pub reads : reads_input call.request.command ≡ true
   pub rose : Rose input.faults input_now.faults
 
 -- a read failed: of a file, and nothing was written; or of the input, and exactly the lines of the whole

@@ -4,8 +4,8 @@ use Rattle.io_edge.specs.Told.{Held, Outflow}
 use Rattle.map_text.specs.Map.{Map}
 use Rattle.map_text.specs.Faults.{map_of}
 use Rattle.edit_replay.specs.Session.{SessionData}
-use Rattle.word_list.specs.Request.{Call, Live}
-use Rattle.word_list.specs.declared.request.Settings.{Settings}
+use Rattle.word_list.specs.Request.{Call}
+use Rattle.word_list.specs.declared.rows.Command.TheVariants.{Live}
 use Rattle.word_list.specs.declared.request.Show.{Show}
 use Rattle.call_files.specs.Files.{AreAccepted}
 use Rattle.jps_run.specs.Calls.{files_of}
@@ -15,18 +15,15 @@ use Rattle.jps_run.specs.Session.{IsSessionOn}
 -- the call answers what comes in: each of its files is accepted, the map first, and of the session on it this
 -- is known
 pub record OnLive (call : Call) (holds : List ℕ → Held) (Known : SessionData → Show → Type 0) : Type 0 where
-  pub map : List ℕ
-  pub tables : Option (List ℕ)
-  pub settings : Settings
-  pub is : call ≡ record { request = Live map tables; settings = settings }
+  pub is : call.request.command ≡ Live
   pub text : List ℕ
   pub behind : List (List ℕ)
   pub accepted : AreAccepted holds [] (files_of call) (text ∷ behind)
   pub read : Map
   pub spelled : map_of text ≡ Ok read
   pub session : SessionData
-  pub answers : IsSessionOn settings read session
-  pub known : Known session settings.show
+  pub answers : IsSessionOn call.settings read session
+  pub known : Known session call.settings.show
 
 -- the lines are the output of a call that answers what comes in, and this is the line of its refusal, if it
 -- is refused

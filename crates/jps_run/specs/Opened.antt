@@ -17,7 +17,7 @@ use Rattle.jps_run.specs.declared.work.Work.{Work}
 
 -- nothing is searched for the call, or the counter rose as the searches on the texts of its files make it
 abbrev pub IsCounted : Call → List (List ℕ) → ℕ → ℕ → Type 0
-IsCounted call texts old new = (searches call.request ≡ false) ⊎ RoseFor call texts old new
+IsCounted call texts old new = (searches call.request.command ≡ false) ⊎ RoseFor call texts old new
 
 -- the work is that of a call on the texts of its files: what it prints is a right answer
 pub record IsWorkOf (call : Call) (texts : List (List ℕ)) (work : Work) : Type 0 where
@@ -34,7 +34,7 @@ pub record IsWorkOn (call : Call) (holds : List ℕ → Held) (work : Work) : Ty
 
 -- a session that answers what comes in, as the call asks
 pub record IsListener (call : Call) (holds : List ℕ → Held) (job : Answers) : Type 0 where
-  pub reads : reads_input call.request ≡ true
+  pub reads : reads_input call.request.command ≡ true
   pub on : OnLive call holds (λ d show. (job.session ≡ d) × (job.show ≡ show))
 
 -- the call was opened as this
@@ -46,6 +46,11 @@ IsOpenedAs call holds (opened.Listener job) = IsListener call holds job
 abbrev pub OpensWork : Call → Disk → Disk → Result Work Stop → Type 0
 OpensWork call disk disk_now result =
     Ends (IsWorkOn call disk.holds) (open_stops disk disk_now (files_of call)) result
+
+-- a session that answers what comes in was opened for the call, or that stopped
+abbrev pub OpensListener : Call → Disk → Disk → Result Answers Stop → Type 0
+OpensListener call disk disk_now result =
+    Ends (IsListener call disk.holds) (open_stops disk disk_now (files_of call)) result
 
 -- the call was opened, or that stopped
 abbrev pub Opens : Call → Disk → Disk → Result Opened Stop → Type 0

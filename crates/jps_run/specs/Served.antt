@@ -17,7 +17,7 @@ served_stops call disk disk_now input input_now out out_now = record {
   Refused = λ line. (HasRefused disk.holds (files_of call) line × Wrote out out_now [])
       ⊎ WroteHeard call disk.holds out out_now input.left (Some line);
   Read = (FileRose (files_of call) disk disk_now × Wrote out out_now [])
-      ⊎ ((reads_input call.request ≡ true) × Rose input.faults input_now.faults
+      ⊎ ((reads_input call.request.command ≡ true) × Rose input.faults input_now.faults
       × WrotePending call disk.holds out out_now input.left input_now.left);
   Write = Rose out.faults out_now.faults
       × (IsPart (IsOutput call disk.holds) out out_now

@@ -1,6 +1,7 @@
 //! The commands: a small module each, which opens it and promises one thing.
 
-ghost use Rattle.std.specs.Prelude.{◌≡◌};
+ghost use Rattle.std.specs.Prelude.{◌≡◌, map, string_bytes};
+ghost use Rattle.word_list.specs.Kinds.{number_at};
 ghost use Rattle.word_list.specs.Request.{IsSound, called};
 ghost use Rattle.jps_run.specs.Opened.{Opens};
 
@@ -45,7 +46,7 @@ use scen::scen;
 use solve::solve;
 use std::alloc::Global;
 use tables::tables;
-use word_list::{Request, Settings};
+use word_list::{Command, Request, Settings};
 
 /// A call whose files are read: what its command made of them.
 #[derive(Drop)]
@@ -67,73 +68,39 @@ pub(crate) fn open<F: Files>(
     ensures opened { Opens (called request.entry settings) (F.disk files.old) (F.disk files.new) result }
     ensures unchanged { (F.disk files.new).holds ≡ (F.disk files.old).holds }
 {
-    match request {
-        Request::Help => Ok(Opened::Work(Work::Say(help_text()))),
-        Request::Version => Ok(Opened::Work(Work::Say(version_text()))),
-        Request::Query {
-            map,
-            tables,
-            sx,
-            sy,
-            gx,
-            gy,
-        } => {
-            let ends = Ends { sx, sy, gx, gy };
-            Ok(Opened::Work(query(alloc, files, map, tables, ends, settings)?))
-        }
-        Request::Solve {
-            map,
-            tables,
-            script,
-        } => Ok(Opened::Work(solve(alloc, files, map, tables, script, settings)?)),
-        Request::Live { map, tables } => {
-            Ok(Opened::Listener(live(alloc, files, map, tables, settings)?))
-        }
-        Request::Scen {
-            map,
-            tables,
-            scen: name,
-        } => Ok(Opened::Work(scen(alloc, files, map, tables, name, settings)?)),
-        Request::Judge { map, scen, walks } => {
-            Ok(Opened::Work(judge(alloc, files, map, scen, walks, settings)?))
-        }
-        Request::Prove {
-            map,
-            sx,
-            sy,
-            gx,
-            gy,
-        } => {
-            let ends = Ends { sx, sy, gx, gy };
-            Ok(Opened::Work(prove(alloc, files, map, ends, settings)?))
-        }
-        Request::Check { map, cert } => Ok(Opened::Work(check(alloc, files, map, cert, settings)?)),
-        Request::Make {
-            seed,
-            w,
-            h,
-            percent,
-        } => Ok(Opened::Work(make(alloc, seed, w, h, percent, settings)?)),
-        Request::Drill { seed } => Ok(Opened::Work(drill(alloc, seed, settings)?)),
-        Request::Draw {
-            map,
-            sx,
-            sy,
-            gx,
-            gy,
-        } => {
-            let ends = Ends { sx, sy, gx, gy };
-            Ok(Opened::Work(draw(alloc, files, map, ends, settings)?))
-        }
-        Request::Costs { map, x, y } => Ok(Opened::Work(costs(alloc, files, map, x, y, settings)?)),
-        Request::Tables { map } => Ok(Opened::Work(tables(alloc, files, map, settings)?)),
-        Request::Boxes { map, x, y } => Ok(Opened::Work(boxes(alloc, files, map, x, y, settings)?)),
-        Request::Moves { map, x, y } => Ok(Opened::Work(moves(alloc, files, map, x, y, settings)?)),
-        Request::Lengths { map, scen } => {
-            Ok(Opened::Work(lengths(alloc, files, map, scen, settings)?))
-        }
-        Request::Problems { map, seed, count } => {
-            Ok(Opened::Work(problems(alloc, files, map, seed, count, settings)?))
-        }
+    match request.command {
+        Command::Query => Ok(Opened::Work(query(alloc, request, settings, files)?)),
+        Command::Solve => Ok(Opened::Work(solve(alloc, request, settings, files)?)),
+        Command::Scen => Ok(Opened::Work(scen(alloc, request, settings, files)?)),
+        Command::Judge => Ok(Opened::Work(judge(alloc, request, settings, files)?)),
+        Command::Lengths => Ok(Opened::Work(lengths(alloc, request, settings, files)?)),
+        Command::Problems => Ok(Opened::Work(problems(alloc, request, settings, files)?)),
+        Command::Prove => Ok(Opened::Work(prove(alloc, request, settings, files)?)),
+        Command::Check => Ok(Opened::Work(check(alloc, request, settings, files)?)),
+        Command::Make => Ok(Opened::Work(make(alloc, request, settings)?)),
+        Command::Drill => Ok(Opened::Work(drill(alloc, request, settings)?)),
+        Command::Draw => Ok(Opened::Work(draw(alloc, request, settings, files)?)),
+        Command::Costs => Ok(Opened::Work(costs(alloc, request, settings, files)?)),
+        Command::Tables => Ok(Opened::Work(tables(alloc, request, settings, files)?)),
+        Command::Boxes => Ok(Opened::Work(boxes(alloc, request, settings, files)?)),
+        Command::Moves => Ok(Opened::Work(moves(alloc, request, settings, files)?)),
+        Command::Live => Ok(Opened::Listener(live(alloc, request, settings, files)?)),
+        Command::Help => Ok(Opened::Work(Work::Say(help_text()))),
+        Command::Version => Ok(Opened::Work(Work::Say(version_text()))),
+    }
+}
+
+/// The ends of a query that the words tell from the second one on.
+fn ends_of(request: Request<'_>) -> Ends
+    ensures sx { result.sx ≡ number_at (map string_bytes request.entry.words.now) 1 }
+    ensures sy { result.sy ≡ number_at (map string_bytes request.entry.words.now) 2 }
+    ensures gx { result.gx ≡ number_at (map string_bytes request.entry.words.now) 3 }
+    ensures gy { result.gy ≡ number_at (map string_bytes request.entry.words.now) 4 }
+{
+    Ends {
+        sx: request.number(1),
+        sy: request.number(2),
+        gx: request.number(3),
+        gy: request.number(4),
     }
 }

@@ -1,6 +1,6 @@
 -- A call and a bad word, from what the steps of the reading say.
 use Rattle.std.proofs.lemmas.Bool.Decides.{nat_tests}
-use Rattle.std.proofs.Common.{◌≡◌, ℕ, suc, ◌+◌, ◌<◌, ◌≤◌, Bool, true, false, List, [], ◌∷◌, length, drop}
+use Rattle.std.proofs.Common.{◌≡◌, ℕ, suc, ◌+◌, ◌<◌, ◌≤◌, Bool, true, false, List, [], ◌∷◌, length, take, drop}
 use Rattle.std.proofs.Common.{refl, ap, ◌∙◌, subst, add-one, ◌⊎◌, inl, inr, arith}
 use Rattle.std.specs.Prelude.{codes, Option, Some, None, Result, Ok, Err, MatchResult, IsOkAnd, IsErrAnd}
 use Rattle.std.proofs.Math.Seq.{take-length}
@@ -8,7 +8,8 @@ use Rattle.std.proofs.lemmas.Bool.{and_right}
 use Rattle.std.proofs.lemmas.List.{append-nil}
 use Rattle.word_list.specs.declared.request.Settings.{Settings}
 use Rattle.word_list.specs.declared.request.BadWord.{BadWord}
-use Rattle.word_list.specs.Request.{Asked, Call, Row, asked_by, row_of}
+use Rattle.word_list.specs.declared.rows.Command.{Command}
+use Rattle.word_list.specs.Request.{Asked, Call, Row, row_of}
 use Rattle.word_list.specs.Settings.{are_settings, can_load, is_complete, settings_of, tables_of}
 use Rattle.word_list.specs.Calls.{fits, call_of, is_call}
 use Rattle.word_list.specs.Rule.{Begins, EndsAfter, StopsAt, IsBadWord}
@@ -39,6 +40,12 @@ pub told_by : {tables named : Option (List ℕ)} {set chosen : Settings} {b : Bo
     → set ≡ chosen
     → b ≡ can_load tables set → can_load named chosen ≡ b
 told_by same also is = rw (← same, ← also, is) refl
+
+-- what is asked for is told by the same words and the same table file
+pub asks_same : {command : Command} {words same : List (List ℕ)} {tables named : Option (List ℕ)} → words ≡ same
+    → tables ≡ named → ◌≡◌ {A = Asked} (record { command = command; words = words; tables = tables })
+    (record { command = command; words = same; tables = named })
+asks_same is also = rw (is, also) refl
 
 -- the name of a command, and words of which so many are of its kinds
 module _ (name : List ℕ) (words : List (List ℕ)) (row : Row) (is_row : row_of name ≡ Some row) (taken : ℕ)
@@ -90,7 +97,7 @@ module _ (name : List ℕ) (words : List (List ℕ)) (row : Row) (is_row : row_o
         wrong (inr missing) = and_right _ (is_complete rest) missing
 
     pub calls : length rest ≤ more → is_complete rest ≡ true → (request : Asked) (settings : Settings)
-        → request ≡ asked_by row.command words (tables_of rest)
+        → request ≡ record { command = row.command; words = take taken words; tables = tables_of rest }
         → settings ≡ settings_of rest → call_of (name ∷ words) ≡ Some (call_with request settings)
     calls all complete request settings is chosen = grind (arith, nat_tests, refuses, rest_settles, apart)
 

@@ -1,3 +1,4 @@
+pub mod Table
 pub mod Rules
 pub mod Completed
 pub mod Settled

@@ -4,7 +4,7 @@ use Rattle.std.specs.Prelude.{Option, Some, None, option_and_then}
 use Rattle.word_list.specs.declared.rows.Kind.{Kind}
 use Rattle.word_list.specs.declared.settings.Family.{Family}
 use Rattle.word_list.specs.Request.{Call, asked_by, row_of}
-use Rattle.word_list.specs.Settings.{are_settings, settings_of, tables_of}
+use Rattle.word_list.specs.Settings.{are_settings, settings_of}
 use Rattle.word_list.specs.Kinds.{is_of}
 
 -- whether the words are a word of each kind and then settings
@@ -18,7 +18,7 @@ abbrev pub call_of : List (List ℕ) → Option Call
 call_of [] = None
 call_of (name ∷ words) = option_and_then
     (λ row. if fits row.takes row.allows words then Some (record {
-      request = asked_by row.command words (tables_of (drop (length row.takes) words));
+      request = asked_by row words;
       settings = settings_of (drop (length row.takes) words);
     }) else None)
     (row_of name)

@@ -1,5 +1,9 @@
 -- Worked rows of the accepted lists, by computing.
-use Rattle.std.specs.Prelude.{◌≡◌, ℕ, List, [], ◌∷◌, codes, refl, Option, Some, None, ◌||◌, if◌then◌else◌}
+use Rattle.std.specs.Prelude.{◌≡◌, ℕ, Bool, true, false, List, [], ◌∷◌, codes, refl, Option, Some, None}
+use Rattle.std.specs.Prelude.{◌||◌, ◌&&◌, if◌then◌else◌, bytes_eq, nat_eq}
+use Rattle.std.specs.List.{list_all, list_any}
+use Rattle.word_list.specs.declared.rows.Kind.{Kind}
+use Rattle.word_list.specs.declared.rows.Kind.TheVariants.{File, Number, Seed, Side, Percent, Count}
 use Rattle.grid_moves.specs.declared.Corner.{Corner}
 use Rattle.grid_moves.specs.declared.Corner.TheVariants.{Never, One, Both}
 use Rattle.text_line.specs.LongNumbers.{long_number_of}
@@ -10,9 +14,20 @@ use Rattle.word_list.specs.declared.request.SmallEngine.TheVariants.{Boxes, Move
 use Rattle.word_list.specs.declared.request.Show.{Show}
 use Rattle.word_list.specs.declared.request.Show.TheVariants.{Points, Cells, Trace, Taken}
 use Rattle.word_list.specs.declared.settings.Setting.TheVariants as setting
-use Rattle.word_list.specs.Request.{Call, Named, Help, Query, Solve, Scen, Judge, Make, Lengths, Problems, rows}
+use Rattle.word_list.specs.declared.rows.Command.{Command}
+use Rattle.word_list.specs.declared.rows.Command.TheVariants as command
+use Rattle.word_list.specs.Kinds.{number_at, seed_at, side_at, percent_at, count_at, word_at}
+use Rattle.word_list.specs.Request.{Asked, Call, Named, rows}
 use Rattle.word_list.specs.Settings.{default_settings, is_allowed, tables_in}
 use Rattle.word_list.specs.Calls.{call_of}
+
+-- what is asked for where no table file is named
+abbrev asks : Command → List (List ℕ) → Asked
+asks command words = record { command = command; words = words; tables = None }
+
+-- the words `m 0 0 2 2`
+abbrev corners : List (List ℕ)
+corners = codes "m" ∷ codes "0" ∷ codes "0" ∷ codes "2" ∷ codes "2" ∷ []
 
 -- what the words after `query m 0 0 2 2` make of it
 abbrev query_with : List (List ℕ) → Option Call
@@ -21,7 +36,7 @@ query_with words = call_of (codes "query" ∷ codes "m" ∷ codes "0" ∷ codes 
 -- the query from (0,0) to (2,2) with these settings
 abbrev query_of : Show → Corner → Option Call
 query_of show rule = Some (record {
-  request = Query (codes "m") None 0 0 2 2;
+  request = asks command.Query corners;
   settings = record { pick = Session Plain; show = show; rule = rule };
 })
 
@@ -31,7 +46,7 @@ defaults = refl
 
 -- another engine, and a word that is none
 pub jumping : query_with (codes "engine=jps" ∷ []) ≡ Some (record {
-  request = Query (codes "m") None 0 0 2 2;
+  request = asks command.Query corners;
   settings = record { pick = Session Jps; show = Points; rule = Never };
 })
 unfolding number_of tables_in
@@ -43,7 +58,7 @@ no_engine = refl
 
 -- an engine of small maps, and a call for edits, which takes none
 pub boxed : query_with (codes "engine=boxes" ∷ []) ≡ Some (record {
-  request = Query (codes "m") None 0 0 2 2;
+  request = asks command.Query corners;
   settings = record { pick = Small Boxes; show = Points; rule = Never };
 })
 unfolding number_of tables_in
@@ -52,6 +67,34 @@ boxed = refl
 pub boxed_edits : call_of (codes "solve" ∷ codes "m" ∷ codes "s" ∷ codes "engine=boxes" ∷ []) ≡ None
 unfolding tables_in
 boxed_edits = refl
+
+-- the words of help that stand for a word of each kind
+abbrev called_by : Kind → List (List ℕ)
+called_by File = codes "MAP" ∷ codes "SCRIPT" ∷ codes "SCEN" ∷ codes "WALKS" ∷ codes "CERT" ∷ []
+called_by Number = codes "SX" ∷ codes "SY" ∷ codes "GX" ∷ codes "GY" ∷ codes "X" ∷ codes "Y" ∷ []
+called_by Seed = codes "SEED" ∷ []
+called_by Side = codes "W" ∷ codes "H" ∷ []
+called_by Percent = codes "P" ∷ []
+called_by Count = codes "N" ∷ []
+
+-- a text's words, which one blank parts
+abbrev with_byte : ℕ → List (List ℕ) → List (List ℕ)
+with_byte byte [] = (byte ∷ []) ∷ []
+with_byte byte (word ∷ words) = (byte ∷ word) ∷ words
+
+abbrev parted : List ℕ → List (List ℕ)
+parted [] = []
+parted (byte ∷ bytes) = if nat_eq byte 32 then [] ∷ parted bytes else with_byte byte (parted bytes)
+
+-- whether help calls each word of a command by one that stands for its kind
+abbrev are_called : List Kind → List (List ℕ) → Bool
+are_called [] [] = true
+are_called (kind ∷ takes) (word ∷ words) = list_any (bytes_eq word) (called_by kind) && are_called takes words
+are_called takes words = false
+
+-- each row takes the words that help tells
+pub kinds_as_told : list_all (λ one. are_called one.row.takes (parted one.words)) rows ≡ true
+kinds_as_told = refl
 
 -- the commands that allow an engine for small maps: what they ask for is answered without a session
 abbrev allowing_small : List Named → List (List ℕ)
@@ -98,7 +141,11 @@ engine_twice = refl
 
 -- a word in a file's place is its name, whatever it begins with; leading zeros are digits
 pub any_name : call_of (codes "query" ∷ codes "--help" ∷ codes "000000001" ∷ codes "1" ∷ codes "1" ∷ codes "1"
-    ∷ []) ≡ Some (record { request = Query (codes "--help") None 1 1 1 1; settings = default_settings })
+    ∷ []) ≡ Some (record {
+      request = asks command.Query
+          (codes "--help" ∷ codes "000000001" ∷ codes "1" ∷ codes "1" ∷ codes "1" ∷ []);
+      settings = default_settings;
+    })
 unfolding number_of tables_in
 any_name = refl
 
@@ -108,9 +155,18 @@ pub ten_digits : call_of (codes "query" ∷ codes "m" ∷ codes "0000000001" ∷
 unfolding number_of tables_in
 ten_digits = refl
 
+-- what the words of a query tell: a file's name as it stands, and numbers by their digits
+pub named_so : word_at corners 0 ≡ codes "m"
+named_so = refl
+
+pub numbers_told : number_at (codes "m" ∷ codes "000000001" ∷ codes "20" ∷ []) 1
+    ∷ number_at (codes "m" ∷ codes "000000001" ∷ codes "20" ∷ []) 2 ∷ [] ≡ 1 ∷ 20 ∷ []
+unfolding number_of
+numbers_told = refl
+
 -- the empty word is a file's name
 pub empty_names : call_of (codes "solve" ∷ [] ∷ [] ∷ []) ≡ Some (record {
-  request = Solve [] None [];
+  request = asks command.Solve ([] ∷ [] ∷ []);
   settings = default_settings;
 })
 unfolding tables_in
@@ -118,7 +174,7 @@ empty_names = refl
 
 -- so is a setting that stands in a file's place
 pub setting_for_name : call_of (codes "scen" ∷ codes "m" ∷ codes "rule=one" ∷ []) ≡ Some (record {
-  request = Scen (codes "m") None (codes "rule=one");
+  request = asks command.Scen (codes "m" ∷ codes "rule=one" ∷ []);
   settings = default_settings;
 })
 unfolding tables_in
@@ -128,7 +184,7 @@ setting_for_name = refl
 -- `=`
 abbrev loaded_query : Option Call
 loaded_query = Some (record {
-  request = Query (codes "m") (Some (codes "t=x")) 0 0 2 2;
+  request = record { command = command.Query; words = corners; tables = Some (codes "t=x") };
   settings = record { pick = Session Plus; show = Points; rule = Never };
 })
 
@@ -168,7 +224,7 @@ drawn_by_file = refl
 -- a judge is asked with three files
 pub three_files : call_of (codes "judge" ∷ codes "m" ∷ codes "s" ∷ codes "w" ∷ codes "rule=one" ∷ [])
     ≡ Some (record {
-      request = Judge (codes "m") (codes "s") (codes "w");
+      request = asks command.Judge (codes "m" ∷ codes "s" ∷ codes "w" ∷ []);
       settings = record { pick = Session Plain; show = Points; rule = One };
     })
 unfolding tables_in
@@ -176,7 +232,7 @@ three_files = refl
 
 -- rows may tell counts, and nothing else is shown of them; no answer tells counts, and first moves have none
 pub counted_rows : call_of (codes "scen" ∷ codes "m" ∷ codes "s" ∷ codes "show=taken" ∷ []) ≡ Some (record {
-  request = Scen (codes "m") None (codes "s");
+  request = asks command.Scen (codes "m" ∷ codes "s" ∷ []);
   settings = record { pick = Session Plain; show = Taken; rule = Never };
 })
 unfolding tables_in
@@ -201,7 +257,7 @@ unfolding tables_in
 no_scenario = refl
 
 pub help_alone : call_of (codes "--help" ∷ []) ≡ Some (record {
-  request = Help;
+  request = asks command.Help [];
   settings = default_settings;
 })
 unfolding tables_in
@@ -212,13 +268,24 @@ unfolding tables_in
 help_with_more = refl
 
 -- a seed, two sides and a percentage
-pub map_of_a_seed : call_of (codes "make" ∷ codes "18446744073709551615" ∷ codes "4096" ∷ codes "1"
-    ∷ codes "100" ∷ []) ≡ Some (record {
-      request = Make 18446744073709551615 4096 1 100;
-      settings = default_settings;
-    })
+abbrev largest_map : List (List ℕ)
+largest_map = codes "18446744073709551615" ∷ codes "4096" ∷ codes "1" ∷ codes "100" ∷ []
+
+pub map_of_a_seed : call_of (codes "make" ∷ largest_map) ≡ Some (record {
+  request = asks command.Make largest_map;
+  settings = default_settings;
+})
 unfolding number_of long_number_of tables_in
 map_of_a_seed = refl
+
+pub seed_told : seed_at largest_map 0 ≡ 18446744073709551615
+unfolding long_number_of
+seed_told = refl
+
+pub sides_told : side_at largest_map 1 ∷ side_at largest_map 2 ∷ percent_at largest_map 3 ∷ []
+    ≡ 4096 ∷ 1 ∷ 100 ∷ []
+unfolding number_of
+sides_told = refl
 
 -- no side is 0, and no percentage above 100
 pub side_of_nothing : call_of (codes "make" ∷ codes "7" ∷ codes "0" ∷ codes "2" ∷ codes "0" ∷ []) ≡ None
@@ -232,7 +299,7 @@ more_than_all = refl
 -- a scenario of one's own is asked for with the rule alone
 pub scenario_again : call_of (codes "lengths" ∷ codes "m" ∷ codes "s" ∷ codes "rule=both" ∷ [])
     ≡ Some (record {
-      request = Lengths (codes "m") (codes "s");
+      request = asks command.Lengths (codes "m" ∷ codes "s" ∷ []);
       settings = record { pick = Session Plain; show = Points; rule = Both };
     })
 unfolding tables_in
@@ -245,11 +312,15 @@ lengths_by_engine = refl
 -- so many problems from a seed, at least one and at most 100000
 pub some_problems : call_of (codes "problems" ∷ codes "m" ∷ codes "18446744073709551615" ∷ codes "100000" ∷ [])
     ≡ Some (record {
-      request = Problems (codes "m") 18446744073709551615 100000;
+      request = asks command.Problems (codes "m" ∷ codes "18446744073709551615" ∷ codes "100000" ∷ []);
       settings = default_settings;
     })
 unfolding number_of long_number_of tables_in
 some_problems = refl
+
+pub count_told : count_at (codes "m" ∷ codes "1" ∷ codes "100000" ∷ []) 2 ≡ 100000
+unfolding number_of
+count_told = refl
 
 pub no_problems : call_of (codes "problems" ∷ codes "m" ∷ codes "1" ∷ codes "0" ∷ []) ≡ None
 unfolding number_of long_number_of tables_in

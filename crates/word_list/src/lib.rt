@@ -1,27 +1,11 @@
 //! The program's words and the call that they spell.
 //!
-//! A command's name is followed by the words that it takes, and then by settings, no two of which
-//! may clash, in any order:
+//! A command's name is followed by the words that it takes, and then by settings, no two of which may
+//! clash, in any order. Each command has a row in `rows.rt`, which tells its words, the settings that it
+//! allows, and what help says of it:
 //!
 //! ```text
-//! --help
-//! --version
 //! query MAP SX SY GX GY [engine=ENGINE] [tables=FILE] [show=points|show=cells|show=trace] [rule=RULE]
-//! solve MAP SCRIPT [engine=ENGINE] [tables=FILE] [show=points|show=cells|show=trace] [rule=RULE]
-//! live MAP [engine=ENGINE] [tables=FILE] [show=points|show=cells|show=trace] [rule=RULE]
-//! scen MAP SCEN [engine=ENGINE] [tables=FILE] [show=taken] [rule=RULE]
-//! judge MAP SCEN WALKS [rule=RULE]
-//! prove MAP SX SY GX GY [rule=RULE]
-//! check MAP CERT [rule=RULE]
-//! make SEED W H P
-//! drill SEED [engine=ENGINE] [rule=RULE]
-//! draw MAP SX SY GX GY [engine=ENGINE] [show=points|show=trace] [rule=RULE]
-//! costs MAP X Y [rule=RULE]
-//! tables MAP [rule=RULE]
-//! boxes MAP X Y [rule=RULE]
-//! moves MAP X Y [rule=RULE]
-//! lengths MAP SCEN [rule=RULE]
-//! problems MAP SEED N [rule=RULE]
 //! ```
 //!
 //! ENGINE is `plain`, `jps`, `block` or `plus`, RULE `none`, `one` or `both`. Names of files are any words;
@@ -32,7 +16,7 @@
 //! clash with `show=trace` and `show=taken`. A list that is no call is refused at its first word with which
 //! no call can begin, or one word behind its end where only words are missing.
 //!
-//! A command has a row in `rows.rt`, a setting one in `settings.rt`.
+//! A setting has a row in `settings.rt`.
 #![tactic(auto)]
 
 mod reading;
@@ -42,4 +26,4 @@ mod settings;
 
 pub use reading::{first_bad, read_words};
 pub use request::{BadWord, Pick, SessionEngine, Settings, Show, SmallEngine};
-pub use rows::Request;
+pub use rows::{Command, Request, command_name};

@@ -7,7 +7,7 @@ ghost use Rattle.word_list.specs.Rule.{IsBadWord, StopsAt};
 ghost use Rattle.word_list.specs.Steps.{AreOf};
 
 use crate::request::{BadWord, Settings};
-use crate::rows::{Kind, Request, request_of, row_named};
+use crate::rows::{Kind, Request, row_named};
 use crate::settings::{can_load, chosen, settled, table_file};
 
 /// The call that the words spell, or the number of the word that no call has there.
@@ -18,8 +18,7 @@ pub fn read_words(words: &[String]) -> Result<(Request<'_>, Settings), BadWord>
     // What is spelled so is read.
     ensures only { (call : Call) → call_of (map string_bytes words.now) ≡ Some call
         → IsOkAnd result (λ read. called read.0 read.1 ≡ call) }
-    // The sides of a map that is to be made are sides of a map, and a table file is named beside the engine
-    // that searches by tables alone.
+    // A table file is named beside the engine that searches by tables alone.
     ensures sound { IfOk result (λ read. IsSound read.0 read.1) }
     // A refusal names the bad word.
     ensures refused { IfErr result (λ bad. IsBadWord is_call (map string_bytes words.now) bad.0) }
@@ -77,7 +76,12 @@ fn read_after<'a>(name: &str, words: &'a [String]) -> Result<(Request<'a>, Setti
     if more < rest.len() || !can_load(tables, settings) {
         return Err(BadWord((taken + more) as u32 + 2));
     }
-    Ok((request_of(row.command, words, tables), settings))
+    let request = Request {
+        command: row.command,
+        words: &words[..taken],
+        tables,
+    };
+    Ok((request, settings))
 }
 
 /// How many of the words are of these kinds, one after the other.

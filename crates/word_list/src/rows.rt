@@ -1,18 +1,18 @@
-//! The table of commands, and the requests that their words make.
+//! The table of commands, and what the words of a call are.
 
 ghost use Rattle.std.specs.Prelude.{◌≡◌, ◌≤◌, true, length, map, string_bytes, Some, IfSome, slice_get};
 ghost use Rattle.std.specs.Option.{option_copied, option_map};
-ghost use Rattle.word_list.specs.declared.request.Settings.{Settings};
-ghost use Rattle.word_list.specs.Request.{IsSound, asked, asked_by, row_data, row_of};
-ghost use Rattle.word_list.specs.Settings.{can_load};
+ghost use Rattle.word_list.specs.Request.{row_data, row_in, row_of, rows, told_row};
 ghost use Rattle.word_list.specs.Steps.{is_one_of};
 ghost use Rattle.word_list.specs.Kinds.{is_of, word_at, number_at as spelled_at, seed_at as spelled_seed_at, side_of as spelled_side, side_at as spelled_side_at, percent_of as spelled_percent, percent_at as spelled_percent_at, count_of as spelled_count, count_at as spelled_count_at};
 
 use crate::settings::Family;
+use Family::{Counts, Drawing, Engine, Rule, Show, SmallMap, TableFile};
+use Kind::{Count, File, Number, Percent, Seed, Side};
 use text_line::long_number;
 
-/// A command.
-#[derive(Clone, Copy)]
+/// A command; its row says what it does.
+#[derive(Clone, Copy, Debug)]
 pub enum Command {
     Query,
     Solve,
@@ -34,113 +34,65 @@ pub enum Command {
     Version,
 }
 
-/// A request, with the names of files as they stand among the words. Where a request may name a table file,
-/// `tables` is its name: the session then begins with the tables of that file.
+/// What a call asks for: a command, the words that it takes, and the name of a table file, where one is
+/// named: the session then begins with the tables of that file. As `read_words` gives it, each word is of the
+/// kind that the command's row has there.
 #[derive(Clone, Copy)]
-pub enum Request<'a> {
-    /// How the program is called.
-    Help,
-    /// The program's name and version.
-    Version,
-    /// A least walk on the map between two cells, each by its column and its row from 0.
-    Query {
-        map: &'a str,
-        tables: Option<&'a str>,
-        sx: u32,
-        sy: u32,
-        gx: u32,
-        gy: u32,
-    },
-    /// What each command of the script does on the map.
-    Solve {
-        map: &'a str,
-        tables: Option<&'a str>,
-        script: &'a str,
-    },
-    /// What each command of a script that comes in does on the map.
-    Live {
-        map: &'a str,
-        tables: Option<&'a str>,
-    },
-    /// How the listed lengths of the scenario agree with the least ones on the map.
-    Scen {
-        map: &'a str,
-        tables: Option<&'a str>,
-        scen: &'a str,
-    },
-    /// How the walks that another program tells for the scenario are judged by the least ones on the
-    /// map.
-    Judge {
-        map: &'a str,
-        scen: &'a str,
-        walks: &'a str,
-    },
-    /// A certificate of the least cost of the walks on the map between two cells, or that there is
-    /// none.
-    Prove {
-        map: &'a str,
-        sx: u32,
-        sy: u32,
-        gx: u32,
-        gy: u32,
-    },
-    /// Whether the certificate proves what it claims on the map.
-    Check {
-        map: &'a str,
-        cert: &'a str,
-    },
-    /// The map of a seed with these sides, 1 to 4096, of whose cells so many percent are blocked.
-    Make {
-        seed: u64,
-        w: u16,
-        h: u16,
-        percent: u8,
-    },
-    /// What the commands of a seed come to on the map of the seed.
-    Drill {
-        seed: u64,
-    },
-    /// A picture of a least walk on the map between two cells.
-    Draw {
-        map: &'a str,
-        sx: u32,
-        sy: u32,
-        gx: u32,
-        gy: u32,
-    },
-    /// The least costs on the map from a cell to each cell.
-    Costs {
-        map: &'a str,
-        x: u32,
-        y: u32,
-    },
-    /// The tables of the map's two grids, as bytes.
-    Tables {
-        map: &'a str,
-    },
-    /// The goal boxes of a cell, one for each direction.
-    Boxes {
-        map: &'a str,
-        x: u32,
-        y: u32,
-    },
-    /// The first moves from a cell to each cell, in runs.
-    Moves {
-        map: &'a str,
-        x: u32,
-        y: u32,
-    },
-    /// The scenario with the least lengths on the map.
-    Lengths {
-        map: &'a str,
-        scen: &'a str,
-    },
-    /// A scenario of so many entries, 1 to 100000, between cells of the map that come from a seed.
-    Problems {
-        map: &'a str,
-        seed: u64,
-        count: u32,
-    },
+pub struct Request<'a> {
+    pub command: Command,
+    pub words: &'a [String],
+    pub tables: Option<&'a str>,
+}
+
+impl<'a> Request<'a> {
+    /// The word at the place, from 0; the empty one past the end.
+    pub fn name(self, place: usize) -> &'a str
+        ensures { result.now ≡ word_at (map string_bytes self.entry.words.now) place }
+    {
+        match self.words.get(place) {
+            Some(word) => word.as_str(),
+            None => "",
+        }
+    }
+
+    /// The number at the place, from 0; 0 where there is none.
+    pub fn number(self, place: usize) -> u32
+        ensures { result ≡ spelled_at (map string_bytes self.entry.words.now) place }
+    {
+        text_line::number(self.name(place).as_bytes()).unwrap_or(0)
+    }
+
+    /// The seed at the place, from 0; 0 where there is none.
+    pub fn seed(self, place: usize) -> u64
+        ensures { result ≡ spelled_seed_at (map string_bytes self.entry.words.now) place }
+    {
+        long_number(self.name(place).as_bytes()).unwrap_or(0)
+    }
+
+    /// The side of a map at the place, from 0; 1 where there is none.
+    pub fn side(self, place: usize) -> u16
+        ensures spelled { result ≡ spelled_side_at (map string_bytes self.entry.words.now) place }
+        ensures some { 1 ≤ result }
+        ensures most { result ≤ 4096 }
+    {
+        side_of(self.name(place)).unwrap_or(1)
+    }
+
+    /// The percentage at the place, from 0; 0 where there is none.
+    pub fn percent(self, place: usize) -> u8
+        ensures { result ≡ spelled_percent_at (map string_bytes self.entry.words.now) place }
+    {
+        percent_of(self.name(place)).unwrap_or(0)
+    }
+
+    /// The number of entries at the place, from 0; 1 where there is none.
+    pub fn count(self, place: usize) -> u32
+        ensures spelled { result ≡ spelled_count_at (map string_bytes self.entry.words.now) place }
+        ensures some { 1 ≤ result }
+        ensures most { result ≤ 100000 }
+    {
+        count_of(self.name(place)).unwrap_or(1)
+    }
 }
 
 /// The side of a map that the word spells, if it is one: a number from 1 to 4096.
@@ -216,6 +168,191 @@ impl Kind {
     }
 }
 
+/// What the table of commands tells of one: its name, what it names, the kinds of the words that it takes,
+/// the settings that it allows behind these, and how help calls its words and says what it does, line by line.
+type Told = (
+    &'static str,
+    Command,
+    &'static [Kind],
+    &'static [Family],
+    &'static str,
+    &'static [&'static str],
+);
+
+/// The commands, in the order of help.
+static ROWS: [Told; 18] = [
+    (
+        "query",
+        Command::Query,
+        &[File, Number, Number, Number, Number],
+        &[Engine, SmallMap, TableFile, Show, Rule],
+        "MAP SX SY GX GY",
+        &["a least walk from the cell (SX,SY) to the cell (GX,GY) on the map"],
+    ),
+    (
+        "solve",
+        Command::Solve,
+        &[File, File],
+        &[Engine, TableFile, Show, Rule],
+        "MAP SCRIPT",
+        &["one line for each command of the script: edits of the map, and queries"],
+    ),
+    (
+        "live",
+        Command::Live,
+        &[File],
+        &[Engine, TableFile, Show, Rule],
+        "MAP",
+        &["the same for a script on standard input, each command answered as it comes"],
+    ),
+    (
+        "scen",
+        Command::Scen,
+        &[File, File],
+        &[Engine, SmallMap, TableFile, Counts, Rule],
+        "MAP SCEN",
+        &[
+            "a row for each entry of the scenario, its length judged by the least cost, and their sum; with show=taken",
+            "also how many states each search took",
+        ],
+    ),
+    (
+        "judge",
+        Command::Judge,
+        &[File, File, File],
+        &[Rule],
+        "MAP SCEN WALKS",
+        &[
+            "a row for each entry: the walk that another program tells of it accepted, or why not, and their sum",
+        ],
+    ),
+    (
+        "lengths",
+        Command::Lengths,
+        &[File, File],
+        &[Rule],
+        "MAP SCEN",
+        &["the scenario again, with the least length of each entry that has a walk"],
+    ),
+    (
+        "problems",
+        Command::Problems,
+        &[File, Seed, Count],
+        &[Rule],
+        "MAP SEED N",
+        &[
+            "a scenario of N entries between free cells of the map that a walk joins, made from the number SEED",
+        ],
+    ),
+    (
+        "prove",
+        Command::Prove,
+        &[File, Number, Number, Number, Number],
+        &[Rule],
+        "MAP SX SY GX GY",
+        &["a certificate that the cost of a least walk is least, or that there is no walk"],
+    ),
+    (
+        "check",
+        Command::Check,
+        &[File, File],
+        &[Rule],
+        "MAP CERT",
+        &["whether the certificate proves what it claims on the map; nothing is searched"],
+    ),
+    (
+        "make",
+        Command::Make,
+        &[Seed, Side, Side, Percent],
+        &[],
+        "SEED W H P",
+        &["a map of W by H cells, P percent of them blocked, made from the number SEED"],
+    ),
+    (
+        "drill",
+        Command::Drill,
+        &[Seed],
+        &[Engine, Rule],
+        "SEED",
+        &[
+            "150 edits and queries on the map of SEED, summed up in one line that is the same by each engine",
+        ],
+    ),
+    (
+        "draw",
+        Command::Draw,
+        &[File, Number, Number, Number, Number],
+        &[Engine, Drawing, Rule],
+        "MAP SX SY GX GY",
+        &[
+            "a picture (SVG) of the map and of a least walk, and with show=trace of the cells of the taken states",
+        ],
+    ),
+    (
+        "costs",
+        Command::Costs,
+        &[File, Number, Number],
+        &[Rule],
+        "MAP X Y",
+        &[
+            "the least cost from the cell (X,Y) to each cell, a line for each row: `A,B`, or `-` where no walk leads",
+        ],
+    ),
+    (
+        "tables",
+        Command::Tables,
+        &[File],
+        &[Rule],
+        "MAP",
+        &["the tables of the engine plus as bytes, for other programs"],
+    ),
+    (
+        "boxes",
+        Command::Boxes,
+        &[File, Number, Number],
+        &[Rule],
+        "MAP X Y",
+        &[
+            "for each direction the least box of cells to which some least walk from the cell (X,Y) begins so",
+        ],
+    ),
+    (
+        "moves",
+        Command::Moves,
+        &[File, Number, Number],
+        &[Rule],
+        "MAP X Y",
+        &[
+            "the first move from the cell (X,Y) to each cell, a line for each run of cells with one first move",
+        ],
+    ),
+    ("--help", Command::Help, &[], &[], "", &["this text"]),
+    (
+        "--version",
+        Command::Version,
+        &[],
+        &[],
+        "",
+        &["the version"],
+    ),
+];
+
+/// The name of the command whose row stands at the place in the table, from 0; none past the last row.
+pub fn command_name(place: usize) -> Option<&'static str>
+    ensures { option_copied result ≡ option_map (λ row. row.name) (slice_get rows place) }
+{
+    name_among(&ROWS, place)
+}
+
+// Proofs go through any table, as that of all commands would be spelled out in them.
+
+/// The name of the row at the place among some.
+fn name_among(rows: &[Told], place: usize) -> Option<&'static str>
+    ensures { option_copied result ≡ option_map (λ row. row.name) (slice_get (map told_row rows.now) place) }
+{
+    Some(rows.get(place)?.0)
+}
+
 /// A command, the kinds of the words that it takes after its name, and the settings that it allows
 /// after these.
 #[derive(Clone, Copy)]
@@ -230,194 +367,21 @@ pub fn row_named(name: &str) -> Option<Row>
     ensures row { option_map row_data result ≡ row_of name.now }
     ensures few { IfSome result (λ row. length row.takes.now ≤ 8) }
 {
-    use Family::{Counts, Drawing, Engine, Rule, Show, SmallMap, TableFile};
-    use Kind::{Count, File, Number, Percent, Seed, Side};
-    let (command, takes, allows): (Command, &[Kind], &[Family]) = match name {
-        "query" => (
-            Command::Query,
-            &[File, Number, Number, Number, Number],
-            &[Engine, SmallMap, TableFile, Show, Rule],
-        ),
-        "solve" => (
-            Command::Solve,
-            &[File, File],
-            &[Engine, TableFile, Show, Rule],
-        ),
-        "live" => (Command::Live, &[File], &[Engine, TableFile, Show, Rule]),
-        "scen" => (
-            Command::Scen,
-            &[File, File],
-            &[Engine, SmallMap, TableFile, Counts, Rule],
-        ),
-        "judge" => (Command::Judge, &[File, File, File], &[Rule]),
-        "lengths" => (Command::Lengths, &[File, File], &[Rule]),
-        "problems" => (Command::Problems, &[File, Seed, Count], &[Rule]),
-        "prove" => (
-            Command::Prove,
-            &[File, Number, Number, Number, Number],
-            &[Rule],
-        ),
-        "check" => (Command::Check, &[File, File], &[Rule]),
-        "make" => (Command::Make, &[Seed, Side, Side, Percent], &[]),
-        "drill" => (Command::Drill, &[Seed], &[Engine, Rule]),
-        "draw" => (
-            Command::Draw,
-            &[File, Number, Number, Number, Number],
-            &[Engine, Drawing, Rule],
-        ),
-        "costs" => (Command::Costs, &[File, Number, Number], &[Rule]),
-        "tables" => (Command::Tables, &[File], &[Rule]),
-        "boxes" => (Command::Boxes, &[File, Number, Number], &[Rule]),
-        "moves" => (Command::Moves, &[File, Number, Number], &[Rule]),
-        "--help" => (Command::Help, &[], &[]),
-        "--version" => (Command::Version, &[], &[]),
-        _ => return None,
-    };
-    Some(Row {
-        command,
-        takes,
-        allows,
-    })
+    row_among(&ROWS, name)
 }
 
-/// What the command asks for by the words after its name, which are of its kinds, and by the name of the
-/// table file that its settings tell.
-pub fn request_of<'a>(command: Command, words: &'a [String], tables: Option<&'a str>) -> Request<'a>
-    ensures asked { asked result ≡ asked_by command (map string_bytes words.now) (option_copied tables.entry) }
-    ensures sound { (set : Settings) → can_load (option_copied tables.entry) set ≡ true → IsSound result set }
+/// The first row of this name among some.
+fn row_among(rows: &[Told], name: &str) -> Option<Row>
+    ensures { option_map row_data result ≡ row_in (map told_row rows.now) name.now }
 {
-    match command {
-        Command::Help => Request::Help,
-        Command::Version => Request::Version,
-        Command::Query => Request::Query {
-            map: name_at(words, 0),
-            tables,
-            sx: number_at(words, 1),
-            sy: number_at(words, 2),
-            gx: number_at(words, 3),
-            gy: number_at(words, 4),
-        },
-        Command::Solve => Request::Solve {
-            map: name_at(words, 0),
-            tables,
-            script: name_at(words, 1),
-        },
-        Command::Live => Request::Live {
-            map: name_at(words, 0),
-            tables,
-        },
-        Command::Scen => Request::Scen {
-            map: name_at(words, 0),
-            tables,
-            scen: name_at(words, 1),
-        },
-        Command::Judge => Request::Judge {
-            map: name_at(words, 0),
-            scen: name_at(words, 1),
-            walks: name_at(words, 2),
-        },
-        Command::Prove => Request::Prove {
-            map: name_at(words, 0),
-            sx: number_at(words, 1),
-            sy: number_at(words, 2),
-            gx: number_at(words, 3),
-            gy: number_at(words, 4),
-        },
-        Command::Check => Request::Check {
-            map: name_at(words, 0),
-            cert: name_at(words, 1),
-        },
-        Command::Make => Request::Make {
-            seed: seed_at(words, 0),
-            w: side_at(words, 1),
-            h: side_at(words, 2),
-            percent: percent_at(words, 3),
-        },
-        Command::Drill => Request::Drill {
-            seed: seed_at(words, 0),
-        },
-        Command::Draw => Request::Draw {
-            map: name_at(words, 0),
-            sx: number_at(words, 1),
-            sy: number_at(words, 2),
-            gx: number_at(words, 3),
-            gy: number_at(words, 4),
-        },
-        Command::Costs => Request::Costs {
-            map: name_at(words, 0),
-            x: number_at(words, 1),
-            y: number_at(words, 2),
-        },
-        Command::Tables => Request::Tables {
-            map: name_at(words, 0),
-        },
-        Command::Boxes => Request::Boxes {
-            map: name_at(words, 0),
-            x: number_at(words, 1),
-            y: number_at(words, 2),
-        },
-        Command::Moves => Request::Moves {
-            map: name_at(words, 0),
-            x: number_at(words, 1),
-            y: number_at(words, 2),
-        },
-        Command::Lengths => Request::Lengths {
-            map: name_at(words, 0),
-            scen: name_at(words, 1),
-        },
-        Command::Problems => Request::Problems {
-            map: name_at(words, 0),
-            seed: seed_at(words, 1),
-            count: count_at(words, 2),
-        },
+    for (known, command, takes, allows, _, _) in rows {
+        if name == *known {
+            return Some(Row {
+                command: *command,
+                takes,
+                allows,
+            });
+        }
     }
-}
-
-/// The word at the place, from 0; the empty one past the end.
-fn name_at(words: &[String], place: usize) -> &str
-    ensures { result.now ≡ word_at (map string_bytes words.now) place }
-{
-    match words.get(place) {
-        Some(word) => word.as_str(),
-        None => "",
-    }
-}
-
-/// The number at the place, from 0; 0 where there is none.
-fn number_at(words: &[String], place: usize) -> u32
-    ensures { result ≡ spelled_at (map string_bytes words.now) place }
-{
-    text_line::number(name_at(words, place).as_bytes()).unwrap_or(0)
-}
-
-/// The seed at the place, from 0; 0 where there is none.
-fn seed_at(words: &[String], place: usize) -> u64
-    ensures { result ≡ spelled_seed_at (map string_bytes words.now) place }
-{
-    long_number(name_at(words, place).as_bytes()).unwrap_or(0)
-}
-
-/// The side of a map at the place, from 0; 1 where there is none.
-fn side_at(words: &[String], place: usize) -> u16
-    ensures spelled { result ≡ spelled_side_at (map string_bytes words.now) place }
-    ensures some { 1 ≤ result }
-    ensures most { result ≤ 4096 }
-{
-    side_of(name_at(words, place)).unwrap_or(1)
-}
-
-/// The percentage at the place, from 0; 0 where there is none.
-fn percent_at(words: &[String], place: usize) -> u8
-    ensures { result ≡ spelled_percent_at (map string_bytes words.now) place }
-{
-    percent_of(name_at(words, place)).unwrap_or(0)
-}
-
-/// The number of entries at the place, from 0; 1 where there is none.
-fn count_at(words: &[String], place: usize) -> u32
-    ensures spelled { result ≡ spelled_count_at (map string_bytes words.now) place }
-    ensures some { 1 ≤ result }
-    ensures most { result ≤ 100000 }
-{
-    count_of(name_at(words, place)).unwrap_or(1)
+    None
 }

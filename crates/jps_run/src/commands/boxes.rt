@@ -1,7 +1,8 @@
 //! The command `boxes`: the goal boxes of one cell.
 
 ghost use Rattle.std.specs.Prelude.{◌≡◌};
-ghost use Rattle.word_list.specs.Request as asked;
+ghost use Rattle.word_list.specs.Request.{asking};
+ghost use Rattle.word_list.specs.declared.rows.Command.TheVariants as command;
 ghost use Rattle.jps_run.specs.Calls.{call_with};
 ghost use Rattle.jps_run.specs.Opened.{OpensWork};
 
@@ -11,21 +12,22 @@ use grid_answers::boxes_at;
 use io_edge::Files;
 use line_work::Stop;
 use std::alloc::Global;
-use word_list::Settings;
+use word_list::{Request, Settings};
 
 /// Makes one pass over a map of at most 2^14 cells, and opens the lines of what it found.
 pub(crate) fn boxes<F: Files>(
     alloc: Global,
-    files: &mut F,
-    map: &str,
-    x: u32,
-    y: u32,
+    request: Request<'_>,
     settings: Settings,
+    files: &mut F,
 ) -> Result<Work, Stop>
-    ensures opened { OpensWork (call_with (asked.Boxes map.now x y) settings)
+    ensures opened { OpensWork (call_with (asking command.Boxes request.entry) settings)
         (F.disk files.old) (F.disk files.new) result }
     ensures unchanged { (F.disk files.new).holds ≡ (F.disk files.old).holds }
 {
+    let map = request.name(0);
+    let x = request.number(1);
+    let y = request.number(2);
     let small: SmallLayers = open_one(alloc, files, map, settings)?;
     let text = boxes_at(alloc, &small.layers, x, y)?;
     Ok(Work::Print { text, status: 0 })

@@ -1,7 +1,8 @@
 //! The command `costs`: the least cost from one cell to each cell.
 
 ghost use Rattle.std.specs.Prelude.{◌≡◌};
-ghost use Rattle.word_list.specs.Request as asked;
+ghost use Rattle.word_list.specs.Request.{asking};
+ghost use Rattle.word_list.specs.declared.rows.Command.TheVariants as command;
 ghost use Rattle.jps_run.specs.Calls.{call_with};
 ghost use Rattle.jps_run.specs.Opened.{OpensWork};
 
@@ -12,21 +13,22 @@ use grid_moves::Layers;
 use io_edge::Files;
 use line_work::Stop;
 use std::alloc::Global;
-use word_list::Settings;
+use word_list::{Request, Settings};
 
 /// Makes one pass over the map, and opens the lines of what it found.
 pub(crate) fn costs<F: Files>(
     alloc: Global,
-    files: &mut F,
-    map: &str,
-    x: u32,
-    y: u32,
+    request: Request<'_>,
     settings: Settings,
+    files: &mut F,
 ) -> Result<Work, Stop>
-    ensures opened { OpensWork (call_with (asked.Costs map.now x y) settings)
+    ensures opened { OpensWork (call_with (asking command.Costs request.entry) settings)
         (F.disk files.old) (F.disk files.new) result }
     ensures unchanged { (F.disk files.new).holds ≡ (F.disk files.old).holds }
 {
+    let map = request.name(0);
+    let x = request.number(1);
+    let y = request.number(2);
     let layers: Layers = open_one(alloc, files, map, settings)?;
     let lines = costs_at(alloc, &layers, x, y)?;
     Ok(Work::Costs(lines))

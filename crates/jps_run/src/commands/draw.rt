@@ -1,31 +1,33 @@
 //! The command `draw`: a picture of a query.
 
 ghost use Rattle.std.specs.Prelude.{◌≡◌};
-ghost use Rattle.word_list.specs.Request as asked;
+ghost use Rattle.word_list.specs.Request.{asking};
+ghost use Rattle.word_list.specs.declared.rows.Command.TheVariants as command;
 ghost use Rattle.jps_run.specs.Calls.{call_with};
 ghost use Rattle.jps_run.specs.Opened.{OpensWork};
 
+use crate::commands::ends_of;
 use crate::replies::Canvas;
 use crate::work::Work;
 use call_files::open_one;
-use cell_lines::Ends;
 use io_edge::Files;
 use line_work::Stop;
 use std::alloc::Global;
-use word_list::Settings;
+use word_list::{Request, Settings};
 
 /// Opens the picture of a query.
 pub(crate) fn draw<F: Files>(
     alloc: Global,
-    files: &mut F,
-    map: &str,
-    ends: Ends,
+    request: Request<'_>,
     settings: Settings,
+    files: &mut F,
 ) -> Result<Work, Stop>
-    ensures opened { OpensWork (call_with (asked.Draw map.now ends.sx ends.sy ends.gx ends.gy) settings)
+    ensures opened { OpensWork (call_with (asking command.Draw request.entry) settings)
         (F.disk files.old) (F.disk files.new) result }
     ensures unchanged { (F.disk files.new).holds ≡ (F.disk files.old).holds }
 {
+    let map = request.name(0);
+    let ends = ends_of(request);
     let canvas: Canvas = open_one(alloc, files, map, settings)?;
     Ok(Work::Draw {
         canvas,

@@ -2,7 +2,8 @@
 //! sums that is the same whatever the engine.
 
 ghost use Rattle.std.specs.Prelude.{[], IfOk};
-ghost use Rattle.word_list.specs.Request as asked;
+ghost use Rattle.word_list.specs.Request.{asking};
+ghost use Rattle.word_list.specs.declared.rows.Command.TheVariants as command;
 ghost use Rattle.jps_run.specs.Calls.{call_with};
 ghost use Rattle.jps_run.specs.Opened.{IsWorkOf};
 
@@ -11,7 +12,7 @@ use crate::replies::{Summary, Sums, session_on};
 use crate::work::Work;
 use map_maker::drill_script;
 use std::alloc::Global;
-use word_list::Settings;
+use word_list::{Request, Settings};
 
 /// The side of a drill's map, in cells.
 const SIDE: u16 = 256;
@@ -20,9 +21,14 @@ const SIDE: u16 = 256;
 const PERCENT: u8 = 25;
 
 /// Makes the session and the commands of a seed.
-pub(crate) fn drill(alloc: Global, seed: u64, settings: Settings) -> Result<Work, NoMemory>
-    ensures { IfOk result (IsWorkOf (call_with (asked.Drill seed) settings) []) }
+pub(crate) fn drill(
+    alloc: Global,
+    request: Request<'_>,
+    settings: Settings,
+) -> Result<Work, NoMemory>
+    ensures { IfOk result (IsWorkOf (call_with (asking command.Drill request.entry) settings) []) }
 {
+    let seed = request.seed(0);
     let map = map_maker::make(alloc, seed, SIDE, SIDE, PERCENT)?;
     let session = session_on(alloc, &map, settings)?;
     let commands = drill_script(alloc, seed)?;

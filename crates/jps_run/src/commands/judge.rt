@@ -1,7 +1,8 @@
 //! The command `judge`: what another program tells for a scenario, judged.
 
 ghost use Rattle.std.specs.Prelude.{◌≡◌};
-ghost use Rattle.word_list.specs.Request as asked;
+ghost use Rattle.word_list.specs.Request.{asking};
+ghost use Rattle.word_list.specs.declared.rows.Command.TheVariants as command;
 ghost use Rattle.jps_run.specs.Calls.{call_with};
 ghost use Rattle.jps_run.specs.Opened.{OpensWork};
 
@@ -10,21 +11,22 @@ use crate::work::Work;
 use io_edge::Files;
 use line_work::Stop;
 use std::alloc::Global;
-use word_list::Settings;
+use word_list::{Request, Settings};
 
 /// Opens a scenario and what is told of its entries.
 pub(crate) fn judge<F: Files>(
     alloc: Global,
-    files: &mut F,
-    map: &str,
-    scen: &str,
-    walks: &str,
+    request: Request<'_>,
     settings: Settings,
+    files: &mut F,
 ) -> Result<Work, Stop>
-    ensures opened { OpensWork (call_with (asked.Judge map.now scen.now walks.now) settings)
+    ensures opened { OpensWork (call_with (asking command.Judge request.entry) settings)
         (F.disk files.old) (F.disk files.new) result }
     ensures unchanged { (F.disk files.new).holds ≡ (F.disk files.old).holds }
 {
+    let map = request.name(0);
+    let scen = request.name(1);
+    let walks = request.name(2);
     let Case {
         costs,
         entries,

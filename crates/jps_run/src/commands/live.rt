@@ -1,35 +1,28 @@
 //! The command `live`: the answers to a script that comes in.
 
-ghost use Rattle.std.specs.Prelude.{◌≡◌, true};
-ghost use Rattle.std.specs.Option.{option_copied};
-ghost use Rattle.call_files.specs.MapFiles.{map_files};
-ghost use Rattle.call_files.specs.Reading.{open_stops};
-ghost use Rattle.line_work.specs.Stops.{Ends};
-ghost use Rattle.word_list.specs.Request as asked;
-ghost use Rattle.word_list.specs.Settings as words;
+ghost use Rattle.std.specs.Prelude.{◌≡◌};
+ghost use Rattle.word_list.specs.Request.{IsSound, asking};
+ghost use Rattle.word_list.specs.declared.rows.Command.TheVariants as command;
 ghost use Rattle.jps_run.specs.Calls.{call_with};
-ghost use Rattle.jps_run.specs.Opened.{IsListener};
+ghost use Rattle.jps_run.specs.Opened.{OpensListener};
 
 use crate::replies::{Answers, open_answers};
 use io_edge::Files;
 use line_work::Stop;
 use std::alloc::Global;
-use word_list::Settings;
+use word_list::{Request, Settings};
 
 /// Opens a session that answers what comes in.
 pub(crate) fn live<F: Files>(
     alloc: Global,
-    files: &mut F,
-    map: &str,
-    tables: Option<&str>,
+    request: Request<'_>,
     settings: Settings,
+    files: &mut F,
 ) -> Result<Answers, Stop>
-    requires { words.can_load (option_copied tables) settings ≡ true }
-    ensures opened { Ends (IsListener (call_with (asked.Live map.now (option_copied tables.entry)) settings)
-        (F.disk files.old).holds)
-        (open_stops (F.disk files.old) (F.disk files.new)
-        (map_files settings map.now (option_copied tables.entry))) result }
+    requires { IsSound request settings }
+    ensures opened { OpensListener (call_with (asking command.Live request.entry) settings)
+        (F.disk files.old) (F.disk files.new) result }
     ensures unchanged { (F.disk files.new).holds ≡ (F.disk files.old).holds }
 {
-    open_answers(alloc, files, map, tables, settings)
+    open_answers(alloc, files, request.name(0), request.tables, settings)
 }

@@ -1,7 +1,8 @@
 //! The command `problems`: a scenario from a number.
 
 ghost use Rattle.std.specs.Prelude.{◌≡◌};
-ghost use Rattle.word_list.specs.Request as asked;
+ghost use Rattle.word_list.specs.Request.{asking};
+ghost use Rattle.word_list.specs.declared.rows.Command.TheVariants as command;
 ghost use Rattle.jps_run.specs.Calls.{call_with};
 ghost use Rattle.jps_run.specs.Opened.{OpensWork};
 
@@ -11,21 +12,22 @@ use io_edge::Files;
 use line_work::{Printed, Stop};
 use scen_maker::{LeastCosts, problems_text};
 use std::alloc::Global;
-use word_list::Settings;
+use word_list::{Request, Settings};
 
 /// Makes so many problems on the map. Each is searched before the first byte is written.
 pub(crate) fn problems<F: Files>(
     alloc: Global,
-    files: &mut F,
-    map: &str,
-    seed: u64,
-    count: u32,
+    request: Request<'_>,
     settings: Settings,
+    files: &mut F,
 ) -> Result<Work, Stop>
-    ensures opened { OpensWork (call_with (asked.Problems map.now seed count) settings)
+    ensures opened { OpensWork (call_with (asking command.Problems request.entry) settings)
         (F.disk files.old) (F.disk files.new) result }
     ensures unchanged { (F.disk files.new).holds ≡ (F.disk files.old).holds }
 {
+    let map = request.name(0);
+    let seed = request.seed(1);
+    let count = request.count(2);
     let mut costs: LeastCosts = open_one(alloc, files, map, settings)?;
     let printed = problems_text(alloc, &mut costs, map.as_bytes(), seed, count)?;
     let Printed { text, status } = printed;

@@ -1,9 +1,8 @@
 //! The command `scen`: the rows that judge a scenario, and their sum.
 
-ghost use Rattle.std.specs.Prelude.{◌≡◌, true};
-ghost use Rattle.std.specs.Option.{option_copied};
-ghost use Rattle.word_list.specs.Request as asked;
-ghost use Rattle.word_list.specs.Settings as words;
+ghost use Rattle.std.specs.Prelude.{◌≡◌};
+ghost use Rattle.word_list.specs.Request.{IsSound, asking};
+ghost use Rattle.word_list.specs.declared.rows.Command.TheVariants as command;
 ghost use Rattle.jps_run.specs.Opened.{OpensWork};
 ghost use Rattle.jps_run.specs.Calls.{call_with};
 
@@ -14,23 +13,23 @@ use io_edge::Files;
 use line_work::Stop;
 use scen_text::Entry;
 use std::alloc::Global;
-use word_list::Settings;
+use word_list::{Request, Settings};
 
 /// Opens a scenario. By an engine for small maps all boxes or first moves are made once, behind both files.
 pub(crate) fn scen<F: Files>(
     alloc: Global,
-    files: &mut F,
-    map: &str,
-    tables: Option<&str>,
-    name: &str,
+    request: Request<'_>,
     settings: Settings,
+    files: &mut F,
 ) -> Result<Work, Stop>
-    requires { words.can_load (option_copied tables) settings ≡ true }
-    ensures opened { OpensWork (call_with (asked.Scen map.now (option_copied tables.entry) name.now) settings)
+    requires { IsSound request settings }
+    ensures opened { OpensWork (call_with (asking command.Scen request.entry) settings)
         (F.disk files.old) (F.disk files.new) result }
     ensures unchanged { (F.disk files.new).holds ≡ (F.disk files.old).holds }
 {
-    let basis = open_basis(alloc, files, map, tables, settings)?;
+    let map = request.name(0);
+    let name = request.name(1);
+    let basis = open_basis(alloc, files, map, request.tables, settings)?;
     let entries: Vec<Entry> = read_file(alloc, files, name, &())?;
     let answerer = Answerer::new(alloc, basis)?;
     let job = Scen {

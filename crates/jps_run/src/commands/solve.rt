@@ -1,9 +1,8 @@
 //! The command `solve`: the answers to a script.
 
-ghost use Rattle.std.specs.Prelude.{◌≡◌, true};
-ghost use Rattle.std.specs.Option.{option_copied};
-ghost use Rattle.word_list.specs.Request as asked;
-ghost use Rattle.word_list.specs.Settings as words;
+ghost use Rattle.std.specs.Prelude.{◌≡◌};
+ghost use Rattle.word_list.specs.Request.{IsSound, asking};
+ghost use Rattle.word_list.specs.declared.rows.Command.TheVariants as command;
 ghost use Rattle.jps_run.specs.Opened.{OpensWork};
 ghost use Rattle.jps_run.specs.Calls.{call_with};
 
@@ -14,23 +13,23 @@ use io_edge::Files;
 use line_work::Stop;
 use script_text::Command;
 use std::alloc::Global;
-use word_list::Settings;
+use word_list::{Request, Settings};
 
 /// Opens a script, which is read behind the files of its session.
 pub(crate) fn solve<F: Files>(
     alloc: Global,
-    files: &mut F,
-    map: &str,
-    tables: Option<&str>,
-    script: &str,
+    request: Request<'_>,
     settings: Settings,
+    files: &mut F,
 ) -> Result<Work, Stop>
-    requires { words.can_load (option_copied tables) settings ≡ true }
-    ensures opened { OpensWork (call_with (asked.Solve map.now (option_copied tables.entry) script.now) settings)
+    requires { IsSound request settings }
+    ensures opened { OpensWork (call_with (asking command.Solve request.entry) settings)
         (F.disk files.old) (F.disk files.new) result }
     ensures unchanged { (F.disk files.new).holds ≡ (F.disk files.old).holds }
 {
-    let job = open_answers(alloc, files, map, tables, settings)?;
+    let map = request.name(0);
+    let script = request.name(1);
+    let job = open_answers(alloc, files, map, request.tables, settings)?;
     let commands: Vec<Command> = read_file(alloc, files, script, &())?;
     Ok(Work::Answer { job, commands })
 }

@@ -1,7 +1,8 @@
 //! The command `tables`: the tables of a map as bytes, for other programs.
 
 ghost use Rattle.std.specs.Prelude.{◌≡◌};
-ghost use Rattle.word_list.specs.Request as asked;
+ghost use Rattle.word_list.specs.Request.{asking};
+ghost use Rattle.word_list.specs.declared.rows.Command.TheVariants as command;
 ghost use Rattle.jps_run.specs.Calls.{call_with};
 ghost use Rattle.jps_run.specs.Opened.{OpensWork};
 
@@ -12,19 +13,20 @@ use grid_moves::Layers;
 use io_edge::Files;
 use line_work::Stop;
 use std::alloc::Global;
-use word_list::Settings;
+use word_list::{Request, Settings};
 
 /// Makes the tables of a map, and opens their file.
 pub(crate) fn tables<F: Files>(
     alloc: Global,
-    files: &mut F,
-    map: &str,
+    request: Request<'_>,
     settings: Settings,
+    files: &mut F,
 ) -> Result<Work, Stop>
-    ensures opened { OpensWork (call_with (asked.Tables map.now) settings)
+    ensures opened { OpensWork (call_with (asking command.Tables request.entry) settings)
         (F.disk files.old) (F.disk files.new) result }
     ensures unchanged { (F.disk files.new).holds ≡ (F.disk files.old).holds }
 {
+    let map = request.name(0);
     let layers: Layers = open_one(alloc, files, map, settings)?;
     let file = file_of(alloc, &layers)?;
     Ok(Work::Tables(file))

@@ -1,8 +1,8 @@
 use Rattle.std.proofs.Common.{refl, sym, ap, ◌∙◌, inl, inr}
 use Rattle.std.specs.Option.{option_map}
-use Rattle.std.proofs.lemmas.List.{drop-map, take_rest, length-map}
-use Rattle.word_list.specs.Request.{asked_by, row_data}
-use Rattle.word_list.proofs.Calls.{names_first, names_taken, names_setting, calls, told_by}
+use Rattle.std.proofs.lemmas.List.{drop-map, take-map, take_rest, length-map}
+use Rattle.word_list.specs.Request.{row_data}
+use Rattle.word_list.proofs.Calls.{names_first, names_taken, names_setting, asks_same, calls, told_by}
 use Rattle.word_list.proofs.reading.read_after.Goals.{then-more-rest-via-then-more-rest}
 use Rattle.word_list.proofs.reading.read_after.Goals.{then-more-rest-via-else-more-rest+then-not-can_load}
 use Rattle.word_list.proofs.reading.read_after.Goals as goal
@@ -34,5 +34,5 @@ returns-clause-told c =
     c.fitting-taken.ensures.count c.if-taken-row.false _ (rw (take_rest, drop-map) refl) c.settled-more.result
     c.settled-more.ensures.count (rw length-map c.if-more-rest.false)
     (told_by c.table_file-tables.ensures c.chosen-settings.ensures c.can_load.ensures
-    ∙ c.if-not-can_load.false) _ _
-    (c.request_of.ensures.asked ∙ ap (asked_by _ _) c.table_file-tables.ensures) c.chosen-settings.ensures
+    ∙ c.if-not-can_load.false) _ _ (asks_same (sym (take-map _ c.fitting-taken.result _)) c.table_file-tables.ensures)
+    c.chosen-settings.ensures

@@ -3,12 +3,12 @@ use Rattle.grid_moves.specs.Grid.{GridData}
 use Rattle.grid_moves.specs.Layers.{Layers, query_grid}
 use Rattle.call_files.specs.Layered.{layers_on}
 use Rattle.grid_answers.specs.Certificates.{IsVerdict}
-use Rattle.jps_run.specs.Calls.{IsAnswer}
+use Rattle.jps_run.specs.Calls.{IsAnswered}
 use Rattle.grid_answers.proofs.Printing.{small_verdict}
 use Rattle.jps_run.proofs.commands.check.check.Goals as goal
 
 pub returns-clause-opened : goal.returns-clause-opened
-unfolding IsAnswer
+unfolding IsAnswered
 returns-clause-opened g c =
     let r = c.in_ok-both.ensures.read in
     let cert = c.in_ok-both.both.1 in
@@ -17,7 +17,7 @@ returns-clause-opened g c =
     let verdict = subst (λ (g : GridData). IsVerdict g cert p.text.items p.status) grid c.in_ok-text.ensures in
     record {
       texts = r.text ∷ r.more ∷ [];
-      accepted = r.accepted;
+      accepted = rw (← c.name-map.ensures, ← c.name-cert.ensures) r.accepted;
       is = record {
         can = tt;
         right = λ lines status w. (

@@ -1,17 +1,16 @@
 use Rattle.std.proofs.Common.{◌≡◌, refl, subst, inl, [], ◌∷◌, arith}
 use Rattle.grid_moves.specs.Layers.{Layers}
 use Rattle.grid_answers.specs.Distances.{AreCosts}
-use Rattle.jps_run.specs.Calls.{IsAnswer}
+use Rattle.jps_run.specs.Calls.{IsAnswered}
 use Rattle.jps_run.proofs.commands.costs.costs.Goals as goal
 
 pub returns-clause-opened : goal.returns-clause-opened
-unfolding IsAnswer
+unfolding IsAnswered
 returns-clause-opened g c =
     let r = c.in_ok-layers.ensures.read in
-    let a = c.args in
     record {
       texts = r.text ∷ [];
-      accepted = (r.accepted, tt);
+      accepted = rw (← c.name-map.ensures) (r.accepted, tt);
       is = record {
         can = tt;
         right = λ lines status w.
@@ -26,7 +25,9 @@ returns-clause-opened g c =
                   read = r.spelled.spelled;
                   known = (
                     refl,
-                    subst (λ (ls : Layers). AreCosts ls (record { x = a.x; y = a.y }) lines) r.spelled.is are.1,
+                    rw (← c.number-x.ensures, ← c.number-y.ensures)
+                        (subst (λ (ls : Layers). AreCosts ls (record { x = c.number-x.result; y = c.number-y.result })
+                        lines) r.spelled.is are.1),
                   );
                 },
                 are.0,

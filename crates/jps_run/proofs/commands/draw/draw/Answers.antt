@@ -1,20 +1,20 @@
 use Rattle.std.proofs.Common.{refl, subst, inr, [], ◌∷◌}
 use Rattle.map_text.specs.Map.{Map}
-use Rattle.jps_run.specs.Calls.{HasSearched, IsAnswer}
+use Rattle.jps_run.specs.Calls.{HasSearched, IsAnswered}
 use Rattle.jps_run.specs.Pictures.{IsDrawing}
 use Rattle.jps_run.proofs.Opening.{prints}
 use Rattle.jps_run.proofs.Pictured.{small_drawing}
 use Rattle.jps_run.proofs.commands.draw.draw.Goals as goal
 
 pub returns-clause-opened : goal.returns-clause-opened
-unfolding IsAnswer HasSearched
+unfolding HasSearched IsAnswered
 returns-clause-opened g c =
-    let e = c.args.ends in
+    let e = c.ends_of-ends.result in
     let r = c.in_ok-canvas.ensures.read in
     let canvas = c.in_ok-canvas.canvas in
     record {
       texts = r.text ∷ [];
-      accepted = (r.accepted, tt);
+      accepted = rw (← c.name-map.ensures) (r.accepted, tt);
       is = record {
         can = tt;
         right = λ lines status w. (
@@ -22,8 +22,13 @@ returns-clause-opened g c =
           prints r.text r.spelled.map r.spelled.spelled w.text status (record {
             session = canvas.session;
             is = r.spelled.is.1;
-            known = subst (λ (m : Map). IsDrawing canvas.session m (record { x = e.sx; y = e.sy })
-                (record { x = e.gx; y = e.gy }) c.args.settings.show w.text status) r.spelled.is.0 w.is;
+            known = rw (
+              ← c.ends_of-ends.ensures.sx,
+              ← c.ends_of-ends.ensures.sy,
+              ← c.ends_of-ends.ensures.gx,
+              ← c.ends_of-ends.ensures.gy,
+            ) (subst (λ (m : Map). IsDrawing canvas.session m (record { x = e.sx; y = e.sy })
+                (record { x = e.gx; y = e.gy }) c.args.settings.show w.text status) r.spelled.is.0 w.is);
           }) lines status (w.all, refl),
         );
         counted = λ old new rose. inr (record {
@@ -32,7 +37,19 @@ returns-clause-opened g c =
           map = r.spelled.map;
           is = refl;
           read = r.spelled.spelled;
-          known = (refl, record { session = canvas.session; is = r.spelled.is.1; known = rose });
+          known = (
+            refl,
+            record {
+              session = canvas.session;
+              is = r.spelled.is.1;
+              known = rw (
+                ← c.ends_of-ends.ensures.sx,
+                ← c.ends_of-ends.ensures.sy,
+                ← c.ends_of-ends.ensures.gx,
+                ← c.ends_of-ends.ensures.gy,
+              ) rose;
+            },
+          );
         });
       };
     }

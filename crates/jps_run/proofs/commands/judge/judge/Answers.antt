@@ -1,12 +1,12 @@
 use Rattle.std.proofs.Common.{◌≤◌, refl, sym, subst, inl, [], ◌∷◌, arith}
 use Rattle.grid_moves.specs.Layers.{Layers}
-use Rattle.jps_run.specs.Calls.{IsAnswer}
+use Rattle.jps_run.specs.Calls.{IsAnswered}
 use Rattle.jps_run.specs.Rulings.{AreRulings}
 use Rattle.jps_run.proofs.Judged.{small_judge_status}
 use Rattle.jps_run.proofs.commands.judge.judge.Goals as goal
 
 pub returns-clause-opened : goal.returns-clause-opened
-unfolding IsAnswer
+unfolding IsAnswered
 returns-clause-opened g c =
     let r = c.in_ok-costs.ensures.read in
     let case = c.in_ok-costs.field-0 in
@@ -14,7 +14,7 @@ returns-clause-opened g c =
     let told = case.walks.items in
     record {
       texts = r.text ∷ r.second ∷ r.third ∷ [];
-      accepted = r.accepted;
+      accepted = rw (← c.name-map.ensures, ← c.name-scen.ensures, ← c.name-walks.ensures) r.accepted;
       is = record {
         can = record {
           fit = r.walks.1;

@@ -2,17 +2,17 @@ use Rattle.std.proofs.Common.{refl, sym, subst, inl, List, [], ◌∷◌, ℕ, �
 use Rattle.grid_moves.specs.Layers.{Layers}
 use Rattle.scen_maker.proofs.Listed.{small_lengths_status}
 use Rattle.scen_maker.specs.Lengths.{AreLengthLines}
-use Rattle.jps_run.specs.Calls.{IsAnswer}
+use Rattle.jps_run.specs.Calls.{IsAnswered}
 use Rattle.jps_run.proofs.commands.lengths.lengths.Goals as goal
 
 pub returns-clause-opened : goal.returns-clause-opened
-unfolding IsAnswer
+unfolding IsAnswered
 returns-clause-opened g c =
     let r = c.in_ok-both.ensures.read in
     let made = c.in_ok-both.both in
     record {
       texts = r.text ∷ r.more ∷ [];
-      accepted = r.accepted;
+      accepted = rw (← c.name-map.ensures, ← c.name-scen.ensures) r.accepted;
       is = record {
         can = refl;
         right = λ lines status w. (

@@ -1,4 +1,4 @@
-use Rattle.std.proofs.Common.{◌≡◌, ◌∙◌, ◌≤◌, sym, subst, inr, ℕ, List, [], ◌∷◌, ◌++◌}
+use Rattle.std.proofs.Common.{◌≡◌, ◌∙◌, ◌≤◌, sym, subst, inr, ℕ, List, [], ◌∷◌, ◌++◌, map, string_bytes}
 use Rattle.std.specs.Option.{option_copied}
 use Rattle.io_edge.specs.Told.{Held}
 use Rattle.call_files.proofs.Opening.{accepted-more, next-file, reading-stops, stops-longer}
@@ -7,7 +7,8 @@ use Rattle.call_files.specs.MapFiles.{map_files}
 use Rattle.call_files.specs.Reading.{open_stops}
 use Rattle.call_files.specs.declared.kind.Kind.TheVariants as kinds
 use Rattle.line_work.proofs.Stopping.{passed}
-use Rattle.jps_run.specs.Calls.{HasSearched, IsAnswer}
+use Rattle.word_list.specs.Kinds.{word_at}
+use Rattle.jps_run.specs.Calls.{HasSearched, IsAnswered}
 use Rattle.jps_run.specs.Answerers.{who_of}
 use Rattle.jps_run.specs.Rising.{RoseForEntries}
 use Rattle.jps_run.specs.Rows.{AreRows}
@@ -19,35 +20,39 @@ use Rattle.jps_run.proofs.commands.scen.scen.Goals as goal
 
 pub returns-in_err-basis-clause-opened : goal.returns-in_err-basis-clause-opened
 returns-in_err-basis-clause-opened g c =
+    let ws = map string_bytes c.args.request.words.now in
     let disk = g.F.Files.disk c.args.files.now in
     let now = g.F.Files.disk c.open_basis.new.files in
-    let files = map_files c.args.settings c.args.map.now (option_copied c.args.tables) in
-    let last = file_of kinds.Scen c.args.name.now in
+    let files = map_files c.args.settings (word_at ws 0) (option_copied c.args.request.tables) in
+    let last = file_of kinds.Scen (word_at ws 1) in
     passed _ (open_stops disk now files) (open_stops disk now (files ++ last ∷ [])) c.from_residual.result
-    c.in_err-basis.field-0.0 c.from_residual.ensures.1 c.in_err-basis.ensures.read
+    c.in_err-basis.field-0.0 c.from_residual.ensures.1 (rw (c.name-map.ensures) at c.in_err-basis.ensures.read)
     (stops-longer disk now files (last ∷ []))
 
 pub returns-in_err-entries-clause-opened : goal.returns-in_err-entries-clause-opened
 returns-in_err-entries-clause-opened g c =
+    let ws = map string_bytes c.args.request.words.now in
     let disk = g.F.Files.disk c.args.files.now in
-    let files = map_files c.args.settings c.args.map.now (option_copied c.args.tables) in
-    let last = file_of kinds.Scen c.args.name.now in
+    let files = map_files c.args.settings (word_at ws 0) (option_copied c.args.request.tables) in
+    let last = file_of kinds.Scen (word_at ws 1) in
     let made = c.in_ok-basis.ensures in
-    let texts : List (List ℕ) = made.read.text ∷ made.read.loaded in
-    reading-stops disk _ last (next-file disk.holds files last [] texts made.read.accepted)
+    let r = rw (c.name-map.ensures) at made.read in
+    let texts : List (List ℕ) = r.text ∷ r.loaded in
+    reading-stops disk _ last (next-file disk.holds files last [] texts r.accepted)
     (g.F.Files.disk c.open_basis.new.files) (g.F.Files.disk c.read_file.new.files) made.unchanged made.later _
     c.from_residual-in_err-entries.result c.in_err-entries.field-0.0
-    (c.in_err-entries.ensures.read texts tt) c.from_residual-in_err-entries.ensures.1
+    (rw (c.name-name.ensures) at c.in_err-entries.ensures.read texts tt) c.from_residual-in_err-entries.ensures.1
 
 pub returns-clause-opened : goal.returns-clause-opened
-unfolding IsAnswer HasSearched
+unfolding HasSearched IsAnswered
 returns-clause-opened g c =
-    let files = map_files c.args.settings c.args.map.now (option_copied c.args.tables) in
-    let last = file_of kinds.Scen c.args.name.now in
+    let ws = map string_bytes c.args.request.words.now in
+    let files = map_files c.args.settings (word_at ws 0) (option_copied c.args.request.tables) in
+    let last = file_of kinds.Scen (word_at ws 1) in
     let made = c.in_ok-basis.ensures in
-    let r = made.read in
+    let r = rw (c.name-map.ensures) at made.read in
     let texts : List (List ℕ) = r.text ∷ r.loaded in
-    let s = c.in_ok-entries.ensures.read texts tt in
+    let s = rw (c.name-name.ensures) at c.in_ok-entries.ensures.read texts tt in
     let answerer = c.in_ok-answerer.answerer in
     let is : who_of answerer ≡ who_on c.args.settings r.is.map = c.in_ok-answerer.ensures.who ∙ r.is.is.0 in
     let entries = c.in_ok-entries.entries.items in

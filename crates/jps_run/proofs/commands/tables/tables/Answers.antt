@@ -6,7 +6,7 @@ use Rattle.table_file.proofs.Laws.{file_is}
 use Rattle.table_file.specs.Encoding.{encoding}
 use Rattle.table_file.specs.Written.{file_of}
 use Rattle.word_list.specs.declared.request.Settings.{Settings}
-use Rattle.jps_run.specs.Calls.{IsAnswer}
+use Rattle.jps_run.specs.Calls.{IsAnswered}
 use Rattle.grid_answers.specs.Encoded.{IsEncoded}
 use Rattle.call_files.specs.Reading.{AreLayersOf}
 use Rattle.jps_run.specs.Tabled.{tables_text}
@@ -30,7 +30,7 @@ module _ (set : Settings) (m : Map) (ls : Layers) (are : AreLayersOf set m ls) (
       ∙ ap (λ rule. encoding rule of_map.land of_map.water) rule
 
 pub returns-clause-opened : goal.returns-clause-opened
-unfolding IsAnswer
+unfolding IsAnswered
 returns-clause-opened g c =
     let set = c.args.settings in
     let r = c.in_ok-layers.ensures.read in
@@ -38,7 +38,7 @@ returns-clause-opened g c =
     let made = c.in_ok-file.ensures in
     record {
       texts = r.text ∷ [];
-      accepted = (r.accepted, tt);
+      accepted = rw (← c.name-map.ensures) (r.accepted, tt);
       is = record {
         can = made.room;
         right = λ lines status w. (
