@@ -14,12 +14,13 @@ use Rattle.scen_text.specs.Faults.{scen_of}
 use Rattle.walk_judge.specs.Walks.{walks_of}
 use Rattle.potential_check.specs.Text.{certificate_of}
 use Rattle.edit_replay.specs.declared.reply.Reply.{Reply}
-use Rattle.word_list.specs.Request.{Asked, Query, Solve, Scen, Judge, Check, Lengths}
+use Rattle.word_list.specs.Kinds.{word_at}
 use Rattle.word_list.specs.Settings.{is_for_small_maps}
 use Rattle.word_list.specs.declared.request.Pick.{Pick}
 use Rattle.word_list.specs.declared.request.Pick.TheVariants.{Session, Small}
 use Rattle.word_list.specs.declared.request.SmallEngine.TheVariants.{Boxes, Moves}
 use Rattle.word_list.specs.declared.request.Settings.{Settings}
+use Rattle.word_list.specs.declared.rows.Command.TheVariants.{Query, Solve, Scen, Judge, Check, Lengths}
 use Rattle.call_files.specs.FaultLines.{cert_line, map_line, scen_line, script_line, walks_line}
 use Rattle.call_files.specs.Files.{AreAccepted, File, file_of}
 use Rattle.call_files.specs.Kinds.{count_in, fault_in, kind_for, limit_of, refusal_of, small_refusal}
@@ -27,7 +28,7 @@ use Rattle.call_files.specs.Layered.{layers_on}
 use Rattle.call_files.specs.MapFiles.{map_files}
 use Rattle.call_files.specs.declared.kind.Extent.TheVariants as extent
 use Rattle.call_files.specs.declared.kind.Kind.TheVariants as kind
-use Rattle.jps_run.specs.Calls.{IsAnswer}
+use Rattle.jps_run.specs.Calls.{Task, cell_at, task}
 use Rattle.jps_run.specs.Lines.{reply_line}
 use Rattle.jps_run.specs.Parts.{OnLast, OnMap, Prints, Says}
 use Rattle.jps_run.specs.Rows.{scen_lines, scen_status}
@@ -112,9 +113,9 @@ who_replies : (set : Settings) (m : Map) (s t : Cell)
     → (reply : Reply) × IsReplyBy (who_on set m) s t reply
 who_replies set m s t = reply_by (layers_on set m) s t set.pick
 
--- what is asked for has an answer, on these texts
-abbrev pub HasAnswer : Asked → Settings → List (List ℕ) → Type 0
-HasAnswer asked set texts = (lines : List (List ℕ)) × (status : ℕ) × IsAnswer asked set texts lines status
+-- a task has an answer, on these texts
+abbrev pub HasAnswer : Task → List (List ℕ) → Type 0
+HasAnswer task texts = (lines : List (List ℕ)) × (status : ℕ) × task.IsRight texts lines status
 
 -- so has a text of the program's own
 pub says : (text : List ℕ) (texts : List (List ℕ)) → texts ≡ []
@@ -163,14 +164,45 @@ module _ (holds : List ℕ → Held) (set : Settings) where
         },
       )
 
-  pub query_has : (map : List ℕ) (tables : Option (List ℕ)) (sx sy gx gy : ℕ) (texts : List (List ℕ))
-      → AreAccepted holds [] (map_files set map tables) texts
-      → HasAnswer (Query map tables sx sy gx gy) set texts
-  unfolding IsAnswer
-  query_has map tables sx sy gx gy texts p =
-      let h = has_map holds set map tables [] texts (subst (λ (fs : List File). AreAccepted holds [] fs texts)
-      (sym (append-nil (map_files set map tables))) p) in
-      let r = who_replies set h.map (record { x = sx; y = sy }) (record { x = gx; y = gy }) in
+  -- the map of texts that are accepted for it alone, and for a table file
+  pub with_tables : (map : List ℕ) (tables : Option (List ℕ)) (texts : List (List ℕ))
+      → AreAccepted holds [] (map_files set map tables) texts → HasMap holds [] texts
+  with_tables map tables texts p =
+      has_map holds set map tables [] texts (subst (λ (fs : List File). AreAccepted holds [] fs texts)
+      (sym (append-nil (map_files set map tables))) p)
+
+  -- what is known of the last file, behind a map and a table file
+  on_last : {Known : Map → List ℕ → Type 0} (file : File) (texts : List (List ℕ))
+      (h : HasMap holds (file ∷ []) texts) (one : (second : List ℕ) × ((h.more ≡ second ∷ [])
+      × (refusal_of file.kind (h.text ∷ h.loaded) second ≡ None))) → Known h.map one.0
+      → OnMap texts (λ m behind. OnLast behind (Known m))
+  on_last file texts h one known = record {
+    text = h.text;
+    behind = h.loaded ++ h.more;
+    map = h.map;
+    is = h.is;
+    read = h.read;
+    known = record {
+      before = h.loaded;
+      last = one.0;
+      is = ap (λ (more : List (List ℕ)). h.loaded ++ more) one.1.0;
+      known = known;
+    };
+  }
+
+-- a text of a file is no longer than the limit of its kind
+within : (held : Held) (limit : ℕ) (text : List ℕ) → IsWhole held limit text → length text ≤ limit
+within untold limit text w = w
+within absent limit text w = absurd w
+within (holding bytes) limit text w = w.1
+
+-- what each of these commands is answered, with its words and the name of a table file
+module _ (holds : List ℕ → Held) (set : Settings) (words : List (List ℕ)) (tables : Option (List ℕ)) where
+  pub query_has : (texts : List (List ℕ)) → AreAccepted holds [] (task set Query words tables).files texts
+      → HasAnswer (task set Query words tables) texts
+  query_has texts p =
+      let h = with_tables holds set (word_at words 0) tables texts p in
+      let r = who_replies set h.map (cell_at words 1) (cell_at words 3) in
       let line = reply_line (who_on set h.map).layers.land.width set.show r.0 in (
         line ∷ [],
         0,
@@ -191,40 +223,18 @@ module _ (holds : List ℕ → Held) (set : Settings) where
         ),
       )
 
-  -- what is known of the last file, behind a map and a table file
-  on_last : {Known : Map → List ℕ → Type 0} (map : List ℕ) (tables : Option (List ℕ)) (file : File)
-      (texts : List (List ℕ)) (h : HasMap holds (file ∷ []) texts)
-      (one : (second : List ℕ) × ((h.more ≡ second ∷ [])
-      × (refusal_of file.kind (h.text ∷ h.loaded) second ≡ None))) → Known h.map one.0
-      → OnMap texts (λ m behind. OnLast behind (Known m))
-  on_last map tables file texts h one known = record {
-    text = h.text;
-    behind = h.loaded ++ h.more;
-    map = h.map;
-    is = h.is;
-    read = h.read;
-    known = record {
-      before = h.loaded;
-      last = one.0;
-      is = ap (λ (more : List (List ℕ)). h.loaded ++ more) one.1.0;
-      known = known;
-    };
-  }
-
-  pub solve_has : (map : List ℕ) (tables : Option (List ℕ)) (script : List ℕ) (texts : List (List ℕ))
-      → AreAccepted holds [] (map_files set map tables ++ file_of kind.Script script ∷ []) texts
-      → HasAnswer (Solve map tables script) set texts
-  unfolding IsAnswer
-  solve_has map tables script texts p =
-      let file = file_of kind.Script script in
-      let h = has_map holds set map tables (file ∷ []) texts p in
+  pub solve_has : (texts : List (List ℕ)) → AreAccepted holds [] (task set Solve words tables).files texts
+      → HasAnswer (task set Solve words tables) texts
+  solve_has texts p =
+      let file = file_of kind.Script (word_at words 1) in
+      let h = has_map holds set (word_at words 0) tables (file ∷ []) texts p in
       let one = single holds (h.text ∷ h.loaded) file h.more h.accepted in
       let commands = read_of script_line (script_of one.0) one.1.1 in
       let all = answers_exist (session_on set h.map) set.show commands.0 in (
         all.0,
         0,
         (
-          on_last map tables file texts h one (record {
+          on_last holds set file texts h one (record {
             value = commands.0;
             is = commands.1;
             known = record { session = session_on set h.map; is = refl; known = all.1 };
@@ -233,19 +243,17 @@ module _ (holds : List ℕ → Held) (set : Settings) where
         ),
       )
 
-  pub scen_has : (map : List ℕ) (tables : Option (List ℕ)) (scenario : List ℕ) (texts : List (List ℕ))
-      → AreAccepted holds [] (map_files set map tables ++ file_of kind.Scen scenario ∷ []) texts
-      → HasAnswer (Scen map tables scenario) set texts
-  unfolding IsAnswer
-  scen_has map tables scenario texts p =
-      let file = file_of kind.Scen scenario in
-      let h = has_map holds set map tables (file ∷ []) texts p in
+  pub scen_has : (texts : List (List ℕ)) → AreAccepted holds [] (task set Scen words tables).files texts
+      → HasAnswer (task set Scen words tables) texts
+  scen_has texts p =
+      let file = file_of kind.Scen (word_at words 1) in
+      let h = has_map holds set (word_at words 0) tables (file ∷ []) texts p in
       let one = single holds (h.text ∷ h.loaded) file h.more h.accepted in
       let entries = read_of scen_line (scen_of one.0) one.1.1 in
       let all = rows_exist (who_on set h.map) (who_replies set h.map) entries.0 in (
         scen_lines set.show all.0,
         scen_status all.0,
-        on_last map tables file texts h one (record {
+        on_last holds set file texts h one (record {
           value = entries.0;
           is = entries.1;
           known = record { from = all.0; all = refl; code = refl; known = all.1 };
@@ -253,16 +261,13 @@ module _ (holds : List ℕ → Held) (set : Settings) where
       )
 
   -- the answer of a judge, on three texts
-  pub judge_has : (map scenario walks : List ℕ) (texts : List (List ℕ))
-      → AreAccepted holds []
-      (file_of kind.Map map ∷ file_of kind.Scen scenario ∷ file_of kind.Walks walks ∷ [])
-      texts → HasAnswer (Judge map scenario walks) set texts
-  unfolding IsAnswer
-  judge_has map scenario walks [] p = absurd p
-  judge_has map scenario walks (text ∷ []) p = absurd (p.1)
-  judge_has map scenario walks (text ∷ second ∷ []) p = absurd (p.1.1)
-  judge_has map scenario walks (text ∷ second ∷ third ∷ x ∷ texts) p = absurd (p.1.1.1)
-  judge_has map scenario walks (text ∷ second ∷ third ∷ []) p =
+  pub judge_has : (texts : List (List ℕ)) → AreAccepted holds [] (task set Judge words tables).files texts
+      → HasAnswer (task set Judge words tables) texts
+  judge_has [] p = absurd p
+  judge_has (text ∷ []) p = absurd (p.1)
+  judge_has (text ∷ second ∷ []) p = absurd (p.1.1)
+  judge_has (text ∷ second ∷ third ∷ x ∷ texts) p = absurd (p.1.1.1)
+  judge_has (text ∷ second ∷ third ∷ []) p =
       let m = read_of map_line (map_of text) p.0.1 in
       let entries = read_of scen_line (scen_of second) p.1.0.1 in
       let told = read_of walks_line (walks_of third (length entries.0))
@@ -293,14 +298,12 @@ module _ (holds : List ℕ → Held) (set : Settings) where
         },
       )
 
-  pub lengths_has : (map scenario : List ℕ) (texts : List (List ℕ))
-      → AreAccepted holds [] (file_of kind.Map map ∷ file_of kind.Scen scenario ∷ []) texts
-      → HasAnswer (Lengths map scenario) set texts
-  unfolding IsAnswer
-  lengths_has map scenario [] p = absurd p
-  lengths_has map scenario (text ∷ []) p = absurd (p.1)
-  lengths_has map scenario (text ∷ second ∷ x ∷ texts) p = absurd (p.1.1)
-  lengths_has map scenario (text ∷ second ∷ []) p =
+  pub lengths_has : (texts : List (List ℕ)) → AreAccepted holds [] (task set Lengths words tables).files texts
+      → HasAnswer (task set Lengths words tables) texts
+  lengths_has [] p = absurd p
+  lengths_has (text ∷ []) p = absurd (p.1)
+  lengths_has (text ∷ second ∷ x ∷ texts) p = absurd (p.1.1)
+  lengths_has (text ∷ second ∷ []) p =
       let m = read_of map_line (map_of text) p.0.1 in
       let entries = read_of scen_line (scen_of second) p.1.0.1 in
       let all = lengths_exist (layers_on set m.0) second entries.0 in (
@@ -320,23 +323,15 @@ module _ (holds : List ℕ → Held) (set : Settings) where
         },
       )
 
-  -- a text of a file is no longer than the limit of its kind
-  within : (held : Held) (limit : ℕ) (text : List ℕ) → IsWhole held limit text → length text ≤ limit
-  within untold limit text w = w
-  within absent limit text w = absurd w
-  within (holding bytes) limit text w = w.1
-
-  pub check_has : (map cert : List ℕ) (texts : List (List ℕ))
-      → AreAccepted holds [] (file_of kind.Map map ∷ file_of kind.Cert cert ∷ []) texts
-      → HasAnswer (Check map cert) set texts
-  unfolding IsAnswer
-  check_has map cert [] p = absurd p
-  check_has map cert (text ∷ []) p = absurd (p.1)
-  check_has map cert (text ∷ second ∷ x ∷ texts) p = absurd (p.1.1)
-  check_has map cert (text ∷ second ∷ []) p =
+  pub check_has : (texts : List (List ℕ)) → AreAccepted holds [] (task set Check words tables).files texts
+      → HasAnswer (task set Check words tables) texts
+  check_has [] p = absurd p
+  check_has (text ∷ []) p = absurd (p.1)
+  check_has (text ∷ second ∷ x ∷ texts) p = absurd (p.1.1)
+  check_has (text ∷ second ∷ []) p =
       let m = read_of map_line (map_of text) p.0.1 in
       let read = read_of cert_line (certificate_of second) p.1.0.1 in
-      let few = within (holds cert) (limit_of kind.Cert) second p.1.0.0 in
+      let few = within (holds (word_at words 1)) (limit_of kind.Cert) second p.1.0.0 in
       let c = certificate_read second read.0 few read.1 in
       let all = verdict_exists (query_grid (layers_on set m.0) c.0.start) c.0 in (
         all.0 ∷ [],

@@ -1,17 +1,18 @@
 -- What shows of an answer that it is the only one: by the kind of what it is made of.
 use Rattle.std.proofs.Common.{◌≡◌, ◌∙◌, refl, ap, sym, subst, ℕ, List, [], ◌∷◌, ◌++◌, length}
-use Rattle.std.specs.Prelude.{Ok, Err}
+use Rattle.std.specs.Prelude.{Ok, Err, Option}
 use Rattle.std.specs.declared.result.Result.{Result}
 use Rattle.map_text.specs.Map.{Map}
 use Rattle.map_text.specs.Faults.{map_of}
 use Rattle.scen_text.specs.Faults.{scen_of}
 use Rattle.walk_judge.specs.Walks.{walks_of}
-use Rattle.word_list.specs.Request.{Asked, Scen, Judge}
-use Rattle.word_list.specs.Request.{Drill}
 use Rattle.word_list.specs.declared.request.Pick.{Pick}
 use Rattle.word_list.specs.declared.request.Settings.{Settings}
+use Rattle.word_list.specs.declared.rows.Command.{Command}
+use Rattle.word_list.specs.declared.rows.Command.TheVariants.{Drill, Judge, Scen}
+use Rattle.word_list.specs.Kinds.{seed_at}
 use Rattle.call_files.specs.Layered.{layers_on}
-use Rattle.jps_run.specs.Calls.{IsAnswer}
+use Rattle.jps_run.specs.Calls.{task}
 use Rattle.jps_run.specs.Parts.{MadeOf, OnLast, OnMap, One, Prints, Reads, Says}
 use Rattle.jps_run.specs.Rulings.{AreRulings, judge_lines, judge_status}
 use Rattle.outcome_laws.specs.Outcomes.{AsksForCosts}
@@ -116,15 +117,14 @@ prints_one {K} {L} {texts} {lines} {same} {status} {code} p q one =
 abbrev pub picking : Settings → Pick → Settings
 picking set pick = record { pick = pick; show = set.show; rule = set.rule }
 
-module _ (set : Settings) (pick : Pick) where
+module _ (set : Settings) (pick : Pick) (words : List (List ℕ)) (tables : Option (List ℕ)) where
   abbrev other : Settings
   other = picking set pick
 
-  pub one_judged : (texts lines same : List (List ℕ)) (status code : ℕ) (map scen walks : List ℕ)
-      → IsAnswer (Judge map scen walks) set texts lines status
-      → IsAnswer (Judge map scen walks) other texts same code → (lines ≡ same) × (status ≡ code)
-  unfolding IsAnswer
-  one_judged texts lines same status code map scen walks p q = on_map p q (λ text m behind read a b.
+  pub one_judged : (texts lines same : List (List ℕ)) (status code : ℕ)
+      → (task set Judge words tables).IsRight texts lines status
+      → (task other Judge words tables).IsRight texts same code → (lines ≡ same) × (status ≡ code)
+  one_judged texts lines same status code p q = on_map p q (λ text m behind read a b.
       let e : a.0 ∷ a.1 ∷ [] ≡ b.0 ∷ b.1 ∷ [] = sym a.2 ∙ b.2 in
       let second : a.0 ≡ b.0 = same_first a.0 b.0 (a.1 ∷ []) (b.1 ∷ []) e in
       let third : a.1 ≡ b.1 = same_first a.1 b.1 [] [] (same_others a.0 b.0 (a.1 ∷ []) (b.1 ∷ []) e) in
@@ -136,15 +136,15 @@ module _ (set : Settings) (pick : Pick) where
       l.known))))
 
   -- where costs alone are asked for, whatever the engines
-  pub one_cost_answer : (asked : Asked) (texts lines same : List (List ℕ)) (status code : ℕ)
-      → AsksForCosts asked set.show → IsAnswer asked set texts lines status
-      → IsAnswer asked other texts same code → (lines ≡ same) × (status ≡ code)
-  unfolding IsAnswer
-  one_cost_answer (Scen map tables scen) texts lines same status code costs p q =
+  pub one_cost_answer : (command : Command) (texts lines same : List (List ℕ)) (status code : ℕ)
+      → AsksForCosts command set.show → (task set command words tables).IsRight texts lines status
+      → (task other command words tables).IsRight texts same code → (lines ≡ same) × (status ≡ code)
+  one_cost_answer Scen texts lines same status code costs p q =
       on_map p q (λ text m behind read a b. on_last a b (λ second c d. on_value c d (λ entries k l.
       let rows = alike_rows_on set other m refl (are_layers-text set text m read) entries k.from l.from
       k.known l.known in
       (k.all ∙ rows.lines set.show costs ∙ sym l.all, k.code ∙ rows.status ∙ sym l.code))))
-  one_cost_answer (Drill seed) texts lines same status code costs p q =
-      made_one p.1 q.1 (one_drill set other seed p.1.from q.1.from refl p.1.known q.1.known)
-  one_cost_answer asked texts lines same status code costs p q = absurd (costs)
+  one_cost_answer Drill texts lines same status code costs p q =
+      made_one p.1 q.1
+      (one_drill set other (seed_at words 0) p.1.from q.1.from refl p.1.known q.1.known)
+  one_cost_answer command texts lines same status code costs p q = absurd (costs)

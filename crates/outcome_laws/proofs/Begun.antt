@@ -13,7 +13,7 @@ use Rattle.word_list.specs.Request.{Call}
 use Rattle.word_list.specs.declared.request.Show.{Show}
 use Rattle.line_work.specs.Sending.{Wrote}
 use Rattle.line_work.proofs.Pieces.{part-more}
-use Rattle.jps_run.specs.Heard.{AnswerHeard, AnswerTaken}
+use Rattle.jps_run.specs.Heard.{AnswerTaken}
 use Rattle.outcome_laws.specs.Alike.{BeginWith}
 use Rattle.outcome_laws.proofs.OnMap.{one_start_on}
 use Rattle.outcome_laws.proofs.Taken.{pending_taken}
@@ -22,11 +22,11 @@ use Rattle.outcome_laws.proofs.Files.{not_both}
 use Rattle.jps_run.specs.Calls.{files_of}
 use Rattle.jps_run.specs.Ending.{HasFailed, HasLines, HasPart, first, none, of_all, of_file, of_input}
 use Rattle.jps_run.specs.Ending.{of_taken, some}
-use Rattle.outcome_laws.specs.Outcomes.{DifferInEngine, FilesAreTold, WrittenBeginsTheOutput, WroteLinesOf}
+use Rattle.outcome_laws.specs.Outcomes.{FilesAreTold, WrittenBeginsTheOutput, WroteLinesOf}
 use Rattle.jps_run.specs.Live.{AreHeard, OnLive}
 use Rattle.jps_run.specs.Outcome.{IsOutcome, IsOutput, Outcome, Spell, done}
 use Rattle.outcome_laws.proofs.Only.{CallComes, broken, finished, refused, replied}
-use Rattle.outcome_laws.proofs.Only.{call_comes, live_call, on_one_map, outcomes_one}
+use Rattle.outcome_laws.proofs.Only.{call_comes, itself, live_call, on_one_map, outcomes_one}
 
 -- the first ones of these lines begin them
 begin-by : (count : ℕ) (lines : List (List ℕ)) → BeginWith lines (take count lines)
@@ -73,24 +73,20 @@ module _ (before now : Outflow) where
 -- what a call was answered that reads the input begins all that it is answered
 module _ (holds : List ℕ → Held) (script : List ℕ) (call : Call) (told : AreTold holds (files_of call))
     {Known : SessionData → Show → Type 0} (p : OnLive call holds Known) (left : Option (List ℕ))
-    (lines : List (List ℕ)) (taken : AnswerTaken p.session p.settings.show (Some script) left lines) where
-  itself : DifferInEngine call call
-  itself = record { request = refl; show = refl; rule = refl }
-
+    (lines : List (List ℕ)) (taken : AnswerTaken p.session call.settings.show (Some script) left lines) where
   heard_begins : (refusal : Option (List ℕ)) (all : List (List ℕ))
       → AreHeard call holds (Some script) all refusal
       → BeginWith all lines
   heard_begins refusal all q =
-      let o = on_one_map holds script call call itself told p q in
-      one_start_on p.settings q.settings p.read o.rule o.are (o.ways refl) p.session q.session p.answers o.is
-      p.settings.show script left refusal lines all taken
-      (subst (λ (show : Show). AnswerHeard q.session show (Some script) refusal all) (sym o.shown) q.known)
+      let o = on_one_map holds script call call (itself call) told p q in
+      one_start_on call.settings call.settings p.read refl o.are refl p.session q.session p.answers o.is
+      call.settings.show script left refusal lines all taken q.known
 
   call_begins : (outcome : Outcome) → CallComes call holds (Some script) outcome → BeginWith outcome.out lines
   call_begins _ (refused line r) =
       absurd (not_both holds (files_of call) (p.text ∷ p.behind) line told p.accepted r)
   call_begins _ (finished all status q) =
-      live_call holds script call call itself told call refl p call refl all status q
+      live_call holds call call refl p all status q
   call_begins _ (replied all q) = heard_begins None all q
   call_begins _ (broken all line q) = heard_begins (Some line) all q
 
@@ -107,10 +103,11 @@ module _ (words : List (List ℕ)) (holds : List ℕ → Held) (input input_now 
 
   taken_begins : {Known : SessionData → Show → Type 0} (call : Call) → Spell words call
       → (p : OnLive call holds Known) → (lines : List (List ℕ))
-      → AnswerTaken p.session p.settings.show input.left input_now.left lines → BeginWith outcome.out lines
+      → AnswerTaken p.session call.settings.show input.left input_now.left lines
+      → BeginWith outcome.out lines
   taken_begins call spelled p lines taken =
       call_begins holds script call (told call spelled) p input_now.left lines
-      (subst (λ (text : Option (List ℕ)). AnswerTaken p.session p.settings.show text input_now.left lines)
+      (subst (λ (text : Option (List ℕ)). AnswerTaken p.session call.settings.show text input_now.left lines)
       comes_in
       taken) outcome (call_comes words holds (Some script) call outcome spelled is)
 
@@ -151,7 +148,8 @@ module _ (words : List (List ℕ)) (disk disk_now : Disk) (input input_now : Inf
     taken_begins words disk.holds input input_now out out_now script outcome told comes_in is rose.call
         rose.spelled p
         p.known.lines
-        (pending_taken p.session p.settings.show input.left input_now.left p.known.lines p.known.stand),
+        (pending_taken p.session rose.call.settings.show input.left input_now.left p.known.lines
+        p.known.stand),
     p.known.wrote,
   )
 

@@ -1,13 +1,14 @@
 -- What each command comes to, one after the other: its answer is the only one where engines come to answers
 -- in one way, and on accepted texts there is one.
-use Rattle.std.proofs.Common.{◌≡◌, ◌∙◌, refl, sym, ℕ, List, [], ◌∷◌}
+use Rattle.std.proofs.Common.{◌≡◌, ◌∙◌, refl, sym, ℕ, false, List, [], ◌∷◌}
 use Rattle.potential_check.specs.Text.{certificate_of, plain}
-use Rattle.word_list.specs.Request.{Asked, Help, Version, Query, Solve, Live, Scen, Judge, Prove, Check, Make}
-use Rattle.word_list.specs.Request.{Drill, Draw, Costs, Tables, Boxes, Moves, Lengths, Problems}
+use Rattle.word_list.specs.Kinds.{count_at, percent_at, seed_at, side_at, word_at}
 use Rattle.word_list.specs.declared.request.Pick.{Pick}
 use Rattle.word_list.specs.declared.request.Settings.{Settings}
+use Rattle.word_list.specs.declared.rows.Command.{Command}
+use Rattle.word_list.specs.declared.rows.Command.TheVariants as command
 use Rattle.call_files.specs.Layered.{layers_on}
-use Rattle.jps_run.specs.Calls.{IsAnswer, call_with, files_of}
+use Rattle.jps_run.specs.Calls.{cell_at, reads_input, task}
 use Rattle.jps_run.specs.Session.{by_of, session_on}
 use Rattle.outcome_laws.specs.Alike.{way_of}
 use Rattle.outcome_laws.proofs.Kept.{are_layers-text}
@@ -21,7 +22,6 @@ use Rattle.outcome_laws.proofs.Verdicts as verdicts
 use Rattle.outcome_laws.proofs.Measured as measured
 use Rattle.outcome_laws.proofs.Posed as posed
 use Rattle.std.specs.Prelude.{Option}
-use Rattle.grid_moves.specs.declared.Cell.{Cell}
 use Rattle.io_edge.specs.Told.{Held}
 use Rattle.map_text.specs.Writing.{canonical_text}
 use Rattle.map_maker.specs.Drill.{drill_commands}
@@ -41,85 +41,90 @@ use Rattle.outcome_laws.proofs.Accepted.{nothing, prints, query_has, says, scen_
 use Rattle.outcome_laws.proofs.Alike.{made_one, on_last, on_map, on_one, on_value, ok_same, one_judged}
 use Rattle.outcome_laws.proofs.Alike.{one_line, picking, prints_one, says_one}
 
-abbrev IsOnly : Settings → Asked → Type 0
-IsOnly set asked = (pick : Pick) (texts lines same : List (List ℕ)) (status code : ℕ)
-    → way_of (by_of set.pick) ≡ way_of (by_of pick) → IsAnswer asked set texts lines status
-    → IsAnswer asked (picking set pick) texts same code → (lines ≡ same) × (status ≡ code)
+abbrev IsOnly : Settings → Command → List (List ℕ) → Option (List ℕ) → Type 0
+IsOnly set command words tables = (pick : Pick) (texts lines same : List (List ℕ)) (status code : ℕ)
+    → way_of (by_of set.pick) ≡ way_of (by_of pick)
+    → (task set command words tables).IsRight texts lines status
+    → (task (picking set pick) command words tables).IsRight texts same code
+    → (lines ≡ same) × (status ≡ code)
 
-abbrev IsThere : Settings → Asked → Type 0
-IsThere set asked = (holds : List ℕ → Held) (texts : List (List ℕ))
-    → AreAccepted holds [] (files_of (call_with asked set)) texts
-    → ((map : List ℕ) (tables : Option (List ℕ)) → ¬ (asked ≡ Live map tables)) → HasAnswer asked set texts
+abbrev IsThere : Settings → Command → List (List ℕ) → Option (List ℕ) → Type 0
+IsThere set command words tables = (holds : List ℕ → Held) (texts : List (List ℕ))
+    → AreAccepted holds [] (task set command words tables).files texts → reads_input command ≡ false
+    → HasAnswer (task set command words tables) texts
 
-pub answers : (set : Settings) (asked : Asked) → IsOnly set asked × IsThere set asked
-unfolding IsAnswer
-answers set Help = (
+pub answers : (set : Settings) (command : Command) (words : List (List ℕ)) (tables : Option (List ℕ))
+    → IsOnly set command words tables × IsThere set command words tables
+answers set command.Help words tables = (
   λ pick texts lines same status code way p q. says_one p q,
-  λ holds texts p other. says help_text texts (nothing holds [] texts p),
+  λ holds texts p silent. says help_text texts (nothing holds [] texts p),
 )
-answers set Version = (
+answers set command.Version words tables = (
   λ pick texts lines same status code way p q. says_one p q,
-  λ holds texts p other. says version_text texts (nothing holds [] texts p),
+  λ holds texts p silent. says version_text texts (nothing holds [] texts p),
 )
-answers set (Query map tables sx sy gx gy) = (
+answers set command.Query words tables = (
   λ pick texts lines same status code way p q. (
     on_map p.0 q.0 (λ text m behind read a b. one_line a b (one_line_on set (picking set pick) m refl
-        (are_layers-text set text m read) way set.show (record { x = sx; y = sy }) (record { x = gx; y = gy })
+        (are_layers-text set text m read) way set.show (cell_at words 1) (cell_at words 3)
         a.one b.one a.known b.known)),
     p.1 ∙ sym q.1,
   ),
-  λ holds texts p other. query_has holds set map tables sx sy gx gy texts p,
+  λ holds texts p silent. query_has holds set words tables texts p,
 )
-answers set (Solve map tables script) = (
+answers set command.Solve words tables = (
   λ pick texts lines same status code way p q. (
     on_map p.0 q.0 (λ text m behind read a b. on_last a b (λ second c d. on_value c d (λ commands k l.
         one_answers_on set (picking set pick) m refl (are_layers-text set text m read) way set.show commands
         lines same k l))),
     p.1 ∙ sym q.1,
   ),
-  λ holds texts p other. solve_has holds set map tables script texts p,
+  λ holds texts p silent. solve_has holds set words tables texts p,
 )
-answers set (Live map tables) = (
+answers set command.Live words tables = (
   λ pick texts lines same status code way p q. absurd (p),
-  λ holds texts p other. absurd (other map tables refl),
+  λ holds texts p silent. absurd (cc),
 )
-answers set (Scen map tables scen) = (
+answers set command.Scen words tables = (
   λ pick texts lines same status code way p q.
       on_map p q (λ text m behind read a b. on_last a b (λ second c d. on_value c d (λ entries k l.
       made_one k l (one_rows_on set (picking set pick) m refl (are_layers-text set text m read) way entries
       k.from l.from k.known l.known)))),
-  λ holds texts p other. scen_has holds set map tables scen texts p,
+  λ holds texts p silent. scen_has holds set words tables texts p,
 )
-answers set (Judge map scen walks) = (
+answers set command.Judge words tables = (
   λ pick texts lines same status code way p q.
-      one_judged set pick texts lines same status code map scen walks p q,
-  λ holds texts p other. judge_has holds set map scen walks texts p,
+      one_judged set pick words tables texts lines same status code p q,
+  λ holds texts p silent. judge_has holds set words tables texts p,
 )
-answers set (Prove map sx sy gx gy) = (
+answers set command.Prove words tables = (
   λ pick texts lines same status code way p q.
-      prints_one p q (λ text m read a b k l. one_proof (layers_on set m) (record { x = sx; y = sy })
-      (record { x = gx; y = gy }) a b status code (are_layers-text set text m read) k l),
-  λ holds texts p other.
-      prints holds set (alone holds set map texts p) (λ text m read. proof_exists (layers_on set m)
-      (are_layers-text set text m read) (record { x = sx; y = sy }) (record { x = gx; y = gy })),
+      prints_one p q (λ text m read a b k l. one_proof (layers_on set m) (cell_at words 1)
+      (cell_at words 3) a b status code (are_layers-text set text m read) k l),
+  λ holds texts p silent.
+      prints holds set (alone holds set (word_at words 0) texts p) (λ text m read.
+      proof_exists (layers_on set m) (are_layers-text set text m read) (cell_at words 1) (cell_at words 3)),
 )
-answers set (Check map cert) = (
+answers set command.Check words tables = (
   λ pick texts lines same status code way p q. on_map p q (λ text m behind read a b. on_one a b (λ second k l.
       let v = verdicts.one_checked (layers_on set m) k.0 l.0 k.2.one l.2.one status code
       (ok_same (plain k.0) (plain l.0) (certificate_of second) k.1 l.1) k.2.known l.2.known in
       (one_line k.2 l.2 v.0, v.1))),
-  λ holds texts p other. check_has holds set map cert texts p,
+  λ holds texts p silent. check_has holds set words tables texts p,
 )
-answers set (Make seed w h percent) = (
+answers set command.Make words tables = (
   λ pick texts lines same status code way p q. says_one p q,
-  λ holds texts p other.
-      says (canonical_text (made_map seed w h percent)) texts (nothing holds [] texts p),
+  λ holds texts p silent.
+      says (canonical_text
+      (made_map (seed_at words 0) (side_at words 1) (side_at words 2) (percent_at words 3))) texts
+      (nothing holds [] texts p),
 )
-answers set (Drill seed) = (
+answers set command.Drill words tables = (
   λ pick texts lines same status code way p q.
-      made_one p.1 q.1 (one_drill set (picking set pick) seed p.1.from q.1.from refl p.1.known q.1.known),
-  λ holds texts p other. let d = session_on set (made_map seed 256 256 25) in
-      let all = findings_exist d (drill_commands seed) in (
+      made_one p.1 q.1 (one_drill set (picking set pick) (seed_at words 0) p.1.from q.1.from refl p.1.known
+      q.1.known),
+  λ holds texts p silent. let d = session_on set (made_map (seed_at words 0) 256 256 25) in
+      let all = findings_exist d (drill_commands (seed_at words 0)) in (
         drill_line all.0 ∷ [],
         0,
         (
@@ -133,17 +138,16 @@ answers set (Drill seed) = (
         ),
       ),
 )
-answers set (Draw map sx sy gx gy) = (
+answers set command.Draw words tables = (
   λ pick texts lines same status code way p q.
       prints_one p q (λ text m read a b k l. one_drawing_on set (picking set pick) m refl (are_layers-text
       set text m read)
-      way (record { x = sx; y = sy }) (record { x = gx; y = gy }) set.show a b status code k l),
-  λ holds texts p other. let s : Cell = record { x = sx; y = sy } in
-      let t : Cell = record { x = gx; y = gy } in
-      prints holds set (alone holds set map texts p) (λ text m read.
+      way (cell_at words 1) (cell_at words 3) set.show a b status code k l),
+  λ holds texts p silent.
+      prints holds set (alone holds set (word_at words 0) texts p) (λ text m read.
       let d = session_on set m in
-      let r = reply_exists d s t in (
-        drawing_of m s t set.show r.0,
+      let r = reply_exists d (cell_at words 1) (cell_at words 3) in (
+        drawing_of m (cell_at words 1) (cell_at words 3) set.show r.0,
         drawing_status r.0,
         record {
           session = d;
@@ -152,14 +156,14 @@ answers set (Draw map sx sy gx gy) = (
         },
       )),
 )
-answers set (Costs map x y) = (
+answers set command.Costs words tables = (
   λ pick texts lines same status code way p q. (
-    on_map p.0 q.0 (λ text m behind read a b. costs.one_costs (layers_on set m) (record { x = x; y = y })
+    on_map p.0 q.0 (λ text m behind read a b. costs.one_costs (layers_on set m) (cell_at words 1)
         lines same (are_layers-text set text m read) a.1 b.1),
     p.1 ∙ sym q.1,
   ),
-  λ holds texts p other. let one = alone holds set map texts p in
-      let all = costs_exist (layers_on set one.map) (record { x = x; y = y }) in (
+  λ holds texts p silent. let one = alone holds set (word_at words 0) texts p in
+      let all = costs_exist (layers_on set one.map) (cell_at words 1) in (
         all.0,
         0,
         (
@@ -175,11 +179,11 @@ answers set (Costs map x y) = (
         ),
       ),
 )
-answers set (Tables map) = (
+answers set command.Tables words tables = (
   λ pick texts lines same status code way p q.
       prints_one p q (λ text m read a b k l. (k.0 ∙ sym l.0, k.1 ∙ sym l.1)),
-  λ holds texts p other.
-      prints holds set (alone holds set map texts p) (λ text m read. (
+  λ holds texts p silent.
+      prints holds set (alone holds set (word_at words 0) texts p) (λ text m read. (
         tables_text set.rule m,
         0,
         (
@@ -188,36 +192,36 @@ answers set (Tables map) = (
         ),
       )),
 )
-answers set (Boxes map x y) = (
+answers set command.Boxes words tables = (
   λ pick texts lines same status code way p q. prints_one p q (λ text m read a b k l. (
-    boxes.one_text (layers_on set m) (record { x = x; y = y }) a b (are_layers-text set text m read) k.0
+    boxes.one_text (layers_on set m) (cell_at words 1) a b (are_layers-text set text m read) k.0
         l.0,
     k.1 ∙ sym l.1,
   )),
-  λ holds texts p other. prints holds set (alone_small holds set map texts p) (λ text m read.
-      let all = boxes_exist (layers_on set m) (record { x = x; y = y }) in (all.0, 0, (all.1, refl))),
+  λ holds texts p silent. prints holds set (alone_small holds set (word_at words 0) texts p) (λ text m read.
+      let all = boxes_exist (layers_on set m) (cell_at words 1) in (all.0, 0, (all.1, refl))),
 )
-answers set (Moves map x y) = (
+answers set command.Moves words tables = (
   λ pick texts lines same status code way p q. prints_one p q (λ text m read a b k l. (
-    runs.one_text (layers_on set m) (record { x = x; y = y }) a b (are_layers-text set text m read) k.0
+    runs.one_text (layers_on set m) (cell_at words 1) a b (are_layers-text set text m read) k.0
         l.0,
     k.1 ∙ sym l.1,
   )),
-  λ holds texts p other. prints holds set (alone_small holds set map texts p) (λ text m read.
-      let all = runs_exist (layers_on set m) (record { x = x; y = y }) in (all.0, 0, (all.1, refl))),
+  λ holds texts p silent. prints holds set (alone_small holds set (word_at words 0) texts p) (λ text m read.
+      let all = runs_exist (layers_on set m) (cell_at words 1) in (all.0, 0, (all.1, refl))),
 )
-answers set (Lengths map scen) = (
+answers set command.Lengths words tables = (
   λ pick texts lines same status code way p q.
       on_map p q (λ text m behind read a b. on_one a b (λ second c d. on_value c d (λ entries k l.
       measured.one_scenario (layers_on set m) second entries lines same status code
       (are_layers-text set text m read) k l))),
-  λ holds texts p other. lengths_has holds set map scen texts p,
+  λ holds texts p silent. lengths_has holds set words tables texts p,
 )
-answers set (Problems map seed count) = (
+answers set command.Problems words tables = (
   λ pick texts lines same status code way p q.
-      prints_one p q (λ text m read a b k l. posed.one_scenario (layers_on set m) map seed count a b status
-      code k l),
-  λ holds texts p other.
-      prints holds set (alone holds set map texts p) (λ text m read. problems_exist (layers_on set m) map
-      seed count),
+      prints_one p q (λ text m read a b k l. posed.one_scenario (layers_on set m) (word_at words 0)
+      (seed_at words 1) (count_at words 2) a b status code k l),
+  λ holds texts p silent.
+      prints holds set (alone holds set (word_at words 0) texts p) (λ text m read.
+      problems_exist (layers_on set m) (word_at words 0) (seed_at words 1) (count_at words 2)),
 )

@@ -1,21 +1,23 @@
 -- Calls come to an outcome.
-use Rattle.std.proofs.Common.{◌≡◌, ◌⊎◌, inl, inr, refl, sym, ap, subst, ℕ, ◌<◌, ◌≤◌, false, List, [], ◌++◌}
-use Rattle.std.proofs.Common.{length, append-nil}
+use Rattle.std.proofs.Common.{◌≡◌, ◌⊎◌, inl, inr, refl, ap, subst, ℕ, ◌<◌, ◌≤◌, Bool, true, false, List, []}
+use Rattle.std.proofs.Common.{◌++◌, length}
 use Rattle.std.specs.Prelude.{Option, Some, None, codes, is_some}
 use Rattle.std.specs.Option.{option_map, option_map_or}
 use Rattle.io_edge.specs.Told.{Held}
 use Rattle.script_text.specs.Feeding.{commands_of, commands_so_far, fault_of, fault_so_far}
 use Rattle.edit_replay.specs.Session.{SessionData}
 use Rattle.word_list.specs.Calls.{call_of, is_call}
-use Rattle.word_list.specs.Request.{Asked, Call, Live}
+use Rattle.word_list.specs.Kinds.{word_at}
+use Rattle.word_list.specs.Request.{Call}
 use Rattle.word_list.specs.declared.request.Settings.{Settings}
 use Rattle.word_list.specs.declared.request.Show.{Show}
+use Rattle.word_list.specs.declared.rows.Command.{Command}
+use Rattle.word_list.specs.declared.rows.Command.TheVariants.{Live}
 use Rattle.call_files.specs.FaultLines.{long_line, script_line, word_line}
-use Rattle.call_files.specs.Files.{AreAccepted, File, HasRefused}
+use Rattle.call_files.specs.Files.{AreAccepted, HasRefused}
 use Rattle.call_files.specs.Kinds.{limit_of}
-use Rattle.call_files.specs.MapFiles.{map_files}
 use Rattle.call_files.specs.declared.kind.Kind.TheVariants as kind
-use Rattle.jps_run.specs.Calls.{call_with, files_of}
+use Rattle.jps_run.specs.Calls.{IsAnswered, files_of, reads_input, task, task_of}
 use Rattle.jps_run.specs.Heard.{AnswerHeard, counted, too_long, whole}
 use Rattle.jps_run.specs.Live.{AreHeard}
 use Rattle.jps_run.specs.Outcome.{IsOutcome, Outcome, Spell, answered, bad_line, bad_text, bad_word, done}
@@ -23,7 +25,7 @@ use Rattle.outcome_laws.specs.Existing.{ArePresent}
 use Rattle.outcome_laws.proofs.Answered.{answers_exist}
 use Rattle.outcome_laws.proofs.Refusing.{accepted_or_refused, bad_word_exists, less_or_not}
 use Rattle.jps_run.specs.Session.{session_on}
-use Rattle.outcome_laws.proofs.Accepted.{HasAnswer, has_map}
+use Rattle.outcome_laws.proofs.Accepted.{HasAnswer, with_tables}
 use Rattle.outcome_laws.proofs.Commands.{answers}
 
 module _ (holds : List ℕ → Held) (set : Settings) where
@@ -59,27 +61,28 @@ module _ (holds : List ℕ → Held) (set : Settings) where
             },
           )
 
+-- a command that reads the input is the one that answers what comes in
+is_live : (command : Command) → reads_input command ≡ true → command ≡ Live
+is_live Live reads = refl
+is_live other reads = absurd (cc)
+
 abbrev Ends : List (List ℕ) → (List ℕ → Held) → List ℕ → Type 0
 Ends words holds script = (outcome : Outcome) × IsOutcome words holds (Some script) outcome
 
 module _ (words : List (List ℕ)) (holds : List ℕ → Held) (script : List ℕ) where
-  live_ends : (map : List ℕ) (tables : Option (List ℕ)) (set : Settings)
-      → Spell words (call_with (Live map tables) set)
-      → (texts : List (List ℕ)) → AreAccepted holds [] (map_files set map tables) texts
-      → Ends words holds script
-  live_ends map tables set spelled texts p =
-      let h = has_map holds set map tables [] texts (subst (λ (fs : List File). AreAccepted holds [] fs texts)
-      (sym (append-nil (map_files set map tables))) p) in
-      let d = session_on set h.map in
-      let heard = heard_exists holds set d set.show script in
+  live_ends : (call : Call) → call.request.command ≡ Live → Spell words call → (texts : List (List ℕ))
+      → AreAccepted holds [] (files_of call) texts → Ends words holds script
+  live_ends call is spelled texts p =
+      let h = with_tables holds call.settings (word_at call.request.words 0) call.request.tables texts
+      (subst (λ (c : Command). AreAccepted holds []
+      (task call.settings c call.request.words call.request.tables).files texts) is p) in
+      let d = session_on call.settings h.map in
+      let heard = heard_exists holds call.settings d call.settings.show script in
       by_line heard.0 heard.1 (record {
-        map = map;
-        tables = tables;
-        settings = set;
-        is = refl;
+        is = is;
         text = h.text;
         behind = h.loaded ++ h.more;
-        accepted = subst (λ (ts : List (List ℕ)). AreAccepted holds [] (map_files set map tables) ts) h.is p;
+        accepted = subst (λ (ts : List (List ℕ)). AreAccepted holds [] (files_of call) ts) h.is p;
         read = h.map;
         spelled = h.read;
         session = d;
@@ -88,39 +91,30 @@ module _ (words : List (List ℕ)) (holds : List ℕ → Held) (script : List �
       })
     where
       by_line : (line : Option (List ℕ)) (lines : List (List ℕ))
-          → AreHeard (call_with (Live map tables) set) holds (Some script) lines line
-          → Ends words holds script
-      by_line None lines are = (
-        record { status = 0; out = lines; line = [] },
-        answered (call_with (Live map tables) set) lines spelled are,
-      )
-      by_line (Some line) lines are = (
-        record { status = 3; out = lines; line = line },
-        bad_line (call_with (Live map tables) set) lines line spelled are,
-      )
+          → AreHeard call holds (Some script) lines line → Ends words holds script
+      by_line None lines are =
+          (record { status = 0; out = lines; line = [] }, answered call lines spelled are)
+      by_line (Some line) lines are =
+          (record { status = 3; out = lines; line = line }, bad_line call lines line spelled are)
 
   done_ends : (call : Call) → Spell words call → (texts : List (List ℕ))
-      → AreAccepted holds [] (files_of call) texts → HasAnswer call.request call.settings texts
-      → Ends words holds script
+      → AreAccepted holds [] (files_of call) texts → HasAnswer (task_of call) texts → Ends words holds script
+  unfolding IsAnswered
   done_ends call spelled texts p (lines, status, is) = (
     record { status = status; out = lines; line = [] },
     done call lines status spelled (record { texts = texts; accepted = p; answered = is }),
   )
 
   -- the files of the call are accepted
-  not_live : (asked : Asked) (set : Settings) → Spell words (call_with asked set)
-      → (texts : List (List ℕ)) → AreAccepted holds [] (files_of (call_with asked set)) texts
-      → ((map : List ℕ) (tables : Option (List ℕ)) → ¬ (asked ≡ Live map tables)) → Ends words holds script
-  not_live asked set spelled texts p other =
-      done_ends (call_with asked set) spelled texts p
-      ((answers set asked).1 holds texts p other)
-
-  call_ends : (asked : Asked) (set : Settings) → Spell words (call_with asked set)
-      → (texts : List (List ℕ)) → AreAccepted holds [] (files_of (call_with asked set)) texts
-      → Ends words holds script
-  call_ends (Live map tables) set spelled texts p =
-      live_ends map tables set spelled texts p
-  call_ends asked set spelled texts p = not_live asked set spelled texts p (λ m t e. cc)
+  call_ends : (call : Call) → Spell words call → (texts : List (List ℕ))
+      → AreAccepted holds [] (files_of call) texts → Ends words holds script
+  call_ends call spelled texts p = by_input (reads_input call.request.command) refl
+    where
+      by_input : (b : Bool) → reads_input call.request.command ≡ b → Ends words holds script
+      by_input true reads = live_ends call (is_live call.request.command reads) spelled texts p
+      by_input false silent = done_ends call spelled texts p
+          ((answers call.settings call.request.command call.request.words call.request.tables).1 holds texts p
+          silent)
 
   refused_ends : (call : Call) → Spell words call → (line : List ℕ) → HasRefused holds (files_of call) line
       → Ends words holds script
@@ -130,7 +124,7 @@ module _ (words : List (List ℕ)) (holds : List ℕ → Held) (script : List �
   files_end : (call : Call) → Spell words call
       → ((texts : List (List ℕ)) × AreAccepted holds [] (files_of call) texts)
       ⊎ ((line : List ℕ) × HasRefused holds (files_of call) line) → Ends words holds script
-  files_end call spelled (inl (texts, p)) = call_ends call.request call.settings spelled texts p
+  files_end call spelled (inl (texts, p)) = call_ends call spelled texts p
   files_end call spelled (inr (line, p)) = refused_ends call spelled line p
 
   spelled_ends : (call : Call) → Spell words call → ArePresent holds (files_of call) → Ends words holds script

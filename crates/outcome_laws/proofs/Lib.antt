@@ -33,6 +33,7 @@ pub mod OnMap
 pub mod Alike
 pub mod Accepted
 pub mod Commands
+pub mod Tasks
 pub mod SmallMaps
 pub mod Only
 pub mod Begun

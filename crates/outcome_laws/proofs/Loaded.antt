@@ -1,35 +1,28 @@
 -- A table file that is accepted changes nothing of what a call comes to.
-use Rattle.std.proofs.Common.{◌≡◌, inl, inr, refl, ap, sym, ◌∙◌, subst, ℕ, List, [], ◌∷◌, ◌++◌}
-use Rattle.std.specs.Prelude.{⊤, Option, Some, None}
+use Rattle.std.proofs.Common.{◌≡◌, ◌⊎◌, inl, inr, refl, ap, sym, ◌∙◌, subst, ℕ, List, [], ◌∷◌, ◌++◌}
+use Rattle.std.specs.Prelude.{Option, Some, None}
 use Rattle.io_edge.specs.Told.{Held}
-use Rattle.map_text.specs.Map.{Map}
-use Rattle.map_text.specs.Faults.{map_of}
 use Rattle.grid_moves.specs.declared.Corner.{Corner}
-use Rattle.word_list.specs.Request.{Asked, Call, Query, Solve, Live, Scen}
+use Rattle.word_list.specs.Kinds.{word_at}
+use Rattle.word_list.specs.Request.{Call}
 use Rattle.word_list.specs.declared.request.Pick.{Pick}
 use Rattle.word_list.specs.declared.request.Pick.TheVariants.{Session}
 use Rattle.word_list.specs.declared.request.SessionEngine.TheVariants.{Plus}
 use Rattle.word_list.specs.declared.request.Settings.{Settings}
-use Rattle.word_list.specs.declared.request.Show.{Show}
+use Rattle.word_list.specs.declared.rows.Command.{Command}
 use Rattle.call_files.specs.Files.{AreAccepted, File, HasRefused, file_of, faulty, too_long}
-use Rattle.call_files.specs.Kinds.{refusal_of}
+use Rattle.call_files.specs.Kinds.{extent_for, kind_for}
 use Rattle.call_files.specs.declared.kind.Kind.TheVariants as kind
-use Rattle.jps_run.specs.Calls.{IsAnswer, call_with, files_of}
+use Rattle.jps_run.specs.Calls.{IsAnswered, call_with, files_of, task}
 use Rattle.jps_run.specs.Live.{AreHeard}
 use Rattle.jps_run.specs.Outcome.{IsOutcome, IsOutput, Outcome, Spell, answered, bad_line, bad_text, done}
-use Rattle.jps_run.specs.Parts.{OnLast, OnMap}
-use Rattle.outcome_laws.specs.Loaded.{AreTablesOf, DifferInTables, query, solve, live, scen}
-use Rattle.outcome_laws.proofs.Alike.{last, last_append, same_first, same_others}
+use Rattle.outcome_laws.specs.Loaded.{AreTablesOf, DifferInTables}
+use Rattle.outcome_laws.proofs.Alike.{same_first}
 use Rattle.outcome_laws.proofs.Files.{ComesToRefusal, accepted_not_refused, comes, refuses}
 use Rattle.outcome_laws.proofs.Only.{CallComes, broken, call_comes, finished, refused}
 use Rattle.outcome_laws.proofs.Only as only
 use Rattle.outcome_laws.proofs.Loading.{picked}
-
--- whether a text of these files is refused does not hang on the texts before it
-abbrev StandAlone : List File → Type 0
-StandAlone [] = ⊤
-StandAlone (file ∷ files) = ((one other : List (List ℕ)) (text : List ℕ)
-    → refusal_of file.kind one text ≡ refusal_of file.kind other text) × StandAlone files
+use Rattle.outcome_laws.proofs.Tasks.{StandAlone, TakesNone, TakesTables, tables_taken}
 
 module _ (holds : List ℕ → Held) where
   accepted_anew : (one other : List (List ℕ)) (files : List File) (texts : List (List ℕ)) → StandAlone files
@@ -118,41 +111,6 @@ module _ (holds : List ℕ → Held) where
           ),
         )
 
--- the texts behind a map change, and what is known of them stays
-on_map : {one other : List (List ℕ)} {K L : Map → List (List ℕ) → Type 0} (text : List ℕ)
-    → ((m : Map) → K m one → L m other) → OnMap (text ∷ one) K → OnMap (text ∷ other) L
-on_map {one} {other} {K} {L} text f p = record {
-  text = text;
-  behind = other;
-  map = p.map;
-  is = refl;
-  read = ap map_of (same_first text p.text one p.behind p.is) ∙ p.read;
-  known = f p.map (subst (λ (ts : List (List ℕ)). K p.map ts)
-      (sym (same_others text p.text one p.behind p.is)) p.known);
-}
-
--- the texts before the last one change
-on_last : {K L : List ℕ → Type 0} (before also : List (List ℕ)) (second : List ℕ) → (K second → L second)
-    → OnLast (before ++ second ∷ []) K → OnLast (also ++ second ∷ []) L
-on_last {K} before also second f p = record {
-  before = also;
-  last = second;
-  is = refl;
-  known = f (subst K (sym (last_append [] p.before p.last)
-      ∙ ap (λ (ts : List (List ℕ)). last [] ts) (sym p.is) ∙ last_append [] before second) p.known);
-}
-
--- where one file is read behind the map, the text before its text is no matter for what is known of it
-last_swap : {K L : Map → List ℕ → Type 0} (holds : List ℕ → Held) (earlier : List (List ℕ)) (file : File)
-    (text : List ℕ) (before also more : List (List ℕ)) → AreAccepted holds earlier (file ∷ []) more
-    → ((m : Map) (second : List ℕ) → K m second → L m second)
-    → OnMap (text ∷ (before ++ more)) (λ m behind. OnLast behind (K m))
-    → OnMap (text ∷ (also ++ more)) (λ m behind. OnLast behind (L m))
-last_swap holds earlier file text before also [] p f h = absurd p
-last_swap holds earlier file text before also (second ∷ x ∷ more) p f h = absurd (p.1)
-last_swap holds earlier file text before also (second ∷ []) p f h =
-    on_map text (λ m k. on_last before also second (f m second) k) h
-
 -- what the first call comes to the second comes to
 record Leads (holds : List ℕ → Held) (call like : Call) : Type 0 where
   refusal : (line : List ℕ) → HasRefused holds (files_of call) line → HasRefused holds (files_of like) line
@@ -178,208 +136,195 @@ leads holds input call like others _ all spelled (only.replied lines p) =
 leads holds input call like others _ all spelled (broken lines line p) =
     bad_line like lines line spelled (all.heard input lines (Some line) p)
 
--- a request other than `live` hears nothing
-not_live : {A : Type 0} (holds : List ℕ → Held) (call : Call) (input : Option (List ℕ))
-    (lines : List (List ℕ))
-    (line : Option (List ℕ))
-    → ((map : List ℕ) (tables : Option (List ℕ)) → ¬ (call.request ≡ Live map tables))
-    → AreHeard call holds input lines line → A
-not_live holds call input lines line other p =
-    absurd (other p.map p.tables (ap (λ (c : Call). c.request) p.is))
+-- one after the other
+leads_then : (holds : List ℕ → Held) (call like last : Call) → Leads holds call like → Leads holds like last
+    → Leads holds call last
+leads_then holds call like last one other = record {
+  refusal = λ line p. other.refusal line (one.refusal line p);
+  output = λ lines status p. other.output lines status (one.output lines status p);
+  heard = λ input lines line p. other.heard input lines line (one.heard input lines line p);
+}
 
-module _ (holds : List ℕ → Held) (map tables : List ℕ) (show : Show) (rule : Corner)
-    (right : AreTablesOf holds rule map tables) where
-  abbrev set : Settings
-  set = record { pick = Session Plus; show = show; rule = rule }
+-- the call of a command with its words, with a table file or without, by these settings
+abbrev call_for : Command → List (List ℕ) → Option (List ℕ) → Settings → Call
+call_for command words tables set =
+    call_with (record { command = command; words = words; tables = tables }) set
 
-  -- what is asked for with a table file and without, where files that stand alone are read behind it, and its
-  -- text is no matter for an answer
-  module _ (asked : Option (List ℕ) → Asked) (rest : List File) (alone : StandAlone rest)
-      (named : files_of (call_with (asked (Some tables)) set)
-      ≡ with_tables holds rule map tables right rest alone)
-      (unnamed : files_of (call_with (asked None) set) ≡ without holds rule map tables right rest alone)
-      (quiet : (named : Option (List ℕ)) (m : List ℕ) (t : Option (List ℕ)) → ¬ (asked named ≡ Live m t))
-      (swap : (one other : Option (List ℕ)) (lines : List (List ℕ)) (status : ℕ) (text : List ℕ)
-      (before also more : List (List ℕ)) → AreAccepted holds (text ∷ []) rest more
-      → IsAnswer (asked one) set (text ∷ (before ++ more)) lines status
-      → IsAnswer (asked other) set (text ∷ (also ++ more)) lines status) where
-    abbrev asks : Option (List ℕ) → Call
-    asks named = call_with (asked named) set
+-- what comes in is heard by another call, too, whose files are accepted behind the same text
+heard_so : (holds : List ℕ → Held) {command same : Command} {words others : List (List ℕ)}
+    {one other : Option (List ℕ)} {set : Settings} {input line : Option (List ℕ)} {lines : List (List ℕ)}
+    → same ≡ command → (p : AreHeard (call_for command words one set) holds input lines line)
+    → (behind : List (List ℕ)) → AreAccepted holds [] (task set same others other).files (p.text ∷ behind)
+    → AreHeard (call_for same others other set) holds input lines line
+heard_so holds e p behind accepted = record {
+  is = e ∙ p.is;
+  text = p.text;
+  behind = behind;
+  accepted = accepted;
+  read = p.read;
+  spelled = p.spelled;
+  session = p.session;
+  answers = p.answers;
+  known = p.known;
+}
 
-    leads_off : Leads holds (asks (Some tables)) (asks None)
-    leads_off = record {
+-- where the same files are read, and what is right of the first call is right of the second, it leads to that
+leads_so : (holds : List ℕ → Held) (command same : Command) (words others : List (List ℕ))
+    (one other : Option (List ℕ)) (set : Settings) → command ≡ same
+    → (task set command words one).files ≡ (task set same others other).files
+    → ((texts lines : List (List ℕ)) (status : ℕ) → (task set command words one).IsRight texts lines status
+    → (task set same others other).IsRight texts lines status)
+    → Leads holds (call_for command words one set) (call_for same others other set)
+unfolding IsAnswered
+leads_so holds command same words others one other set e files right = record {
+  refusal = λ line p. subst (λ (fs : List File). HasRefused holds fs line) files p;
+  output = λ lines status p. record {
+    texts = p.texts;
+    accepted = subst (λ (fs : List File). AreAccepted holds [] fs p.texts) files p.accepted;
+    answered = right p.texts lines status p.answered;
+  };
+  heard = λ input lines line p. heard_so holds (sym e) p p.behind
+      (subst (λ (fs : List File). AreAccepted holds [] fs (p.text ∷ p.behind)) files p.accepted);
+}
+
+-- a command with its words and a table file, and without
+module _ (holds : List ℕ → Held) (command : Command) (words : List (List ℕ)) (tables : List ℕ)
+    (set : Settings) (plus : set.pick ≡ Session Plus)
+    (right : AreTablesOf holds set.rule (word_at words 0) tables) where
+  abbrev asks : Option (List ℕ) → Call
+  asks named = call_for command words named set
+
+  -- the command takes table files, and its files stand alone behind that one
+  module _ (t : TakesTables command words) where
+    abbrev map : List ℕ
+    map = word_at words 0
+
+    named : files_of (asks (Some tables)) ≡ with_tables holds set.rule map tables right t.rest t.alone
+    named = t.files set (Some tables)
+
+    unnamed : files_of (asks None) ≡ without holds set.rule map tables right t.rest t.alone
+    unnamed = t.files set None
+        ∙ ap (λ (pick : Pick). file_of (kind_for (extent_for pick)) map ∷ t.rest) plus
+
+    without_them : (texts : List (List ℕ)) → AreAccepted holds [] (files_of (asks (Some tables))) texts
+        → Loads holds set.rule map tables right t.rest t.alone texts
+    without_them texts p = accepted_off holds set.rule map tables right t.rest t.alone texts
+        (subst (λ (fs : List File). AreAccepted holds [] fs texts) named p)
+
+    with_them : (text : List ℕ) (more : List (List ℕ))
+        → AreAccepted holds [] (files_of (asks None)) (text ∷ more)
+        → AreAccepted holds [] (files_of (asks (Some tables))) (text ∷ right.loaded ∷ more)
+    with_them text more p =
+        subst (λ (fs : List File). AreAccepted holds [] fs (text ∷ right.loaded ∷ more)) (sym named)
+        (accepted_on holds set.rule map tables right t.rest t.alone text more
+        (subst (λ (fs : List File). AreAccepted holds [] fs (text ∷ more)) unnamed p))
+
+    tables_off : Leads holds (asks (Some tables)) (asks None)
+    unfolding IsAnswered
+    tables_off = record {
       refusal = λ line p. subst (λ (fs : List File). HasRefused holds fs line) (sym unnamed)
-          (refused_off holds rule map tables right rest alone line
+          (refused_off holds set.rule map tables right t.rest t.alone line
           (subst (λ (fs : List File). HasRefused holds fs line) named p));
-      output = λ lines status p.
-          let off = accepted_off holds rule map tables right rest alone p.texts
-          (subst (λ (fs : List File). AreAccepted holds [] fs p.texts) named p.accepted) in record {
-            texts = off.text ∷ off.more;
-            accepted = subst (λ (fs : List File). AreAccepted holds [] fs (off.text ∷ off.more)) (sym unnamed)
-                off.accepted;
-            answered = swap (Some tables) None lines status off.text (off.loaded ∷ []) [] off.more
-                off.accepted.1
-                (subst (λ (ts : List (List ℕ)). IsAnswer (asked (Some tables)) set ts lines status) off.is
-                p.answered);
-          };
-      heard = λ input lines line p. not_live holds (asks (Some tables)) input lines line (quiet (Some tables))
-          p;
+      output = λ lines status p. let off = without_them p.texts p.accepted in record {
+        texts = off.text ∷ off.more;
+        accepted = subst (λ (fs : List File). AreAccepted holds [] fs (off.text ∷ off.more)) (sym unnamed)
+            off.accepted;
+        answered = t.right set (Some tables) None holds off.text (off.loaded ∷ []) [] off.more lines status
+            off.accepted.1
+            (subst (λ (ts : List (List ℕ)). (task set command words (Some tables)).IsRight ts lines status)
+            off.is p.answered);
+      };
+      heard = λ input lines line p. let off = without_them (p.text ∷ p.behind) p.accepted in
+          heard_so holds refl p off.more
+          (subst (λ (text : List ℕ). AreAccepted holds [] (files_of (asks None)) (text ∷ off.more))
+          (sym (same_first p.text off.text p.behind (off.loaded ∷ off.more) off.is))
+          (subst (λ (fs : List File). AreAccepted holds [] fs (off.text ∷ off.more)) (sym unnamed)
+          off.accepted));
     }
 
-    leads_on : Leads holds (asks None) (asks (Some tables))
-    leads_on = record {
+    tables_on : Leads holds (asks None) (asks (Some tables))
+    unfolding IsAnswered
+    tables_on = record {
       refusal = λ line p. subst (λ (fs : List File). HasRefused holds fs line) (sym named)
-          (refused_on holds rule map tables right rest alone line
+          (refused_on holds set.rule map tables right t.rest t.alone line
           (subst (λ (fs : List File). HasRefused holds fs line) unnamed p));
-      output = λ lines status p. on lines status p.texts
-          (subst (λ (fs : List File). AreAccepted holds [] fs p.texts) unnamed p.accepted) p.answered;
-      heard = λ input lines line p. not_live holds (asks None) input lines line (quiet None) p;
+      output = λ lines status p. on lines status p.texts p.accepted p.answered;
+      heard = λ input lines line p. heard_so holds refl p (right.loaded ∷ p.behind)
+          (with_them p.text p.behind p.accepted);
     }
       where
         on : (lines : List (List ℕ)) (status : ℕ) (texts : List (List ℕ))
-            → AreAccepted holds [] (without holds rule map tables right rest alone) texts
-            → IsAnswer (asked None) set texts lines status → IsOutput (asks (Some tables)) holds lines status
-        on lines status [] p h = absurd p
+            → AreAccepted holds [] (files_of (asks None)) texts
+            → (task set command words None).IsRight texts lines status
+            → IsOutput (asks (Some tables)) holds lines status
+        on lines status [] p h = absurd (subst (λ (fs : List File). AreAccepted holds [] fs []) unnamed p)
         on lines status (text ∷ more) p h = record {
           texts = text ∷ right.loaded ∷ more;
-          accepted = subst (λ (fs : List File). AreAccepted holds [] fs (text ∷ right.loaded ∷ more))
-              (sym named) (accepted_on holds rule map tables right rest alone text more p);
-          answered = swap None (Some tables) lines status text [] (right.loaded ∷ []) more p.1 h;
+          accepted = with_them text more p;
+          answered = t.right set None (Some tables) holds text [] (right.loaded ∷ []) more lines status
+              (subst (λ (fs : List File). AreAccepted holds [] fs (text ∷ more)) unnamed p).1 h;
         }
 
-    leads_both : LeadBoth holds (asks (Some tables)) (asks None)
-    leads_both = record { off = leads_off; on = leads_on }
+  apart : TakesNone command words → (one other : Option (List ℕ)) → Leads holds (asks one) (asks other)
+  unfolding IsAnswered
+  apart t one other = leads_so holds command command words words one other set refl
+      (t.files set set one other) (t.right set one other)
 
-  query_both : (sx sy gx gy : ℕ) → LeadBoth holds (call_with (Query map (Some tables) sx sy gx gy) set)
-      (call_with (Query map None sx sy gx gy) set)
-  unfolding IsAnswer
-  query_both sx sy gx gy =
-      leads_both (λ named. Query map named sx sy gx gy) [] tt refl refl (λ named m t e. cc)
-      (λ one other lines status text before also more p h. (on_map text (λ m k. k) h.0, h.1))
-
-  solve_both : (script : List ℕ) → LeadBoth holds (call_with (Solve map (Some tables) script) set)
-      (call_with (Solve map None script) set)
-  unfolding IsAnswer
-  solve_both script =
-      leads_both (λ named. Solve map named script) (file_of kind.Script script ∷ [])
-      (λ one other text. refl, tt) refl refl (λ named m t e. cc)
-      (λ one other lines status text before also more p h. (
-        last_swap holds (text ∷ []) (file_of kind.Script script) text before also more p (λ m second k. k)
-            h.0,
-        h.1,
-      ))
-
-  scen_both : (scenario : List ℕ) → LeadBoth holds (call_with (Scen map (Some tables) scenario) set)
-      (call_with (Scen map None scenario) set)
-  unfolding IsAnswer
-  scen_both scenario =
-      leads_both (λ named. Scen map named scenario) (file_of kind.Scen scenario ∷ [])
-      (λ one other text. refl, tt) refl refl (λ named m t e. cc)
-      (λ one other lines status text before also more p h.
-      last_swap holds (text ∷ []) (file_of kind.Scen scenario) text before also more p (λ m second k. k) h)
-
-  abbrev live_by : Option (List ℕ) → Call
-  live_by named = call_with (Live map named) set
-
-  -- what is asked for by one name of a table file, by another one
-  renamed : Option (List ℕ) → Asked → Asked
-  renamed named (Live m t) = Live m named
-  renamed named other = other
-
-  -- a session hears the same, where files are accepted that begin with the same map
-  heard_so : (one other : Option (List ℕ)) → ((text : List ℕ) (texts : List (List ℕ))
-      → AreAccepted holds [] (files_of (live_by one)) (text ∷ texts)
-      → (more : List (List ℕ)) × AreAccepted holds [] (files_of (live_by other)) (text ∷ more))
-      → (input : Option (List ℕ)) (lines : List (List ℕ)) (line : Option (List ℕ))
-      → AreHeard (live_by one) holds input lines line → AreHeard (live_by other) holds input lines line
-  unfolding renamed
-  heard_so one other accepts input lines line p =
-      let more = accepts p.text p.behind p.accepted in record {
-        map = p.map;
-        tables = other;
-        settings = p.settings;
-        is = ap (λ (c : Call). call_with (renamed other c.request) c.settings) p.is;
-        text = p.text;
-        behind = more.0;
-        accepted = more.1;
-        read = p.read;
-        spelled = p.spelled;
-        session = p.session;
-        answers = p.answers;
-        known = p.known;
-      }
-
-  nothing_done : {A : Type 0} (named : Option (List ℕ)) (lines : List (List ℕ)) (status : ℕ)
-      → IsOutput (live_by named) holds lines status → A
-  unfolding IsAnswer
-  nothing_done named lines status p = absurd (none p.answered)
+  both_lead : LeadBoth holds (asks (Some tables)) (asks None)
+  both_lead = by_tables (tables_taken command words)
     where
-      none : IsAnswer (Live map named) set p.texts lines status → ⊥
-      none h = h
+      by_tables : TakesTables command words ⊎ TakesNone command words
+          → LeadBoth holds (asks (Some tables)) (asks None)
+      by_tables (inl t) = record { off = tables_off t; on = tables_on t }
+      by_tables (inr t) = record { off = apart t (Some tables) None; on = apart t None (Some tables) }
 
-  live_off : Leads holds (live_by (Some tables)) (live_by None)
-  live_off = record {
-    refusal = refused_off holds rule map tables right [] tt;
-    output = λ lines status p. nothing_done (Some tables) lines status p;
-    heard = heard_so (Some tables) None off;
-  }
-    where
-      off : (text : List ℕ) (texts : List (List ℕ))
-          → AreAccepted holds [] (files_of (live_by (Some tables))) (text ∷ texts)
-          → (more : List (List ℕ)) × AreAccepted holds [] (files_of (live_by None)) (text ∷ more)
-      off text texts p = ([], (p.0, tt))
+-- so it is with calls that differ in a table file, however their words are spelled
+module _ (holds : List ℕ → Held) (call like : Call) (tables : List ℕ)
+    (differ : DifferInTables tables call like) (plus : call.settings.pick ≡ Session Plus)
+    (right : AreTablesOf holds call.settings.rule (word_at call.request.words 0) tables) where
+  abbrev first : Option (List ℕ) → Call
+  first t = call_for call.request.command call.request.words t call.settings
 
-  live_on : Leads holds (live_by None) (live_by (Some tables))
-  live_on = record {
-    refusal = refused_on holds rule map tables right [] tt;
-    output = λ lines status p. nothing_done None lines status p;
-    heard = heard_so None (Some tables) (λ text texts p. (
-      right.loaded ∷ texts,
-      accepted_on holds rule map tables right [] tt text texts p,
-    ));
+  abbrev second : Option (List ℕ) → Settings → Call
+  second t set = call_for like.request.command like.request.words t set
+
+  first_is : first (Some tables) ≡ call
+  first_is = ap (λ (t : Option (List ℕ)). first t) (sym differ.named)
+
+  second_is : second None call.settings ≡ like
+  second_is = ap (λ (t : Option (List ℕ)). second t call.settings) (sym differ.unnamed)
+      ∙ ap (λ (set : Settings). call_with like.request set) differ.settings
+
+  between : LeadBoth holds (first None) (second None call.settings)
+  between = record {
+    off = leads_so holds call.request.command like.request.command call.request.words like.request.words
+        None None call.settings differ.same.command (differ.same.files call.settings None)
+        (differ.same.right call.settings None);
+    on = leads_so holds like.request.command call.request.command like.request.words call.request.words
+        None None call.settings (sym differ.same.command) (sym (differ.same.files call.settings None))
+        (differ.same.also call.settings None);
   }
 
-abbrev RightTables : (List ℕ → Held) → List ℕ → List ℕ → Settings → Type 0
-RightTables holds map tables set = (set.pick ≡ Session Plus) × AreTablesOf holds set.rule map tables
+  differ_lead : LeadBoth holds call like
+  differ_lead =
+      let loaded = both_lead holds call.request.command call.request.words tables call.settings plus right in
+      subst (λ (c : Call). LeadBoth holds c like) first_is
+      (subst (λ (c : Call). LeadBoth holds (first (Some tables)) c) second_is (record {
+        off = leads_then holds (first (Some tables)) (first None) (second None call.settings) loaded.off
+            between.off;
+        on = leads_then holds (second None call.settings) (first None) (first (Some tables)) between.on
+            loaded.on;
+      }))
 
--- settings that pick the engine
-as_plus : (set : Settings) → set.pick ≡ Session Plus
-    → record { pick = Session Plus; show = set.show; rule = set.rule } ≡ set
-as_plus set e = ap (λ (p : Pick). record { pick = p; show = set.show; rule = set.rule }) (sym e)
-
-both_lead : (holds : List ℕ → Held) (map tables : List ℕ) (call like : Call)
-    → DifferInTables map tables call like
-    → RightTables holds map tables call.settings → LeadBoth holds call like
-both_lead holds map tables _ _ (query sx sy gx gy set) right =
-    subst (λ (s : Settings). LeadBoth holds (call_with (Query map (Some tables) sx sy gx gy) s)
-    (call_with (Query map None sx sy gx gy) s)) (as_plus set right.0)
-    (query_both holds map tables set.show set.rule right.1 sx sy gx gy)
-both_lead holds map tables _ _ (solve script set) right =
-    subst (λ (s : Settings). LeadBoth holds (call_with (Solve map (Some tables) script) s)
-    (call_with (Solve map None script) s)) (as_plus set right.0)
-    (solve_both holds map tables set.show set.rule right.1 script)
-both_lead holds map tables _ _ (live set) right =
-    subst (λ (s : Settings). LeadBoth holds (call_with (Live map (Some tables)) s)
-    (call_with (Live map None) s)) (as_plus set right.0) (record {
-      off = live_off holds map tables set.show set.rule right.1;
-      on = live_on holds map tables set.show set.rule right.1;
-    })
-both_lead holds map tables _ _ (scen scenario set) right =
-    subst (λ (s : Settings). LeadBoth holds (call_with (Scen map (Some tables) scenario) s)
-    (call_with (Scen map None scenario) s)) (as_plus set right.0)
-    (scen_both holds map tables set.show set.rule right.1 scenario)
-
-pub tables_same : (words others : List (List ℕ)) (call like : Call) (map tables : List ℕ)
-    (holds : List ℕ → Held) (input : Option (List ℕ)) (outcome : Outcome)
-    → Spell words call → Spell others like → DifferInTables map tables call like
-    → AreTablesOf holds call.settings.rule map tables
+pub tables_same : (words others : List (List ℕ)) (call like : Call) (tables : List ℕ) (holds : List ℕ → Held)
+    (input : Option (List ℕ)) (outcome : Outcome) → Spell words call → Spell others like
+    → DifferInTables tables call like
+    → AreTablesOf holds call.settings.rule (word_at call.request.words 0) tables
     → (IsOutcome words holds input outcome → IsOutcome others holds input outcome)
     × (IsOutcome others holds input outcome → IsOutcome words holds input outcome)
-tables_same words others call like map tables holds input outcome spelled also differ right =
-    let both = both_lead holds map tables call like differ (
-      picked words call like map tables spelled differ,
-      right,
-    ) in (
+tables_same words others call like tables holds input outcome spelled also differ right =
+    let plus = picked words call tables spelled differ.named in
+    let both = differ_lead holds call like tables differ plus right in (
       λ is. leads holds input call like others outcome both.off also
           (call_comes words holds input call outcome spelled is),
       λ is. leads holds input like call words outcome both.on spelled

@@ -10,7 +10,8 @@ use Rattle.map_text.specs.Map.{Map}
 use Rattle.map_text.specs.Faults.{map_of}
 use Rattle.edit_replay.specs.Session.{SessionData}
 use Rattle.word_list.specs.Calls.{is_call}
-use Rattle.word_list.specs.Request.{Asked, Call, Query, Solve, Live, Scen}
+use Rattle.word_list.specs.Kinds.{word_at}
+use Rattle.word_list.specs.Request.{Asked, Call}
 use Rattle.word_list.specs.Rule.{IsBadWord}
 use Rattle.word_list.specs.Settings.{is_for_small_maps}
 use Rattle.word_list.specs.declared.request.Pick.{Pick}
@@ -19,6 +20,8 @@ use Rattle.word_list.specs.declared.request.SessionEngine.TheVariants.{Plain, Jp
 use Rattle.word_list.specs.declared.request.SmallEngine.TheVariants.{Boxes, Moves}
 use Rattle.word_list.specs.declared.request.Settings.{Settings}
 use Rattle.word_list.specs.declared.request.Show.{Show}
+use Rattle.word_list.specs.declared.rows.Command.{Command}
+use Rattle.word_list.specs.declared.rows.Command.TheVariants.{Live}
 use Rattle.call_files.specs.FaultLines.{word_line}
 use Rattle.call_files.specs.Files.{AreAccepted, File, HasRefused, IsAccepted, file_of}
 use Rattle.call_files.specs.Kinds.{kind_for, limit_of}
@@ -36,14 +39,15 @@ use Rattle.outcome_laws.specs.Files.{AreTold}
 use Rattle.outcome_laws.proofs.Files.{one_line, not_both}
 use Rattle.outcome_laws.proofs.Words.{one_bad_word, none_of_calls}
 use Rattle.edit_replay.specs.declared.engine.Engine.TheVariants as engine
-use Rattle.jps_run.specs.Calls.{IsAnswer, call_with, files_of}
-use Rattle.outcome_laws.specs.Outcomes.{AsksForCosts, DifferInEngine, FilesAreTold, HasSmallMap, is_jump}
+use Rattle.jps_run.specs.Calls.{IsAnswered, call_with, files_of, reads_input, task}
+use Rattle.outcome_laws.specs.Outcomes.{AsksForCosts, DifferInEngine, FilesAreTold, HoldsSmallMap, is_jump}
 use Rattle.jps_run.specs.Live.{AreHeard, OnLive}
 use Rattle.jps_run.specs.Outcome.{IsOutcome, IsOutput, Outcome, Spell, answered, bad_line}
 use Rattle.jps_run.specs.Outcome.{bad_text, bad_word, done}
 use Rattle.outcome_laws.proofs.Commands.{answers}
 use Rattle.outcome_laws.proofs.Alike.{one_cost_answer, ok_same, picking, same_first, same_others}
 use Rattle.outcome_laws.proofs.SmallMaps.{AreAlike, same_alike, small_alike}
+use Rattle.outcome_laws.proofs.Tasks.{TakesNone, TakesTables, tables_taken, unanswered}
 
 -- what a call comes to, where its words are not refused
 pub data CallComes (call : Call) (holds : List ℕ → Held) (input : Option (List ℕ)) : Outcome → Type 0 where
@@ -131,28 +135,29 @@ unfolding names
 same_map_names set other map None = refl
 same_map_names set other map (Some tables) = refl
 
-names_with : (files others : List File) (file : File) → names files ≡ names others
-    → names (files ++ file ∷ []) ≡ names (others ++ file ∷ [])
+names_with : (files others rest : List File) → names files ≡ names others
+    → names (files ++ rest) ≡ names (others ++ rest)
 unfolding names
-names_with files others file e = names_append files file ∙ ap (λ (ns : List (List ℕ)). ns ++ file.name ∷ []) e
-    ∙ sym (names_append others file)
+names_with files others rest e = names_append files ∙ ap (λ (ns : List (List ℕ)). ns ++ names rest) e
+    ∙ sym (names_append others)
   where
-    names_append : (files : List File) (file : File) → names (files ++ file ∷ []) ≡ names files
-        ++ file.name ∷ []
-    names_append [] file = refl
-    names_append (x ∷ files) file = ap (λ (ns : List (List ℕ)). x.name ∷ ns) (names_append files file)
+    names_append : (files : List File) → names (files ++ rest) ≡ names files ++ names rest
+    names_append [] = refl
+    names_append (x ∷ files) = ap (λ (ns : List (List ℕ)). x.name ∷ ns) (names_append files)
 
 same_names : (asked : Asked) (set other : Settings)
     → names (files_of (call_with asked set)) ≡ names (files_of (call_with asked other))
-same_names (Query map tables sx sy gx gy) set other = same_map_names set other map tables
-same_names (Solve map tables script) set other =
-    names_with (map_files set map tables) (map_files other map tables) (file_of kind.Script script)
-    (same_map_names set other map tables)
-same_names (Live map tables) set other = same_map_names set other map tables
-same_names (Scen map tables scen) set other =
-    names_with (map_files set map tables) (map_files other map tables) (file_of kind.Scen scen)
-    (same_map_names set other map tables)
-same_names asked set other = refl
+same_names asked set other = by_tables (tables_taken asked.command asked.words)
+  where
+    by_tables : TakesTables asked.command asked.words ⊎ TakesNone asked.command asked.words
+        → names (files_of (call_with asked set)) ≡ names (files_of (call_with asked other))
+    by_tables (inl t) =
+        let map : List ℕ = word_at asked.words 0 in
+        ap names (t.files set asked.tables)
+        ∙ names_with (map_files set map asked.tables) (map_files other map asked.tables) t.rest
+        (same_map_names set other map asked.tables)
+        ∙ ap names (sym (t.files other asked.tables))
+    by_tables (inr t) = ap names (t.files set other asked.tables asked.tables)
 
 -- nor for the files themselves, where engines take the same maps
 module _ (set other : Settings) (rule : set.rule ≡ other.rule)
@@ -165,13 +170,15 @@ module _ (set other : Settings) (rule : set.rule ≡ other.rule)
       ap (λ (corner : Corner). file_of kind.Map map ∷ file_of (kind.Tables corner) tables ∷ []) rule
 
   same_files : (asked : Asked) → files_of (call_with asked set) ≡ files_of (call_with asked other)
-  same_files (Query map tables sx sy gx gy) = same_map_files map tables
-  same_files (Solve map tables script) =
-      ap (λ (files : List File). files ++ file_of kind.Script script ∷ []) (same_map_files map tables)
-  same_files (Live map tables) = same_map_files map tables
-  same_files (Scen map tables scen) =
-      ap (λ (files : List File). files ++ file_of kind.Scen scen ∷ []) (same_map_files map tables)
-  same_files asked = refl
+  same_files asked = by_tables (tables_taken asked.command asked.words)
+    where
+      by_tables : TakesTables asked.command asked.words ⊎ TakesNone asked.command asked.words
+          → files_of (call_with asked set) ≡ files_of (call_with asked other)
+      by_tables (inl t) =
+          t.files set asked.tables
+          ∙ ap (λ (files : List File). files ++ t.rest) (same_map_files (word_at asked.words 0) asked.tables)
+          ∙ sym (t.files other asked.tables)
+      by_tables (inr t) = t.files set other asked.tables asked.tables
 
 -- engines that come to answers in one way take the same maps
 is_small : By → Bool
@@ -200,19 +207,44 @@ jump_way (pick.Session Plain) e = absurd (cc)
 jump_way (pick.Small Boxes) e = absurd (cc)
 jump_way (pick.Small Moves) e = absurd (cc)
 
+-- a call that reads the input has no answer by its files alone
+pub live_call : {A : Type 0} (holds : List ℕ → Held) {K : SessionData → Show → Type 0} (c d : Call)
+    → d.request.command ≡ c.request.command → OnLive c holds K → (lines : List (List ℕ)) (status : ℕ)
+    → IsOutput d holds lines status → A
+live_call holds c d same p lines status q =
+    unanswered d q.texts lines status (ap reads_input (same ∙ p.is)) q.answered
+
 module _ (holds : List ℕ → Held) (script : List ℕ) (call like : Call) (alike : DifferInEngine call like)
     (told : AreTold holds (files_of call)) where
+  -- the second call reads and is answered what the first one is by its settings
+  abbrev as_like : Call
+  as_like = call_with call.request like.settings
+
+  like_files : files_of as_like ≡ files_of like
+  like_files =
+      alike.same.files like.settings call.request.tables
+      ∙ ap (λ (t : Option (List ℕ)). (task like.settings like.request.command like.request.words t).files)
+      alike.tables
+
+  like_answered : (texts lines : List (List ℕ)) (status : ℕ) → IsAnswered like texts lines status
+      → IsAnswered as_like texts lines status
+  unfolding IsAnswered
+  like_answered texts lines status p =
+      alike.same.also like.settings call.request.tables texts lines status
+      (subst (λ (t : Option (List ℕ)).
+      (task like.settings like.request.command like.request.words t).IsRight texts lines status)
+      (sym alike.tables) p)
+
   pub one_list : (one two : List (List ℕ)) → AreAccepted holds [] (files_of call) one
       → AreAccepted holds [] (files_of like) two → one ≡ two
   one_list one two p q = same_texts holds (files_of call) (files_of like) [] [] one two told
-      (same_names call.request call.settings like.settings
-      ∙ ap (λ (asked : Asked). names (files_of (call_with asked like.settings))) alike.request) p q
+      (same_names call.request call.settings like.settings ∙ ap names like_files) p q
 
   -- the answers of both calls on the same texts
   Same : Type 0
   Same = (texts lines same : List (List ℕ)) (status code : ℕ)
-      → IsAnswer call.request call.settings texts lines status
-      → IsAnswer call.request like.settings texts same code → (lines ≡ same) × (status ≡ code)
+      → IsAnswered call texts lines status → IsAnswered as_like texts same code
+      → (lines ≡ same) × (status ≡ code)
 
   HeardSame : Type 0
   HeardSame = (refusal also : Option (List ℕ)) (lines same : List (List ℕ))
@@ -224,31 +256,14 @@ module _ (holds : List ℕ → Held) (script : List ℕ) (call like : Call) (ali
   unfolding Same
   both_finished one lines same status code p q =
       one p.texts lines same status code p.answered
-      (subst (λ (asked : Asked). IsAnswer asked like.settings p.texts same code) (sym alike.request)
-      (subst (λ (texts : List (List ℕ)). IsAnswer like.request like.settings texts same code)
+      (like_answered p.texts same code (subst (λ (texts : List (List ℕ)). IsAnswered like texts same code)
       (sym (one_list p.texts q.texts p.accepted q.accepted)) q.answered))
-
-  -- a call that reads the input has no answer by its files alone
-  pub live_call : {A : Type 0} {K : SessionData → Show → Type 0} (c : Call) → c.request ≡ call.request
-      → OnLive c holds K → (d : Call) → d.request ≡ call.request → (lines : List (List ℕ)) (status : ℕ)
-      → IsOutput d holds lines status → A
-  unfolding IsAnswer
-  live_call c e p d f lines status q = absurd (none
-      (subst (λ (asked : Asked). IsAnswer asked d.settings q.texts lines status)
-      (f ∙ sym e ∙ ap (λ (k : Call). k.request) p.is) q.answered))
-    where
-      none : IsAnswer (Live p.map p.tables) d.settings q.texts lines status → ⊥
-      none h = h
 
   -- two sessions that answer what comes in, on one map
   pub record OnOneMap {K L : SessionData → Show → Type 0} (p : OnLive call holds K) (q : OnLive like holds L)
       : Type 0 where
-    pub rule : p.settings.rule ≡ q.settings.rule
-    pub shown : p.settings.show ≡ q.settings.show
-    pub ways : way_of (by_of call.settings.pick) ≡ way_of (by_of like.settings.pick)
-        → way_of (by_of p.settings.pick) ≡ way_of (by_of q.settings.pick)
-    pub are : AreLayers (layers_on p.settings p.read)
-    pub is : IsSessionOn q.settings p.read q.session
+    pub are : AreLayers (layers_on call.settings p.read)
+    pub is : IsSessionOn like.settings p.read q.session
 
   pub on_one_map : {K L : SessionData → Show → Type 0} (p : OnLive call holds K) (q : OnLive like holds L)
       → OnOneMap p q
@@ -257,14 +272,8 @@ module _ (holds : List ℕ → Held) (script : List ℕ) (call like : Call) (ali
       (ap map_of (same_first p.text q.text p.behind q.behind
       (one_list (p.text ∷ p.behind) (q.text ∷ q.behind) p.accepted q.accepted)) ∙ q.spelled) in
       record {
-        rule = ap (λ (c : Call). c.settings.rule) (sym p.is) ∙ alike.rule
-            ∙ ap (λ (c : Call). c.settings.rule) q.is;
-        shown = ap (λ (c : Call). c.settings.show) (sym p.is) ∙ alike.show
-            ∙ ap (λ (c : Call). c.settings.show) q.is;
-        ways = λ way. ap (λ (c : Call). way_of (by_of c.settings.pick)) (sym p.is) ∙ way
-            ∙ ap (λ (c : Call). way_of (by_of c.settings.pick)) q.is;
-        are = are_layers-text p.settings p.text p.read p.spelled;
-        is = subst (λ (m : Map). IsSessionOn q.settings m q.session) (sym map) q.answers;
+        are = are_layers-text call.settings p.text p.read p.spelled;
+        is = subst (λ (m : Map). IsSessionOn like.settings m q.session) (sym map) q.answers;
       }
 
   both_same : AreAlike holds (files_of call) (files_of like) → Same → HeardSame → (one other : Outcome)
@@ -288,13 +297,13 @@ module _ (holds : List ℕ → Held) (script : List ℕ) (call like : Call) (ali
       ap (λ (n : ℕ). record { status = n; out = lines; line = [] }) e.1
       ∙ ap (λ (ls : List (List ℕ)). record { status = code; out = ls; line = [] }) e.0
   both_same files same heard _ _ (finished lines status p) (replied others q) =
-      live_call like (sym alike.request) q call refl lines status p
+      live_call holds like call alike.same.command q lines status p
   both_same files same heard _ _ (finished lines status p) (broken others line q) =
-      live_call like (sym alike.request) q call refl lines status p
+      live_call holds like call alike.same.command q lines status p
   both_same files same heard _ _ (replied lines p) (refused b q) =
       absurd (not_both holds (files_of call) (p.text ∷ p.behind) b told p.accepted (files.refused b q))
   both_same files same heard _ _ (replied lines p) (finished others code q) =
-      live_call call refl p like (sym alike.request) others code q
+      live_call holds call like (sym alike.same.command) p others code q
   both_same files same heard _ _ (replied lines p) (replied others q) =
       ap (λ (ls : List (List ℕ)). record { status = 0; out = ls; line = [] })
       (heard None None lines others p q).1
@@ -303,7 +312,7 @@ module _ (holds : List ℕ → Held) (script : List ℕ) (call like : Call) (ali
   both_same files same heard _ _ (broken lines line p) (refused b q) =
       absurd (not_both holds (files_of call) (p.text ∷ p.behind) b told p.accepted (files.refused b q))
   both_same files same heard _ _ (broken lines line p) (finished others code q) =
-      live_call call refl p like (sym alike.request) others code q
+      live_call holds call like (sym alike.same.command) p others code q
   both_same files same heard _ _ (broken lines line p) (replied others q) =
       absurd (let e : Some line ≡ None = (heard (Some line) None lines others p q).0 in cc)
   both_same files same heard _ _ (broken lines line p) (broken others also q) =
@@ -317,31 +326,30 @@ module _ (holds : List ℕ → Held) (script : List ℕ) (call like : Call) (ali
 
   -- an answer by the settings of the second call is one by those of the first with its engine
   so_picked : (texts lines : List (List ℕ)) (status : ℕ)
-      → IsAnswer call.request like.settings texts lines status
-      → IsAnswer call.request (picking call.settings like.settings.pick) texts lines status
+      → IsAnswered as_like texts lines status
+      → IsAnswered (call_with call.request (picking call.settings like.settings.pick)) texts lines status
   so_picked texts lines status p = rw (alike.show, alike.rule) p
 
   -- where engines come to answers in one way
   module _ (way : way_of (by_of call.settings.pick) ≡ way_of (by_of like.settings.pick)) where
     one_way : Same
-    unfolding Same
+    unfolding Same IsAnswered
     one_way texts lines same status code p q =
-        (answers call.settings call.request).0 like.settings.pick texts lines same status code way p
-        (so_picked texts same code q)
+        (answers call.settings call.request.command call.request.words call.request.tables).0
+        like.settings.pick texts lines same status code way p (so_picked texts same code q)
 
     heard_one_way : HeardSame
     unfolding HeardSame
     heard_one_way refusal also lines same p q =
         let o = on_one_map p q in
-        one_heard_on p.settings q.settings p.read o.rule o.are (o.ways way) p.session q.session p.answers o.is
-        p.settings.show script refusal also lines same p.known
-        (subst (λ (show : Show). AnswerHeard q.session show (Some script) also same) (sym o.shown) q.known)
+        one_heard_on call.settings like.settings p.read alike.rule o.are way p.session q.session p.answers
+        o.is call.settings.show script refusal also lines same p.known
+        (subst (λ (show : Show). AnswerHeard q.session show (Some script) also same) (sym alike.show) q.known)
 
     files_one_way : files_of call ≡ files_of like
     files_one_way =
         same_files call.settings like.settings alike.rule
-        (same_small call.settings.pick like.settings.pick way)
-        call.request ∙ ap (λ (asked : Asked). files_of (call_with asked like.settings)) alike.request
+        (same_small call.settings.pick like.settings.pick way) call.request ∙ like_files
 
     one_outcome : (one other : Outcome) → CallComes call holds (Some script) one
         → CallComes like holds (Some script) other
@@ -350,19 +358,19 @@ module _ (holds : List ℕ → Held) (script : List ℕ) (call like : Call) (ali
         heard_one_way
 
   -- where costs alone are asked for
-  module _ (costs : AsksForCosts call.request call.settings.show) where
+  module _ (costs : AsksForCosts call.request.command call.settings.show) where
     one_cost : Same
-    unfolding Same
+    unfolding Same IsAnswered
     one_cost texts lines same status code p q =
-        one_cost_answer call.settings like.settings.pick call.request texts lines same status code costs p
-        (so_picked texts same code q)
+        one_cost_answer call.settings like.settings.pick call.request.words call.request.tables
+        call.request.command texts lines same status code costs p (so_picked texts same code q)
 
-    not_live : {A : Type 0} {K : SessionData → Show → Type 0} (c : Call) → c.request ≡ call.request
-        → OnLive c holds K → A
-    not_live c e p = absurd (none (subst (λ (asked : Asked). AsksForCosts asked call.settings.show)
-        (sym e ∙ ap (λ (k : Call). k.request) p.is) costs))
+    not_live : {A : Type 0} {K : SessionData → Show → Type 0} (c : Call)
+        → call.request.command ≡ c.request.command → OnLive c holds K → A
+    not_live c same p = absurd (none (subst (λ (command : Command). AsksForCosts command call.settings.show)
+        (same ∙ p.is) costs))
       where
-        none : AsksForCosts (Live p.map p.tables) call.settings.show → ⊥
+        none : AsksForCosts Live call.settings.show → ⊥
         none h = h
 
     heard_none : HeardSame
@@ -371,17 +379,17 @@ module _ (holds : List ℕ → Held) (script : List ℕ) (call like : Call) (ali
 
     one_cost_outcome : (one other : Outcome)
         → (is_for_small_maps call.settings.pick ≡ is_for_small_maps like.settings.pick)
-        ⊎ ((one.status ≢ 3) × (other.status ≢ 3)) ⊎ HasSmallMap holds call.request
+        ⊎ ((one.status ≢ 3) × (other.status ≢ 3)) ⊎ HoldsSmallMap (holds (word_at call.request.words 0))
         → CallComes call holds (Some script) one → CallComes like holds (Some script) other → one ≡ other
     one_cost_outcome one other (inl small) p q =
         both_same
-        (same_alike holds (files_of call) (files_of like) (same_files call.settings like.settings alike.rule
-        small call.request ∙ ap (λ (asked : Asked). files_of (call_with asked like.settings)) alike.request))
+        (same_alike holds (files_of call) (files_of like)
+        (same_files call.settings like.settings alike.rule small call.request ∙ like_files))
         one_cost heard_none one other p q
     one_cost_outcome one other (inr (inr small)) p q =
         both_same
-        (subst (λ (asked : Asked). AreAlike holds (files_of call) (files_of (call_with asked like.settings)))
-        alike.request (small_alike holds call.settings like.settings alike.rule call.request told small))
+        (subst (λ (files : List File). AreAlike holds (files_of call) files) like_files
+        (small_alike holds call.settings like.settings alike.rule call.request told small))
         one_cost heard_none one other p q
     one_cost_outcome one other (inr (inl few)) p q = by_ends one other few p q
       where
@@ -393,11 +401,25 @@ module _ (holds : List ℕ → Held) (script : List ℕ) (call like : Call) (ali
         by_ends _ _ few (replied lines p) q = not_live call refl p
         by_ends _ _ few (finished lines status p) (refused b q) = absurd (few.1 refl)
         by_ends _ _ few (finished lines status p) (broken others line q) = absurd (few.1 refl)
-        by_ends _ _ few (finished lines status p) (replied others q) = not_live like (sym alike.request) q
+        by_ends _ _ few (finished lines status p) (replied others q) = not_live like alike.same.command q
         by_ends _ _ few (finished lines status p) (finished others code q) =
             let e = both_finished one_cost lines others status code p q in
             ap (λ (n : ℕ). record { status = n; out = lines; line = [] }) e.1
             ∙ ap (λ (ls : List (List ℕ)). record { status = code; out = ls; line = [] }) e.0
+
+-- a call asks for what it asks for
+pub itself : (call : Call) → DifferInEngine call call
+itself call = record {
+  same = record {
+    command = refl;
+    files = λ set tables. refl;
+    right = λ set tables texts lines status h. h;
+    also = λ set tables texts lines status h. h;
+  };
+  tables = refl;
+  show = refl;
+  rule = refl;
+}
 
 -- the words are refused, and this comes of it
 record IsBadIn (words : List (List ℕ)) (outcome : Outcome) : Type 0 where
@@ -420,7 +442,7 @@ module _ (words : List (List ℕ)) (holds : List ℕ → Held) (script : List �
     (q : IsOutcome words holds (Some script) other) where
   spelled_one : (call : Call) → Spell words call → one ≡ other
   spelled_one call spelled =
-      one_outcome holds script call call (record { request = refl; show = refl; rule = refl })
+      one_outcome holds script call call (itself call)
       (told call spelled) refl one other (call_comes words holds (Some script) call one spelled p)
       (call_comes words holds (Some script) call other spelled q)
 
@@ -452,9 +474,9 @@ jumps_same words others call like holds script one other told spelled also alike
 
 pub costs_same : (words others : List (List ℕ)) (call like : Call) (holds : List ℕ → Held) (script : List ℕ)
     (one other : Outcome) → AreTold holds (files_of call) → Spell words call → Spell others like
-    → DifferInEngine call like → AsksForCosts call.request call.settings.show
+    → DifferInEngine call like → AsksForCosts call.request.command call.settings.show
     → (is_for_small_maps call.settings.pick ≡ is_for_small_maps like.settings.pick)
-    ⊎ ((one.status ≢ 3) × (other.status ≢ 3)) ⊎ HasSmallMap holds call.request
+    ⊎ ((one.status ≢ 3) × (other.status ≢ 3)) ⊎ HoldsSmallMap (holds (word_at call.request.words 0))
     → IsOutcome words holds (Some script) one → IsOutcome others holds (Some script) other → one ≡ other
 costs_same words others call like holds script one other told spelled also alike costs maps p q =
     one_cost_outcome holds script call like alike told costs one other maps

@@ -7,7 +7,7 @@ use Rattle.io_edge.specs.Told.{Held, holding}
 use Rattle.io_edge.specs.Whole.{IsLonger, IsWhole}
 use Rattle.word_list.specs.Calls.{call_of, is_call}
 use Rattle.word_list.specs.Kinds.{is_of}
-use Rattle.word_list.specs.Request.{Asked, Call, Row, asked_by, row_of}
+use Rattle.word_list.specs.Request.{Asked, Call, Row, row_of}
 use Rattle.word_list.specs.Rule.{IsBadWord}
 use Rattle.word_list.specs.Settings.{is_complete, may_follow, settings_of, tables_of}
 use Rattle.word_list.specs.Steps.{AreOf, AreSettled, is_one_of, one_follows}
@@ -129,7 +129,8 @@ module _ (name : List ℕ) (words : List (List ℕ)) (refused : is_call (name �
     all_bad : length (drop taken words) ≤ more → (b : Bool) → is_complete (drop taken words) ≡ b → BadWord
     all_bad all false missing = settings_bad (inr missing)
     all_bad all true complete =
-        let request : Asked = asked_by row.command words (tables_of (drop taken words)) in
+        let request : Asked =
+        record { command = row.command; words = take taken words; tables = tables_of (drop taken words) } in
         let settings : Settings = settings_of (drop taken words) in
         absurd (never_spells (name ∷ words) (call_with request settings) refused (calls name words row is_row
         taken are above (drop taken words) refl more settled all complete request settings refl refl))

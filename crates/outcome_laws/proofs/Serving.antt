@@ -1,6 +1,6 @@
 -- A call picks an engine of small maps only where its command's row allows one.
-use Rattle.std.proofs.Common.{◌≡◌, ◌∙◌, ℕ, Bool, true, false, not, ◌||◌, List, [], ◌∷◌, ◌++◌, length, drop}
-use Rattle.std.proofs.Common.{refl, sym, ap, subst, arith}
+use Rattle.std.proofs.Common.{◌≡◌, ℕ, Bool, true, false, not, ◌||◌, List, [], ◌∷◌, ◌++◌, length, drop}
+use Rattle.std.proofs.Common.{refl, ap, subst, arith}
 use Rattle.std.specs.Prelude.{Option, Some, None, unwrap_or, option_and_then, bytes_eq, if◌then◌else◌}
 use Rattle.std.specs.List.{fold, list_all}
 use Rattle.std.proofs.lemmas.Bool.{and_parts, or_parts}
@@ -9,8 +9,6 @@ use Rattle.word_list.specs.declared.request.Pick.{Pick}
 use Rattle.word_list.specs.declared.request.Pick.TheVariants.{Small}
 use Rattle.word_list.specs.declared.request.SmallEngine.TheVariants.{Boxes, Moves}
 use Rattle.word_list.specs.declared.request.Settings.{Settings}
-use Rattle.word_list.specs.declared.rows.Command.{Command}
-use Rattle.word_list.specs.declared.rows.Command.TheVariants as command
 use Rattle.word_list.specs.declared.rows.Kind.{Kind}
 use Rattle.word_list.specs.declared.settings.Family.{Family}
 use Rattle.word_list.specs.declared.settings.Setting.{Setting}
@@ -20,7 +18,7 @@ use Rattle.word_list.specs.Kinds.{is_of}
 use Rattle.word_list.specs.Request.{Call, Named, Row, asked_by, row_in, row_of, rows}
 use Rattle.outcome_laws.specs.Serving.{IsServed, SmallEnginesServeTwo, takes_small_maps}
 use Rattle.word_list.specs.Settings.{setting_of, is_for_small_maps, is_allowed, may_follow, all_follow}
-use Rattle.word_list.specs.Settings.{are_settings, settings_with, tables_of, default_settings}
+use Rattle.word_list.specs.Settings.{are_settings, settings_with, default_settings}
 
 -- families that allow no engine of small maps
 abbrev BarSmall : List Family → Type 0
@@ -59,15 +57,7 @@ settings_behind (kind ∷ takes) allows (word ∷ words) fit =
 
 -- a row allows them only for a command that they may serve
 record IsServing (row : Row) : Type 0 where
-  bar : (words : List (List ℕ)) (tables : Option (List ℕ))
-      → takes_small_maps (asked_by row.command words tables) ≡ false
-      → BarSmall row.allows
-
--- which words a command has is no matter for whether they may
-same_takes : (c : Command) (words : List (List ℕ)) (tables : Option (List ℕ))
-    → takes_small_maps (asked_by c words tables) ≡ takes_small_maps (asked_by c [] None)
-same_takes command.Query words tables = refl
-same_takes other words tables = refl
+  bar : takes_small_maps row.command ≡ false → BarSmall row.allows
 
 -- so each row of the table does, by computing
 allows_small : Row → Bool
@@ -75,17 +65,15 @@ allows_small row = is_allowed row.allows (Some (setting.Engine (Small Boxes)))
     || is_allowed row.allows (Some (setting.Engine (Small Moves)))
 
 may_allow : Named → Bool
-may_allow one = not (allows_small one.row) || takes_small_maps (asked_by one.row.command [] None)
+may_allow one = not (allows_small one.row) || takes_small_maps one.row.command
 
 serving : (one : Named) → may_allow one ≡ true → IsServing one.row
 unfolding may_allow allows_small
 serving one may = record {
-  bar = λ words tables no.
-      let is = same_takes one.row.command words tables in
+  bar = λ no.
       let barred = or_parts (is_allowed one.row.allows (Some (setting.Engine (Small Boxes))))
       (is_allowed one.row.allows (Some (setting.Engine (Small Moves))))
-      (not_small (allows_small one.row) (takes_small_maps (asked_by one.row.command [] None)) may
-      (sym is ∙ no)) in
+      (not_small (allows_small one.row) (takes_small_maps one.row.command) may no) in
       bars one.row.allows barred.0 barred.1;
 }
   where
@@ -120,13 +108,13 @@ served (name ∷ words) call e = by_row (row_of name) refl e
   where
     by_fit : (row : Row) → IsServing row → (b : Bool) → fits row.takes row.allows words ≡ b
         → (let told : Call = record {
-          request = asked_by row.command words (tables_of (drop (length row.takes) words));
+          request = asked_by row words;
           settings = fold (λ set word. settings_with set (setting_of word)) default_settings
               (drop (length row.takes) words);
-        } in (if b then Some told else None) ≡ Some call) → IsServed call.request call.settings
+        } in (if b then Some told else None) ≡ Some call) → IsServed call.request.command call.settings
     by_fit row is true fit e =
-        subst (λ (k : Call). IsServed k.request k.settings) (same_call _ call e)
-        (λ no. with_all row.allows (is.bar words (tables_of (drop (length row.takes) words)) no) []
+        subst (λ (k : Call). IsServed k.request.command k.settings) (same_call _ call e)
+        (λ no. with_all row.allows (is.bar no) []
         (drop (length row.takes) words) default_settings
         (and_parts (all_follow row.allows [] (drop (length row.takes) words)) _
         (settings_behind row.takes row.allows words fit)).0 refl)
@@ -134,9 +122,9 @@ served (name ∷ words) call e = by_row (row_of name) refl e
 
     by_row : (o : Option Row) → row_of name ≡ o → option_and_then
         (λ row. if fits row.takes row.allows words then Some (record {
-          request = asked_by row.command words (tables_of (drop (length row.takes) words));
+          request = asked_by row words;
           settings = fold (λ set word. settings_with set (setting_of word)) default_settings
               (drop (length row.takes) words);
-        }) else None) o ≡ Some call → IsServed call.request call.settings
+        }) else None) o ≡ Some call → IsServed call.request.command call.settings
     by_row None is e = absurd (cc)
     by_row (Some row) is e = by_fit row (row_serves name row is) (fits row.takes row.allows words) refl e

@@ -1,6 +1,7 @@
 -- Files that are accepted and refused alike: the same ones, or such as differ in the kind of a small map.
 use Rattle.std.proofs.Common.{◌≡◌, ◌≢◌, ◌∙◌, refl, ap, sym, subst, ℕ, Bool, true, false, List, [], ◌∷◌, ◌++◌}
-use Rattle.std.specs.Prelude.{Option, Some, None, Ok, Err, if◌then◌else◌}
+use Rattle.std.specs.Prelude.{◌⊎◌, Option, Some, None, Ok, Err, if◌then◌else◌}
+use Rattle.std.proofs.Common.{inl, inr}
 use Rattle.std.specs.declared.result.Result.{Result}
 use Rattle.grid_moves.specs.declared.Corner.{Corner}
 use Rattle.io_edge.specs.Told.{Held, holding, absent, untold}
@@ -8,20 +9,22 @@ use Rattle.io_edge.specs.Whole.{IsLonger, IsWhole}
 use Rattle.map_text.specs.Map as maps
 use Rattle.map_text.specs.Faults.{map_of}
 use Rattle.map_text.specs.declared.fault.MapFault.{MapFault}
-use Rattle.word_list.specs.Request.{Asked, Scen}
+use Rattle.word_list.specs.Kinds.{word_at}
+use Rattle.word_list.specs.Request.{Asked}
 use Rattle.word_list.specs.Settings.{is_for_small_maps}
 use Rattle.word_list.specs.declared.request.Settings.{Settings}
 use Rattle.call_files.specs.FaultLines.{large_line, long_line, map_line}
 use Rattle.call_files.specs.Files.{AreAccepted, File, HasRefused, IsAccepted, IsRefused, faulty, file_of}
 use Rattle.call_files.specs.Files.{too_long}
 use Rattle.call_files.specs.Kinds.{fault_in, kind_for, kind_word, limit_of, refusal_of, small_refusal, takes}
-use Rattle.call_files.specs.MapFiles.{map_kind}
+use Rattle.call_files.specs.MapFiles.{map_files, map_kind}
 use Rattle.call_files.specs.declared.kind.Extent.TheVariants.{Any, Small}
 use Rattle.call_files.specs.declared.kind.Kind.{Kind}
 use Rattle.call_files.specs.declared.kind.Kind.TheVariants as kind
 use Rattle.outcome_laws.specs.Files.{AreTold}
 use Rattle.jps_run.specs.Calls.{call_with, files_of}
-use Rattle.outcome_laws.specs.Outcomes.{HasSmallMap, HoldsSmallMap}
+use Rattle.outcome_laws.specs.Outcomes.{HoldsSmallMap}
+use Rattle.outcome_laws.proofs.Tasks.{TakesNone, TakesTables, tables_taken}
 
 -- what is accepted or refused of the second files is so of the first
 pub record AreAlike (holds : List ℕ → Held) (files others : List File) : Type 0 where
@@ -137,19 +140,35 @@ kinds_alike held small false true = record {
 }
 
 -- the engine is no matter for what is accepted or refused where the map is small
-pub small_alike : (holds : List ℕ → Held) (set other : Settings) → set.rule ≡ other.rule → (asked : Asked)
-    → AreTold holds (files_of (call_with asked set)) → HasSmallMap holds asked
-    → AreAlike holds (files_of (call_with asked set)) (files_of (call_with asked other))
-small_alike holds set other rule (Scen map None scen) told small =
-    let kinds = kinds_alike (holds map) small (is_for_small_maps other.pick) (is_for_small_maps set.pick) in
-    record {
-      accepted = all_accepted holds map told.0 (map_kind other) (map_kind set) kinds
-          (file_of kind.Scen scen ∷ []);
-      refused = all_refused holds map told.0 (map_kind other) (map_kind set) kinds
-          (file_of kind.Scen scen ∷ []);
-    }
-small_alike holds set other rule (Scen map (Some tables) scen) told small =
-    same_alike holds (files_of (call_with (Scen map (Some tables) scen) set))
-    (files_of (call_with (Scen map (Some tables) scen) other)) (ap (λ (corner : Corner). file_of kind.Map map
-    ∷ file_of (kind.Tables corner) tables ∷ file_of kind.Scen scen ∷ []) rule)
-small_alike holds set other rule asked told small = absurd small
+module _ (holds : List ℕ → Held) (set other : Settings) (rule : set.rule ≡ other.rule) where
+  map_alike : (map : List ℕ) (tables : Option (List ℕ)) (rest : List File) → HoldsSmallMap (holds map)
+      → AreTold holds (map_files set map tables ++ rest)
+      → AreAlike holds (map_files set map tables ++ rest) (map_files other map tables ++ rest)
+  map_alike map None rest small told =
+      let kinds = kinds_alike (holds map) small (is_for_small_maps other.pick) (is_for_small_maps set.pick) in
+      record {
+        accepted = all_accepted holds map told.0 (map_kind other) (map_kind set) kinds rest;
+        refused = all_refused holds map told.0 (map_kind other) (map_kind set) kinds rest;
+      }
+  map_alike map (Some tables) rest small told =
+      same_alike holds (map_files set map (Some tables) ++ rest) (map_files other map (Some tables) ++ rest)
+      (ap (λ (corner : Corner). file_of kind.Map map ∷ file_of (kind.Tables corner) tables ∷ rest) rule)
+
+  pub small_alike : (asked : Asked) → AreTold holds (files_of (call_with asked set))
+      → HoldsSmallMap (holds (word_at asked.words 0))
+      → AreAlike holds (files_of (call_with asked set)) (files_of (call_with asked other))
+  small_alike asked told small = by_tables (tables_taken asked.command asked.words)
+    where
+      by_tables : TakesTables asked.command asked.words ⊎ TakesNone asked.command asked.words
+          → AreAlike holds (files_of (call_with asked set)) (files_of (call_with asked other))
+      by_tables (inl t) =
+          subst (λ (fs : List File). AreAlike holds fs (files_of (call_with asked other)))
+          (sym (t.files set asked.tables))
+          (subst (λ (fs : List File). AreAlike holds (map_files set (word_at asked.words 0) asked.tables
+          ++ t.rest) fs)
+          (sym (t.files other asked.tables))
+          (map_alike (word_at asked.words 0) asked.tables t.rest small
+          (subst (λ (fs : List File). AreTold holds fs) (t.files set asked.tables) told)))
+      by_tables (inr t) =
+          same_alike holds (files_of (call_with asked set)) (files_of (call_with asked other))
+          (t.files set other asked.tables asked.tables)

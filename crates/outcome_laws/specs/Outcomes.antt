@@ -1,21 +1,25 @@
 -- That the outcome of a call is the only one, which engines print the same, and what is written where a call
 -- stops.
-use Rattle.std.specs.Prelude.{◌≡◌, ◌≢◌, ⊤, ◌⊎◌, ℕ, Bool, true, List, take, Ok, Some}
+use Rattle.std.specs.Prelude.{◌≡◌, ◌≢◌, ⊤, ◌⊎◌, ℕ, Bool, true, List, take, Ok, Option, Some}
 use Rattle.std.specs.List.{concat}
 use Rattle.io_edge.specs.Told.{Disk, Held, Inflow, Outflow, holding}
 use Rattle.io_edge.specs.Whole.{AppendsSome}
 use Rattle.map_text.specs.Map.{Map}
 use Rattle.map_text.specs.Faults.{map_of}
-use Rattle.word_list.specs.Request.{Asked, Call, Scen, Drill}
+use Rattle.word_list.specs.Kinds.{word_at}
+use Rattle.word_list.specs.Request.{Asked, Call}
 use Rattle.word_list.specs.Settings.{is_for_small_maps}
 use Rattle.word_list.specs.declared.request.Pick.{Pick}
 use Rattle.word_list.specs.declared.request.Show.{Show}
+use Rattle.word_list.specs.declared.request.Settings.{Settings}
 use Rattle.word_list.specs.declared.request.Show.TheVariants as show
+use Rattle.word_list.specs.declared.rows.Command.{Command}
+use Rattle.word_list.specs.declared.rows.Command.TheVariants.{Drill, Scen}
 use Rattle.line_work.specs.Sending.{Wrote}
 use Rattle.call_files.specs.Kinds.{takes}
 use Rattle.call_files.specs.declared.kind.Extent.TheVariants.{Small}
 use Rattle.outcome_laws.specs.Files.{AreTold}
-use Rattle.jps_run.specs.Calls.{files_of}
+use Rattle.jps_run.specs.Calls.{files_of, task}
 use Rattle.jps_run.specs.Ending.{HasFailed, HasLines, HasPart}
 use Rattle.jps_run.specs.Outcome.{IsOutcome, Outcome, Spell}
 use Rattle.jps_run.specs.Session.{by_of}
@@ -37,9 +41,23 @@ OutcomesAreOne = (words : List (List ℕ)) (holds : List ℕ → Held) (script :
 abbrev pub is_jump : Pick → Bool
 is_jump pick = is_by_jumps (by_of pick)
 
+-- two commands with their words ask for the same, however numbers are spelled: whatever the settings and the
+-- table file, the same files are read, and the same is right
+pub record AskTheSame (one other : Asked) : Type 0 where
+  pub command : one.command ≡ other.command
+  pub files : (set : Settings) (tables : Option (List ℕ))
+      → (task set one.command one.words tables).files ≡ (task set other.command other.words tables).files
+  pub right : (set : Settings) (tables : Option (List ℕ)) (texts lines : List (List ℕ)) (status : ℕ)
+      → (task set one.command one.words tables).IsRight texts lines status
+      → (task set other.command other.words tables).IsRight texts lines status
+  pub also : (set : Settings) (tables : Option (List ℕ)) (texts lines : List (List ℕ)) (status : ℕ)
+      → (task set other.command other.words tables).IsRight texts lines status
+      → (task set one.command one.words tables).IsRight texts lines status
+
 -- two calls ask for the same, but that each may pick an engine of its own
 pub record DifferInEngine (call other : Call) : Type 0 where
-  pub request : call.request ≡ other.request
+  pub same : AskTheSame call.request other.request
+  pub tables : call.request.tables ≡ other.request.tables
   pub show : call.settings.show ≡ other.settings.show
   pub rule : call.settings.rule ≡ other.settings.rule
 
@@ -52,9 +70,9 @@ JumpEnginesPrintTheSame = (words others : List (List ℕ)) (call like : Call) (h
     → IsOutcome words holds (Some script) one → IsOutcome others holds (Some script) other → one ≡ other
 
 -- a scenario is judged without its counts of taken states, or a drill is asked for
-abbrev pub AsksForCosts : Asked → Show → Type 0
-AsksForCosts (Scen map tables scen) shown = shown ≢ show.Taken
-AsksForCosts (Drill seed) shown = ⊤
+abbrev pub AsksForCosts : Command → Show → Type 0
+AsksForCosts Scen shown = shown ≢ show.Taken
+AsksForCosts Drill shown = ⊤
 AsksForCosts other shown = ⊥
 
 -- the text that is held is that of a small map, or of none
@@ -62,20 +80,15 @@ abbrev pub HoldsSmallMap : Held → Type 0
 HoldsSmallMap held = (text : List ℕ) (m : Map) → held ≡ holding text → map_of text ≡ Ok m
     → takes Small m ≡ true
 
--- so is the text under the name of the map, by a call of `scen`
-abbrev pub HasSmallMap : (List ℕ → Held) → Asked → Type 0
-HasSmallMap holds (Scen map tables scen) = HoldsSmallMap (holds map)
-HasSmallMap holds other = ⊥
-
 -- Of calls that ask for costs alone this is so for all engines, where these take the same maps, or neither
--- call is refused, or the text for the map is that of a small one, or of none.
+-- call is refused, or the text for the map, which the first word names, is that of a small one, or of none.
 abbrev pub EnginesPrintTheSameCosts : Type 0
 EnginesPrintTheSameCosts = (words others : List (List ℕ)) (call like : Call) (holds : List ℕ → Held)
     (script : List ℕ) (one other : Outcome) → AreTold holds (files_of call)
     → Spell words call → Spell others like → DifferInEngine call like
-    → AsksForCosts call.request call.settings.show
+    → AsksForCosts call.request.command call.settings.show
     → (is_for_small_maps call.settings.pick ≡ is_for_small_maps like.settings.pick)
-    ⊎ ((one.status ≢ 3) × (other.status ≢ 3)) ⊎ HasSmallMap holds call.request
+    ⊎ ((one.status ≢ 3) × (other.status ≢ 3)) ⊎ HoldsSmallMap (holds (word_at call.request.words 0))
     → IsOutcome words holds (Some script) one → IsOutcome others holds (Some script) other → one ≡ other
 
 -- the first ones of these lines were written, each whole
