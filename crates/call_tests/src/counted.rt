@@ -1,7 +1,7 @@
 //! What the tables have to have: a row, or a reason why there is none, for each command by each engine and
 //! under each rule, and for each kind of outcome that it has.
 
-ghost use Rattle.std.specs.Prelude.{◌<◌, IfOk, IfSome};
+ghost use Rattle.std.specs.Prelude.{◌<◌};
 
 use crate::ample::{DRILLS, LONG, LONGEST};
 use crate::calls::{RULES, check, on_map, strings};
@@ -10,12 +10,14 @@ use crate::judged::{CHECKED, PROVED, SCENARIOS, TOLD};
 use crate::queries::{QUERIES, SCRIPTS};
 use crate::refused::REFUSED;
 use crate::scenarios::MADE;
-use crate::table::{PICKS, Trial, calls_of, check_rows, engines_of, is_shown, row_of, rules_of};
+use crate::table::{
+    PICKS, Trial, calls_of, check_rows, engines_of, has_name, is_shown, row_of, rules_of,
+};
 use grid_moves::Corner;
 use std::alloc::{AllocError, Global};
 use std::process::Abort;
 use std::test::Fail;
-use word_list::{Pick, Request, SessionEngine, SmallEngine, read_words};
+use word_list::{Pick, SessionEngine, SmallEngine, command_name, read_words};
 
 const TABLES: [&str; 15] = [
     QUERIES, SCRIPTS, SCENARIOS, TOLD, PROVED, CHECKED, CELLS, PICTURES, UNDRAWN, MADE, REFUSED,
@@ -35,44 +37,50 @@ streams | drill engine=each rule=any => - it reads no file; a failing write is a
 help | --help => - its text is compared at its ends alone, in ample.rt
 ";
 
-// What each command has to show, by each engine and under each rule of these sets.
-const NEEDS: &str = "
-query engine=any rule=any | walk, water, point, none, apart, outside, blocked, cells, trace
-query engine=any rule=any | M1, M2, M3, M4, M5, M6, map long, absent, streams, tables
-query engine=small rule=any | large
-query engine=plus rule=any | F1, F2, F3, tables long
-solve engine=each rule=any | walk, water, point, none, apart, outside, blocked, ok, same, empty, cells, trace
-solve engine=each rule=any | M1, M2, M3, M4, M5, M6, map long, T1, T2, script long, absent, streams, tables
-solve engine=plus rule=any | F1, F2, F3, tables long
-live engine=each rule=any | walk, water, point, none, apart, outside, blocked, ok, same, empty, cells, trace
-live engine=each rule=any | M1, M2, M3, M4, M5, M6, map long, T1, T2, script long, absent, streams, tables
-live engine=plus rule=any | F1, F2, F3, tables long
-scen engine=any rule=any | agree, near, off, scale, outside, blocked, none, apart, point, water, empty
-scen engine=any rule=any | taken, done, absent, streams, tables
-scen engine=any rule=any | M1, M2, M3, M4, M5, M6, map long, C1, C2, C3, C4, scen long
-scen engine=small rule=any | large
-scen engine=plus rule=any | F1, F2, F3, tables long
-judge rule=any | accepted, refused, scale, outside, blocked, none, apart, point, water, empty, done
-judge rule=any | M1, M2, M3, M4, M5, M6, map long, C1, C2, C3, C4, scen long, K1, K2, walks long
-judge rule=any | absent, streams
-prove rule=any | least, water, point, none, apart, outside, blocked
-prove rule=any | M1, M2, M3, M4, M5, M6, map long, absent, streams
-check rule=any | least, water, point, none, apart, size, ends, walk, start, goal, move, open
-check rule=any | M1, M2, M3, M4, M5, M6, map long, P1, P2, cert long, absent, streams
-make | make, streams
-drill engine=each rule=any | drill, streams
-draw engine=each rule=any | walk, trace, water, point, none, apart, outside, blocked
-draw engine=each rule=any | M1, M2, M3, M4, M5, M6, map long, absent, streams
-costs rule=any | costs, water, outside, blocked, M1, M2, M3, M4, M5, M6, map long, absent, streams
-tables rule=any | tables, M1, M2, M3, M4, M5, M6, map long, absent, streams
-boxes rule=any | boxes, water, outside, blocked, large, M1, M2, M3, M4, M5, M6, map long, absent, streams
-moves rule=any | moves, water, outside, blocked, large, M1, M2, M3, M4, M5, M6, map long, absent, streams
-lengths rule=any | lengths, scale, outside, blocked, none, apart, point, water, empty, done, absent, streams
-lengths rule=any | M1, M2, M3, M4, M5, M6, map long, C1, C2, C3, C4, scen long
-problems rule=any | problems, few, M1, M2, M3, M4, M5, M6, map long, absent, streams
+// A line for each command: its least words, and the kinds of outcome that it has by each engine and under
+// each rule of the sets before a colon. The first sets are all that it takes; with none it takes neither.
+const COMMANDS: &str = "
+query m 0 0 0 0 | engine=any rule=any: walk, water, point, none, apart, outside, blocked, cells, trace, \
+    tables, map faults, absent, streams | engine=small rule=any: large | engine=plus rule=any: table faults
+solve m s | engine=each rule=any: walk, water, point, none, apart, outside, blocked, ok, same, empty, cells, \
+    trace, tables, map faults, script faults, absent, streams | engine=plus rule=any: table faults
+live m | engine=each rule=any: walk, water, point, none, apart, outside, blocked, ok, same, empty, cells, \
+    trace, tables, map faults, script faults, absent, streams | engine=plus rule=any: table faults
+scen m s | engine=any rule=any: agree, near, off, scale, outside, blocked, none, apart, point, water, empty, \
+    taken, done, tables, map faults, scen faults, absent, streams \
+    | engine=small rule=any: large | engine=plus rule=any: table faults
+judge m s t | rule=any: accepted, refused, scale, outside, blocked, none, apart, point, water, empty, done, \
+    map faults, scen faults, walks faults, absent, streams
+lengths m s | rule=any: lengths, scale, outside, blocked, none, apart, point, water, empty, done, \
+    map faults, scen faults, absent, streams
+problems m 1 1 | rule=any: problems, few, map faults, absent, streams
+prove m 0 0 0 0 | rule=any: least, water, point, none, apart, outside, blocked, map faults, absent, streams
+check m s | rule=any: least, water, point, none, apart, size, ends, walk, start, goal, move, open, \
+    map faults, cert faults, absent, streams
+make 1 1 1 0 | make, streams
+drill 1 | engine=each rule=any: drill, streams
+draw m 0 0 0 0 | engine=each rule=any: walk, trace, water, point, none, apart, outside, blocked, map faults, \
+    absent, streams
+costs m 0 0 | rule=any: costs, water, outside, blocked, map faults, absent, streams
+tables m | rule=any: tables, map faults, absent, streams
+boxes m 0 0 | rule=any: boxes, water, outside, blocked, large, map faults, absent, streams
+moves m 0 0 | rule=any: moves, water, outside, blocked, large, map faults, absent, streams
 --help | help
 --version | version, streams
 ";
+
+// The kinds of outcome that this name stands for: each fault of a file, or the one of this name.
+fn kinds_of(name: &str) -> &str {
+    match name {
+        "map faults" => "M1, M2, M3, M4, M5, M6, map long",
+        "script faults" => "T1, T2, script long",
+        "scen faults" => "C1, C2, C3, C4, scen long",
+        "walks faults" => "K1, K2, walks long",
+        "cert faults" => "P1, P2, cert long",
+        "table faults" => "F1, F2, F3, tables long",
+        _ => name,
+    }
+}
 
 // Whether the words name this command, and this engine and this rule are in their sets.
 fn is_call_of(words: &str, command: &str, engine: &str, rule: &str) -> bool {
@@ -108,9 +116,15 @@ fn has_row(
     Ok(false)
 }
 
-// The command of the sets shows this by each engine and under each rule.
-fn check_need(alloc: Global, rt: &impl Abort, sets: &str, what: &str) -> Result<(), Fail> {
-    let command = sets.split_whitespace().next().unwrap_or("");
+// The command shows this by each engine and under each rule of the sets.
+fn check_need(
+    alloc: Global,
+    rt: &impl Abort,
+    command: &str,
+    sets: &str,
+    what: &str,
+) -> Result<(), Fail> {
+    assert_eq!(rt; what.is_empty(), false, "{command} {sets}");
     for engine in engines_of(sets) {
         for rule in rules_of(sets) {
             let is_there = has_row(alloc, what, command, engine, rule)?;
@@ -120,75 +134,68 @@ fn check_need(alloc: Global, rt: &impl Abort, sets: &str, what: &str) -> Result<
     Ok(())
 }
 
-#[test]
-fn each_kind_of_outcome_has_a_row_or_a_reason(rt: HostRuntime) -> Result<(), Fail> {
-    for line in NEEDS.lines() {
-        if let Some((sets, kinds)) = line.split_once('|') {
-            for what in kinds.split(',') {
-                check_need(rt.alloc(), &rt, sets, what.trim())?;
+// The command shows each of the kinds behind its least words.
+fn check_needs(alloc: Global, rt: &impl Abort, command: &str, needs: &str) -> Result<(), Fail> {
+    for need in needs.split('|') {
+        let (sets, names) = need.split_once(':').unwrap_or(("", need));
+        for name in names.split(',') {
+            for what in kinds_of(name.trim()).split(',') {
+                check_need(alloc, rt, command, sets, what.trim())?;
             }
         }
     }
     Ok(())
 }
 
-// Each command with its least words, and behind them the engines and the rules that it takes.
-const COMMANDS: &str = "
---help
---version
-query m 0 0 0 0 | engine=any rule=any
-solve m s | engine=each rule=any
-live m | engine=each rule=any
-scen m s | engine=any rule=any
-judge m s t | rule=any
-prove m 0 0 0 0 | rule=any
-check m s | rule=any
-make 1 1 1 0
-drill 1 | engine=each rule=any
-draw m 0 0 0 0 | engine=each rule=any
-costs m 0 0 | rule=any
-tables m | rule=any
-boxes m 0 0 | rule=any
-moves m 0 0 | rule=any
-lengths m s | rule=any
-problems m 1 1 | rule=any
-";
+// The least words of each command that has this to show, with the engines and the rules by which it has to.
+pub(crate) fn calls_showing(alloc: Global, what: &str) -> Result<Vec<String>, AllocError> {
+    let mut calls = Vec::new(alloc);
+    for line in COMMANDS.lines() {
+        let (least, needs) = line.split_once('|').unwrap_or((line, ""));
+        for need in needs.split('|') {
+            let (sets, names) = need.split_once(':').unwrap_or(("", need));
+            if has_name(names, what) {
+                calls.push(format!(in alloc; "{least} {sets}")?)?;
+            }
+        }
+    }
+    Ok(calls)
+}
 
-// How many commands there are; a new one has no place until it is named here, and is then missed below until
-// it has a line above. So it is with a new engine and a new rule.
-const REQUESTS: usize = 18;
+#[test]
+fn each_kind_of_outcome_has_a_row_or_a_reason(rt: HostRuntime) -> Result<(), Fail> {
+    for line in COMMANDS.lines() {
+        let (least, needs) = line.split_once('|').unwrap_or((line, ""));
+        if let Some(command) = least.split_whitespace().next() {
+            check_needs(rt.alloc(), &rt, command, needs)?;
+        }
+    }
+    Ok(())
+}
 
-const ENGINES: usize = 6;
+// How many lines the command of this name has.
+fn count_lines(name: &str) -> u64 {
+    let mut count = 0u64;
+    for line in COMMANDS.lines() {
+        if line.split_whitespace().next() == Some(name) {
+            count = count.saturating_add(1);
+        }
+    }
+    count
+}
 
-const CORNERS: usize = 3;
-
-const CELLS_OF_ALL: usize = REQUESTS * ENGINES * CORNERS;
-
-fn place_of_request(request: Request<'_>) -> usize
-    ensures { result < 18 }
-{
-    match request {
-        Request::Help => 0,
-        Request::Version => 1,
-        Request::Query { .. } => 2,
-        Request::Solve { .. } => 3,
-        Request::Live { .. } => 4,
-        Request::Scen { .. } => 5,
-        Request::Judge { .. } => 6,
-        Request::Prove { .. } => 7,
-        Request::Check { .. } => 8,
-        Request::Make { .. } => 9,
-        Request::Drill { .. } => 10,
-        Request::Draw { .. } => 11,
-        Request::Costs { .. } => 12,
-        Request::Tables { .. } => 13,
-        Request::Boxes { .. } => 14,
-        Request::Moves { .. } => 15,
-        Request::Lengths { .. } => 16,
-        Request::Problems { .. } => 17,
+#[test]
+fn each_command_has_one_line(rt: HostRuntime) {
+    for place in 0..usize::MAX {
+        let Some(name) = command_name(place) else {
+            break;
+        };
+        assert_eq!(rt; count_lines(name), 1, "{name}");
     }
 }
 
+// A new engine and a new rule have no place until they are named here, and are then missed until their words
+// stand in `PICKS` and `RULES`.
 fn place_of_pick(pick: Pick) -> usize
     ensures { result < 6 }
 {
@@ -212,28 +219,29 @@ fn place_of_rule(rule: Corner) -> usize
     }
 }
 
-// The place of the call that the words spell, none where they are refused.
-fn place_of(alloc: Global, words: &str) -> Result<Option<usize>, AllocError>
-    ensures { IfOk result (λ place. IfSome place (λ n. n < 324)) }
-{
-    let words = strings(alloc, words)?;
-    match read_words(words.as_slice()) {
-        Ok((request, settings)) => {
-            let pick = place_of_pick(settings.pick);
-            let rule = place_of_rule(settings.rule);
-            Ok(Some((place_of_request(request) * 6 + pick) * 3 + rule))
+#[test]
+fn each_engine_and_each_rule_has_its_word(rt: HostRuntime) -> Result<(), Fail> {
+    let alloc = rt.alloc();
+    let mut picked = [false; 6];
+    let mut ruled = [false; 3];
+    for engine in PICKS {
+        for rule in RULES {
+            let words = format!(in alloc; "query m 0 0 0 0 {engine} {rule}")?;
+            let words = strings(alloc, words.as_str())?;
+            if let Ok((_, settings)) = read_words(words.as_slice()) {
+                picked[place_of_pick(settings.pick)] = true;
+                ruled[place_of_rule(settings.rule)] = true;
+            }
         }
-        Err(_) => Ok(None),
     }
+    assert_eq!(rt; picked, [true; 6]);
+    assert_eq!(rt; ruled, [true; 3]);
+    Ok(())
 }
 
-// The place of a command, told by its least words, with an engine and a rule that it need not take.
-fn place_with(alloc: Global, least: &str, engine: &str, rule: &str) -> Result<usize, AllocError>
-    ensures { IfOk result (λ place. place < 324) }
-{
-    let by = format!(in alloc; "query m 0 0 0 0 {engine} {rule}")?;
-    let by = place_of(alloc, by.as_str())?.unwrap_or(0) % 18;
-    Ok(place_of(alloc, least)?.unwrap_or(0) / 18 * 18 + by)
+fn is_call(alloc: Global, words: &str) -> Result<bool, AllocError> {
+    let words = strings(alloc, words)?;
+    Ok(matches!(read_words(words.as_slice()), Ok(_)))
 }
 
 // The words of a command, with an engine and a rule, are accepted exactly where the command takes them; else
@@ -251,7 +259,7 @@ fn check_cell(
     let has_rule = rules_of(sets).contains(&rule);
     let takes_engine = engine.is_empty() || has_engine;
     let takes = takes_engine && (rule.is_empty() || has_rule);
-    let is_accepted = place_of(alloc, words.as_str())?.is_some();
+    let is_accepted = is_call(alloc, words.as_str())?;
     assert_eq!(rt; is_accepted, takes, "{words}");
     if has_engine && has_rule {
         let command = least.split_whitespace().next().unwrap_or("");
@@ -274,30 +282,21 @@ fn check_cell(
     Ok(())
 }
 
-// Each cell of command by engine by rule is accepted or refused as told, and all of them are there.
+// The first sets of a line are the engines and the rules that its command takes.
 #[test]
-fn each_command_is_counted_by_each_engine_under_each_rule(rt: HostRuntime) -> Result<(), Fail> {
-    let alloc = rt.alloc();
-    let mut seen = [false; CELLS_OF_ALL];
+fn each_command_takes_its_engines_and_its_rules(rt: HostRuntime) -> Result<(), Fail> {
     for line in COMMANDS.lines() {
-        let (least, sets) = line.split_once('|').unwrap_or((line, ""));
+        let (least, needs) = line.split_once('|').unwrap_or((line, ""));
+        let (sets, _) = needs.split_once(':').unwrap_or(("", needs));
         if least.is_empty() {
             continue;
         }
         for engine in [""].into_iter().chain(PICKS) {
             for rule in [""].into_iter().chain(RULES) {
-                check_cell(alloc, &rt, least, sets, engine, rule)?;
-                seen[place_with(alloc, least, engine, rule)?] = true;
+                check_cell(rt.alloc(), &rt, least.trim(), sets, engine, rule)?;
             }
         }
     }
-    let mut count = 0u64;
-    for is_seen in seen {
-        if is_seen {
-            count = count.saturating_add(1);
-        }
-    }
-    assert_eq!(rt; count, CELLS_OF_ALL as u64);
     Ok(())
 }
 

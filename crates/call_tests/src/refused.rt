@@ -4,8 +4,9 @@
 use crate::table::check_table;
 use std::test::Fail;
 
-// `mapped` are all commands with a map, `listed` those with a scenario, `tabled` those that load tables. The
-// first fault of the first file is named, whatever stands in those behind it.
+// `mapped` are all commands with a map, `nowhere` the same where no file has its name, `listed` those with a
+// scenario, `tabled` those that load tables. The first fault of the first file is named, whatever stands in
+// those behind it.
 pub(crate) const REFUSED: &str = "
 M1 | mapped | => 3 jps: map M1 line 1
 M1 | mapped | type octile/height 1/width x/map/. => 3 jps: map M1 line 3
@@ -29,26 +30,13 @@ large | query m 0 0 1 1 engine=small rule=any | %large => 3 jps: map large
 large | scen m absent engine=small rule=any | %large => 3 jps: map large
 large | boxes m 0 0 rule=any | %large => 3 jps: map large
 large | moves m 0 0 rule=any | %large => 3 jps: map large
-absent | query no 0 0 0 0 engine=any rule=any => 4 jps: read
-absent | solve no s engine=each rule=any => 4 jps: read
+absent | nowhere => 4 jps: read
 absent | solve m no engine=each rule=any | . => 4 jps: read
-absent | live no engine=each rule=any => 4 jps: read
-absent | scen no s engine=any rule=any => 4 jps: read
 absent | scen m no engine=any rule=any | . => 4 jps: read
-absent | judge no s t rule=any => 4 jps: read
 absent | judge m no t rule=any | . => 4 jps: read
 absent | judge m s no rule=any | . | version 1 => 4 jps: read
-absent | prove no 0 0 0 0 rule=any => 4 jps: read
-absent | check no s rule=any => 4 jps: read
 absent | check m no rule=any | . => 4 jps: read
-absent | draw no 0 0 0 0 engine=each rule=any => 4 jps: read
-absent | costs no 0 0 rule=any => 4 jps: read
-absent | tables no rule=any => 4 jps: read
-absent | boxes no 0 0 rule=any => 4 jps: read
-absent | moves no 0 0 rule=any => 4 jps: read
-absent | lengths no s rule=any => 4 jps: read
 absent | lengths m no rule=any | . => 4 jps: read
-absent | problems no 1 1 rule=any => 4 jps: read
 ";
 
 #[test]

@@ -15,6 +15,7 @@
 
 use crate::calls::{Call, ENGINES, RULES, check, check_reads};
 use crate::commands::THREE_CELLS;
+use crate::counted::calls_showing;
 use crate::small::large;
 use std::alloc::{AllocError, Global};
 use std::process::Abort;
@@ -70,17 +71,19 @@ pub(crate) fn row_of(line: &str) -> Option<Row<'_>> {
     })
 }
 
-// Whether the row shows this, among others; each row shows nothing.
-pub(crate) fn is_shown(row: Row<'_>, what: &str) -> bool {
-    if what.is_empty() {
-        return true;
-    }
-    for part in row.shows.split(',') {
-        if part.trim() == what {
+// Whether the list, parted by commas, has this name.
+pub(crate) fn has_name(list: &str, name: &str) -> bool {
+    for part in list.split(',') {
+        if part.trim() == name {
             return true;
         }
     }
     false
+}
+
+// Whether the row shows this, among others; each row shows nothing.
+pub(crate) fn is_shown(row: Row<'_>, what: &str) -> bool {
+    what.is_empty() || has_name(row.shows, what)
 }
 
 // The engines of the set that the words name; none is named where a command has none.
@@ -120,32 +123,8 @@ pub(crate) fn rules_of(words: &str) -> &'static [&'static str] {
     &[""]
 }
 
-// The commands with a script, with a map, with a scenario and with a table file; each takes the engines and
-// the rules of its own set.
+// The commands with a script, and those with a table file; each takes the engines and the rules of its own set.
 const SCRIPTED: [&str; 2] = ["solve m s", "live m"];
-
-const MAPPED: [&str; 14] = [
-    "query m 0 0 0 0 engine=any rule=any",
-    "solve m s engine=each rule=any",
-    "live m engine=each rule=any",
-    "scen m s engine=any rule=any",
-    "judge m s t rule=any",
-    "prove m 0 0 0 0 rule=any",
-    "check m s rule=any",
-    "draw m 0 0 0 0 engine=each rule=any",
-    "costs m 0 0 rule=any",
-    "tables m rule=any",
-    "boxes m 0 0 rule=any",
-    "moves m 0 0 rule=any",
-    "lengths m s rule=any",
-    "problems m 1 1 rule=any",
-];
-
-const LISTED: [&str; 3] = [
-    "scen m s engine=any rule=any",
-    "judge m s t rule=any",
-    "lengths m s rule=any",
-];
 
 const TABLED: [&str; 4] = [
     "query m 0 0 2 0 tables=t engine=plus rule=any",
@@ -154,35 +133,45 @@ const TABLED: [&str; 4] = [
     "scen m s engine=plus tables=t rule=any",
 ];
 
-// The calls of this name, none where it names no group.
-fn group(name: &str) -> &'static [&'static str] {
-    match name {
-        "mapped" => &MAPPED,
-        "listed" => &LISTED,
-        "tabled" => &TABLED,
-        _ => &[],
+// The words with another map's name, under which no file is held.
+fn elsewhere(alloc: Global, words: &str) -> Result<String, AllocError> {
+    let mut changed = String::new(alloc);
+    for word in words.split_whitespace() {
+        changed.push_str(if word == "m" { "no" } else { word })?;
+        changed.push_str(" ")?;
     }
+    Ok(changed)
+}
+
+// Each of the commands, with the settings behind it.
+fn each_with(alloc: Global, commands: &[&str], settings: &str) -> Result<Vec<String>, AllocError> {
+    let mut calls = Vec::new(alloc);
+    for command in commands {
+        calls.push(format!(in alloc; "{command}{settings}")?)?;
+    }
+    Ok(calls)
 }
 
 // The words of the calls of the row: those of a group, those of both commands with a script, or its own.
 pub(crate) fn calls_of(alloc: Global, row: Row<'_>) -> Result<Vec<String>, AllocError> {
-    let mut calls = Vec::new(alloc);
-    for words in group(row.words) {
-        calls.push(String::from_str(alloc, words)?)?;
-    }
-    if !calls.is_empty() {
-        return Ok(calls);
-    }
-    if let Some(settings) = row.words.strip_prefix("scripted") {
-        for command in SCRIPTED {
-            let mut words = String::from_str(alloc, command)?;
-            words.push_str(settings)?;
-            calls.push(words)?;
+    match row.words {
+        "mapped" => return calls_showing(alloc, "map faults"),
+        "listed" => return calls_showing(alloc, "scen faults"),
+        "tabled" => return each_with(alloc, &TABLED, ""),
+        "nowhere" => {
+            let mapped = calls_showing(alloc, "map faults")?;
+            let mut calls = Vec::new(alloc);
+            for call in mapped.as_slice() {
+                calls.push(elsewhere(alloc, call.as_str())?)?;
+            }
+            return Ok(calls);
         }
-    } else {
-        calls.push(String::from_str(alloc, row.words)?)?;
+        _ => (),
     }
-    Ok(calls)
+    match row.words.strip_prefix("scripted") {
+        Some(settings) => each_with(alloc, &SCRIPTED, settings),
+        None => each_with(alloc, &[row.words], ""),
+    }
 }
 
 // The words with this engine and this rule in place of the sets.

@@ -1,5 +1,6 @@
 use grid_moves::Corner;
 use std::alloc::{AllocError, Global};
+use std::process::Abort;
 use std::test::*;
 use word_list::*;
 
@@ -94,44 +95,137 @@ fn a_query_is_read_with_its_settings(rt: HostRuntime) -> Result<(), Fail> {
     let line = "query  007 1 2 000000003 show=trace engine=jps rule=one";
     let words = words_of(rt.alloc(), line)?;
     match read_words(&words) {
-        Ok(
-            (
-                Request::Query {
-                    map,
-                    tables,
-                    sx,
-                    sy,
-                    gx,
-                    gy,
-                },
-                settings,
-            ),
-        ) => {
-            assert_eq!(rt; map, "");
-            assert!(rt; tables.is_none());
-            assert_eq!(rt; (sx, sy, gx, gy), (7, 1, 2, 3));
+        Ok((request, settings)) => {
+            assert!(rt; matches!(request.command, Command::Query));
+            assert_eq!(rt; request.name(0), "");
+            assert!(rt; request.tables.is_none());
+            let start = (request.number(1), request.number(2));
+            let goal = (request.number(3), request.number(4));
+            assert_eq!(rt; (start, goal), ((7, 1), (2, 3)));
             assert_eq!(rt; settings.pick, Pick::Session(SessionEngine::Jps));
             assert_eq!(rt; settings.show, Show::Trace);
             assert_eq!(rt; settings.rule, Corner::One);
         }
-        _ => assert!(rt; false, "no query"),
+        Err(_) => assert!(rt; false, "no query"),
     }
     Ok(())
 }
 
-// A request's command, map, table file, and script or scenario.
-fn files_of<'a>(request: Request<'a>) -> (&'a str, &'a str, Option<&'a str>, &'a str) {
-    match request {
-        Request::Query { map, tables, .. } => ("query", map, tables, ""),
-        Request::Live { map, tables } => ("live", map, tables, ""),
-        Request::Solve {
-            map,
-            tables,
-            script,
-        } => ("solve", map, tables, script),
-        Request::Scen { map, tables, scen } => ("scen", map, tables, scen),
-        _ => ("", "", None, ""),
+// The name of a command is read as this command, where as many words as it takes follow; `1` is one of each
+// kind.
+fn check_name(alloc: Global, rt: &impl Abort, name: &str) -> Result<(), Fail> {
+    let mut words = words_of(alloc, name)?;
+    for _place in 0..8 {
+        if matches!(read_words(&words), Err(_)) {
+            words.push(String::from_str(alloc, "1")?)?;
+        }
     }
+    match read_words(&words) {
+        Ok((request, _)) => {
+            let command = format!(in alloc; "{:?}", request.command)?;
+            let plain = name.trim_start_matches('-');
+            assert!(rt; command.as_str().eq_ignore_ascii_case(plain), "{name}");
+        }
+        Err(_) => assert!(rt; false, "{name}"),
+    }
+    Ok(())
+}
+
+#[test]
+fn each_name_is_read_as_its_command(rt: HostRuntime) -> Result<(), Fail> {
+    for place in 0..usize::MAX {
+        let Some(name) = command_name(place) else {
+            break;
+        };
+        check_name(rt.alloc(), &rt, name)?;
+    }
+    Ok(())
+}
+
+// What a word is as a number, a seed, a side of a map, a percentage and a number of entries; where it is none
+// of a kind, the least one.
+type Spelled = (u32, u64, u16, u8, u32);
+
+// The request has this word at the place, which spells this.
+fn check_word(rt: &impl Abort, request: Request<'_>, place: usize, word: &str, spelled: Spelled) {
+    let (number, seed, side, percent, count) = spelled;
+    assert_eq!(rt; request.name(place), word);
+    assert_eq!(rt; request.number(place), number, "{word}");
+    assert_eq!(rt; request.seed(place), seed, "{word}");
+    assert_eq!(rt; request.side(place), side, "{word}");
+    assert_eq!(rt; request.percent(place), percent, "{word}");
+    assert_eq!(rt; request.count(place), count, "{word}");
+}
+
+#[test]
+fn a_word_is_told_as_each_kind(rt: HostRuntime) -> Result<(), Fail> {
+    let words = [
+        ("m", (0, 0, 1, 0, 1)),
+        ("-1", (0, 0, 1, 0, 1)),
+        ("0", (0, 0, 1, 0, 1)),
+        ("1", (1, 1, 1, 1, 1)),
+        ("100", (100, 100, 100, 100, 100)),
+        ("101", (101, 101, 101, 0, 101)),
+        ("257", (257, 257, 257, 0, 257)),
+        ("4096", (4096, 4096, 4096, 0, 4096)),
+        ("4097", (4097, 4097, 1, 0, 4097)),
+        ("65537", (65537, 65537, 1, 0, 65537)),
+        ("100000", (100000, 100000, 1, 0, 100000)),
+        ("100001", (100001, 100001, 1, 0, 1)),
+        ("000000007", (7, 7, 7, 7, 7)),
+        ("0000000007", (0, 7, 1, 0, 1)),
+        ("999999999", (999999999, 999999999, 1, 0, 1)),
+        ("18446744073709551615", (0, 18446744073709551615, 1, 0, 1)),
+        ("18446744073709551616", (0, 0, 1, 0, 1)),
+    ];
+    for (word, spelled) in words {
+        let words = words_of(rt.alloc(), word)?;
+        let request = Request {
+            command: Command::Help,
+            words: &words,
+            tables: None,
+        };
+        check_word(&rt, request, 0, word, spelled);
+        check_word(&rt, request, 1, "", (0, 0, 1, 0, 1));
+    }
+    Ok(())
+}
+
+// Words of each kind, by their places in a call.
+#[test]
+fn words_are_told_by_their_places(rt: HostRuntime) -> Result<(), Fail> {
+    let words = words_of(rt.alloc(), "make 7 4096 3 100")?;
+    match read_words(&words) {
+        Ok((request, _)) => {
+            assert_eq!(rt; request.seed(0), 7);
+            assert_eq!(rt; (request.side(1), request.side(2)), (4096, 3));
+            assert_eq!(rt; request.percent(3), 100);
+            assert_eq!(rt; request.name(4), "");
+        }
+        Err(_) => assert!(rt; false, "no map"),
+    }
+    let words = words_of(rt.alloc(), "problems m 8 100000 rule=one")?;
+    match read_words(&words) {
+        Ok((request, _)) => {
+            assert_eq!(rt; request.name(0), "m");
+            assert_eq!(rt; (request.seed(1), request.count(2)), (8, 100000));
+            assert_eq!(rt; request.name(3), "");
+        }
+        Err(_) => assert!(rt; false, "no problems"),
+    }
+    Ok(())
+}
+
+// A request's command, its first two words, and its table file.
+fn files_of<'a>(request: Request<'a>) -> (&'static str, &'a str, Option<&'a str>, &'a str) {
+    let command = match request.command {
+        Command::Query => "query",
+        Command::Live => "live",
+        Command::Solve => "solve",
+        Command::Scen => "scen",
+        _ => "another",
+    };
+    (command, request.name(0), request.tables, request.name(1))
 }
 
 // The name of a table file is all behind the first `=`; its engine may stand before it or behind it.
@@ -161,7 +255,7 @@ fn a_map_stands_before_its_script_or_scenario(rt: HostRuntime) -> Result<(), Fai
         ),
         (
             "query m 0 0 1 1 tables=t engine=plus",
-            ("query", "m", t, ""),
+            ("query", "m", t, "0"),
             (plus, points, none),
         ),
         (
@@ -191,8 +285,30 @@ fn a_map_stands_before_its_script_or_scenario(rt: HostRuntime) -> Result<(), Fai
 #[test]
 fn help_and_version_stand_alone(rt: HostRuntime) -> Result<(), Fail> {
     let words = words_of(rt.alloc(), "--help")?;
-    assert!(rt; matches!(read_words(&words), Ok((Request::Help, _))));
+    assert!(rt;
+        matches!(
+            read_words(&words),
+            Ok((
+                Request {
+                    command: Command::Help,
+                    ..
+                },
+                _
+            ))
+        )
+    );
     let words = words_of(rt.alloc(), "--version")?;
-    assert!(rt; matches!(read_words(&words), Ok((Request::Version, _))));
+    assert!(rt;
+        matches!(
+            read_words(&words),
+            Ok((
+                Request {
+                    command: Command::Version,
+                    ..
+                },
+                _
+            ))
+        )
+    );
     Ok(())
 }
