@@ -85,7 +85,6 @@ module _ (layout : Layout) (width : ℕ) (nodes : List Node) (heads : List ℕ) 
   exact_added n later_heads later_records p placed none l = record {
     heads_are = p.heads_are;
     few = (let f = x.few in let e = longer nodes in omega arith);
-    covered = λ c r h. covered c r h (two c (cell_number width (state_of layout n).cell));
     inside = λ id m h. inside m (elim (got-added nodes n id m h) [
       | inl was ↦ x.inside id m was
       | inr here ↦ subst (λ (q : Node). IsPlaced width (length heads) (state_of layout q).cell)
@@ -124,15 +123,6 @@ module _ (layout : Layout) (width : ℕ) (nodes : List Node) (heads : List ℕ) 
           (arrival_number (state_of layout n).arrival) (length nodes)
       last_at = record { node = n; node_is = get_pushed nodes n; cell_is = refl; arrival_is = refl }
 
-      covered : (c r : ℕ) → slice_get later_heads c ≡ Some (suc r)
-          → (c ≡ cell_number width (state_of layout n).cell)
-          ⊎ (c ≡ cell_number width (state_of layout n).cell → ⊥)
-          → (a id : ℕ) × (0 ≤ id) × IsNodeAt layout width (nodes ++ n ∷ []) c a id
-      covered c r h (inl e) = grind (arith, nat_tests, common_steps, last_at)
-      covered c r h (inr ne) =
-          let old = x.covered c r (sym (p.heads_stay c ne) ∙ h) in
-          (old.0, old.1, old.2, lifted c old.0 old.1 old.3)
-
       number_is : (i j : ℕ) → suc i ≡ suc j → i ≡ j
       number_is i j e = omega arith
 
@@ -164,7 +154,6 @@ module _ (layout : Layout) (width : ℕ) (nodes : List Node) (heads : List ℕ) 
   exact_replaced id old n h e = record {
     heads_are = x.heads_are;
     few = (let f = x.few in let s = length-set nodes id n in omega arith);
-    covered = λ c r g. let o = x.covered c r g in (o.0, o.1, o.2, kept c o.0 o.1 o.3 (two o.1));
     inside = λ j m g. grind (arith, nat_tests, common_steps, got-set);
     found = λ j m g. elim (got-set nodes j id m n g) [
       | inl was ↦ x.found j m was.1

@@ -15,6 +15,7 @@ pub mod Numbers
 pub mod Exact
 pub mod Forgetting
 pub mod Tables
+pub mod Rooms
 pub mod Parts
 pub mod Ending
 pub mod Tracing

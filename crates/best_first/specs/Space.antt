@@ -1,5 +1,5 @@
 -- What a contract sees of a `Space`.
-use Rattle.std.specs.Prelude.{◌≡◌, Bool, true, false, ℕ, ◌-◌, ◌<◌, ◌≤◌, ◌+◌, min}
+use Rattle.std.specs.Prelude.{◌≡◌, Bool, true, false, ℕ, ◌<◌, ◌≤◌, ◌+◌}
 use Rattle.grid_moves.specs.declared.Cell.{Cell}
 use Rattle.grid_moves.specs.Grid.{cell_number}
 use Rattle.best_first.specs.declared.state.Layout.{Layout}
@@ -7,7 +7,7 @@ use Rattle.best_first.specs.declared.state.Layout.TheVariants.{ByCell, ByArrival
 use Rattle.best_first.specs.Table.{Table}
 
 -- which states a cell has, the number of places for cells, the nodes of the last search, the width of its
--- map, and how many offers can be taken with no more memory
+-- map, and for how many offers there is memory at least
 pub record SpaceData : Type 0 where
   pub layout : Layout
   pub places : ℕ
@@ -25,10 +25,10 @@ abbrev pub HasRoomFor : Layout → ℕ → ℕ → ℕ → Type 0
 HasRoomFor ByCell n len capacity = Unit {0}
 HasRoomFor ByArrival n len capacity = len + n ≤ capacity
 
--- how many offers fit: as many nodes, and where a cell has a record as many records
-abbrev pub room_in : Layout → ℕ → ℕ → ℕ → ℕ
-room_in ByCell nodes len capacity = nodes
-room_in ByArrival nodes len capacity = min nodes (capacity - len)
+-- there is memory for so many nodes in all, and where a cell has a record for as many records
+pub record HasRoom (layout : Layout) (room nodes spare capacity : ℕ) : Type 0 where
+  pub for_nodes : room ≤ nodes + spare
+  pub for_records : HasRoomFor layout room 0 capacity
 
 -- of what contracts see, all but the nodes and the room stays
 pub record KeepsShape (old new : SpaceData) : Type 0 where

@@ -2,10 +2,11 @@
 //!
 //! A cell's head is 0 before the cell is reached. Then, where a cell has one state, it is the number
 //! of the state's node and one; where a cell has a state for each arrival, it is the number of the
-//! cell's record and one, and the record's entries are such numbers.
+//! cell's record and one, and the record's entries are such numbers. Before them a record has the
+//! number of its cell, by which the head is found again when all are set back.
 
 ghost use Rattle.std.specs.Prelude.{◌≡◌, ℕ, suc, [], ◌∷◌, ◌++◌, Some, slice_get, ◌<◌, ◌≤◌, ◌+◌, ◌-◌, ◌^◌, length, OnOk, OnErr, IfOk, vec_len, vec_capacity, slice_set};
-ghost use Rattle.best_first.specs.Index.{entry_in, entry_of_record, HasRecord, AreRecords, AreHeads, AreBlank, IsOpened, IsPut};
+ghost use Rattle.best_first.specs.Index.{entry_in, entry_of_record, cell_of_record, HasRecord, AreRecords, AreHeads, AreLed, AreBlank, IsOpened, IsPut};
 ghost use Rattle.best_first.specs.Space.{HasRoomFor};
 ghost use Rattle.best_first.specs.State.{state_in, arrival_number};
 
@@ -17,7 +18,7 @@ use std::alloc::Global;
 pub(crate) struct Index {
     pub(crate) layout: Layout,
     pub(crate) heads: Vec<u32>,
-    pub(crate) records: Vec<[u32; 9]>,
+    pub(crate) records: Vec<[u32; 10]>,
 }
 
 // So many heads, all 0.
@@ -30,7 +31,7 @@ fn blank_heads(alloc: Global, cells: usize) -> Result<Vec<u32>, NoMemory>
 
 // What the record that a head leads to has for an arrival.
 #[inline(always)]
-fn entry_of_record(head: u32, records: &[[u32; 9]], arrival: u8) -> u32
+fn entry_of_record(head: u32, records: &[[u32; 10]], arrival: u8) -> u32
     requires have { (r : ℕ) → head ≡ suc r → HasRecord records.now r }
     requires small { arrival < 9 }
     ensures { result ≡ entry_of_record head records.now arrival }
@@ -38,26 +39,26 @@ fn entry_of_record(head: u32, records: &[[u32; 9]], arrival: u8) -> u32
     if head == 0 {
         return 0;
     }
-    records[head as usize - 1][arrival as usize]
+    records[head as usize - 1][1 + arrival as usize]
 }
 
-// Gives a cell a new record, of nine entries 0.
-fn take_record(heads: &mut [u32], cell: usize, records: &mut Vec<[u32; 9]>)
+// Gives a cell a new record: its number, and nine entries 0.
+fn take_record(heads: &mut [u32], cell: u32, records: &mut Vec<[u32; 10]>)
     requires within { cell < length heads.old }
     requires room { vec_len records.old < vec_capacity records.old }
     requires few { vec_len records.old < 2 ^ 28 }
     ensures heads { heads.new ≡ slice_set heads.old cell (suc (length records.old.items)) }
     ensures records { records.new.items
-        ≡ records.old.items ++ (0 ∷ 0 ∷ 0 ∷ 0 ∷ 0 ∷ 0 ∷ 0 ∷ 0 ∷ 0 ∷ []) ∷ [] }
+        ≡ records.old.items ++ (cell ∷ 0 ∷ 0 ∷ 0 ∷ 0 ∷ 0 ∷ 0 ∷ 0 ∷ 0 ∷ 0 ∷ []) ∷ [] }
     ensures len { vec_len records.new ≡ vec_len records.old + 1 }
     ensures capacity { vec_capacity records.new ≡ vec_capacity records.old }
 {
-    records.push_reserved([0, 0, 0, 0, 0, 0, 0, 0, 0]);
-    heads[cell] = records.len() as u32;
+    records.push_reserved([cell, 0, 0, 0, 0, 0, 0, 0, 0, 0]);
+    heads[cell as usize] = records.len() as u32;
 }
 
 // Gives a cell a record where it has none.
-fn open_record(heads: &mut [u32], cell: usize, records: &mut Vec<[u32; 9]>)
+fn open_record(heads: &mut [u32], cell: u32, records: &mut Vec<[u32; 10]>)
     requires records { AreRecords heads.old records.old.items }
     requires within { cell < length heads.old }
     requires room { vec_len records.old < vec_capacity records.old }
@@ -66,28 +67,28 @@ fn open_record(heads: &mut [u32], cell: usize, records: &mut Vec<[u32; 9]>)
     ensures one_more { vec_len records.new ≤ vec_len records.old + 1 }
     ensures capacity { vec_capacity records.new ≡ vec_capacity records.old }
 {
-    if heads[cell] == 0 {
+    if heads[cell as usize] == 0 {
         take_record(heads, cell, records);
     }
 }
 
 // Sets what a record has for an arrival.
-fn set_in_record(records: &mut Vec<[u32; 9]>, r: usize, arrival: u8, entry: u32)
+fn set_in_record(records: &mut Vec<[u32; 10]>, r: usize, arrival: u8, entry: u32)
     requires have { HasRecord records.old.items r }
     requires small { arrival < 9 }
     ensures changed { (entries : _) → slice_get records.old.items r ≡ Some entries
-        → records.new.items ≡ slice_set records.old.items r (slice_set entries arrival entry) }
+        → records.new.items ≡ slice_set records.old.items r (slice_set entries (suc arrival) entry) }
     ensures len { vec_len records.new ≡ vec_len records.old }
     ensures capacity { vec_capacity records.new ≡ vec_capacity records.old }
 {
-    records[r][arrival as usize] = entry;
+    records[r][1 + arrival as usize] = entry;
 }
 
 // Sets what a cell has for an arrival.
 fn put_in_record(
     heads: &mut [u32],
-    cell: usize,
-    records: &mut Vec<[u32; 9]>,
+    cell: u32,
+    records: &mut Vec<[u32; 10]>,
     arrival: u8,
     entry: u32,
 )
@@ -102,8 +103,21 @@ fn put_in_record(
     ensures capacity { vec_capacity records.new ≡ vec_capacity records.old }
 {
     open_record(heads, cell, records);
-    let r = heads[cell] as usize - 1;
+    let r = heads[cell as usize] as usize - 1;
     set_in_record(records, r, arrival, entry);
+}
+
+// Sets the heads of all cells that have a record back to 0.
+pub(crate) fn clear_by_records(heads: &mut [u32], records: &[[u32; 10]])
+    requires led { AreLed (cell_of_record records.now) 0 (length records.now) heads.old }
+    requires within { (r : ℕ) → r < length records.now → cell_of_record records.now r < length heads.old }
+    ensures blank { AreBlank heads.new }
+    ensures as_many { length heads.new ≡ length heads.old }
+{
+    for r in 0..records.len() {
+        let cell = records[r][0] as usize;
+        heads[cell] = 0;
+    }
 }
 
 impl Index {
@@ -146,7 +160,7 @@ impl Index {
 
     /// Sets the entry for a state, told the layout and its cell's number.
     #[inline(always)]
-    pub(crate) fn put(&mut self, layout: Layout, cell: usize, state: State, entry: u32)
+    pub(crate) fn put(&mut self, layout: Layout, cell: u32, state: State, entry: u32)
         requires told { layout ≡ self.old.layout }
         requires heads { AreHeads self.old.layout self.old.heads.items self.old.records.items }
         requires within { cell < length self.old.heads.items }
@@ -159,7 +173,7 @@ impl Index {
         ensures capacity { vec_capacity self.new.records ≡ vec_capacity self.old.records }
     {
         match layout {
-            Layout::ByCell => self.heads[cell] = entry,
+            Layout::ByCell => self.heads[cell as usize] = entry,
             Layout::ByArrival => {
                 let arrival = number_of_arrival(state.arrival);
                 put_in_record(

@@ -1,16 +1,16 @@
 //! The memory of a search: its nodes, and an index from states to nodes.
 
 ghost use Rattle.std.specs.Prelude.{◌≡◌, ℕ, suc, ◌+◌, ◌-◌, ◌*◌, ◌<◌, ◌≤◌, ◌^◌, [], ◌∷◌, ◌++◌, length, true, false, Some, None, OnOk, OnErr, IfOk, IfNone, IfSome, vec_len, vec_capacity, slice_get, slice_set};
-ghost use Rattle.best_first.specs.Index.{entry_for, AreBlank, AreCovered, IsExact, AreParts};
+ghost use Rattle.best_first.specs.Index.{entry_for, cell_of_node, AreBlank, AreLed, IsExact};
 ghost use Rattle.best_first.specs.Node.{state_of, ranks_before};
-ghost use Rattle.best_first.specs.Space.{SpaceData, IsPlaced, KeepsShape, HasRoomFor, room_in, layout_by};
+ghost use Rattle.best_first.specs.Space.{SpaceData, IsPlaced, KeepsShape, HasRoomFor, HasRoom, layout_by};
 ghost use Rattle.best_first.specs.State.{state_in, state_told, place_of, start_at};
 ghost use Rattle.best_first.specs.Table.{Table, lookup, node_for, added, replaced, is_bettered, offered, begun, closed_at, IsFirstNode, NoneOpen, ClosedBelow};
 ghost use Rattle.grid_moves.specs.Grid.{cell_number};
 ghost use Rattle.grid_moves.specs.Points.{estimate};
 ghost use Rattle.root2_cost.specs.Rank.{rank_of};
 
-use crate::index::Index;
+use crate::index::{Index, clear_by_records};
 use crate::node::estimate_rank;
 use crate::state::layout_by;
 use crate::{Layout, NoMemory, Node, Offer, Place, State};
@@ -31,6 +31,9 @@ pub struct Space {
     index: Index,
     // The width of the map of the last search, by which the index has its nodes.
     width: u16,
+    // How many nodes there can be, and as many records, before memory is asked for: one number to look at
+    // before offers, in place of the room of two lists.
+    room: u32,
 }
 
 impl Model for Space {
@@ -38,20 +41,19 @@ impl Model for Space {
 
     ghost Value = { SpaceData };
 
-    ghost use Rattle.std.specs.Prelude.{length, vec_len, vec_capacity};
-    ghost use Rattle.best_first.specs.Space.{room_in};
-    ghost use Rattle.best_first.specs.Index.{AreParts};
+    ghost use Rattle.std.specs.Prelude.{◌-◌, length, vec_capacity};
+    ghost use Rattle.best_first.specs.Index.{IsSpace};
 
     ghost view = { λ s. record {
       layout = s.index.layout;
       places = length s.index.heads.items;
       width = s.width;
       table = record { nodes = s.pool.nodes; open_at = s.pool.open_at };
-      spare = room_in s.index.layout s.pool.spare (vec_len s.index.records) (vec_capacity s.index.records);
+      spare = s.room - length s.pool.nodes;
     } };
 
-    ghost invariant = { λ s.
-        AreParts s.index.layout s.width s.pool.nodes s.index.heads.items s.index.records.items };
+    ghost invariant = { λ s. IsSpace s.index.layout s.width s.room s.pool.spare (vec_capacity s.index.records)
+        s.pool.nodes s.index.heads.items s.index.records.items };
 }
 
 // The node of an offer.
@@ -68,19 +70,34 @@ fn node_for(goal: Cell, offer: Offer) -> Node
     }
 }
 
-// Sets the heads of all cells that have a node back to 0.
-fn clear_heads(pool: &Pool<Node>, index: &mut Index, width: u16)
-    requires covered { AreCovered index.old.layout width pool.now.nodes 0 index.old.heads.items }
+// Sets the heads of all cells that have a node back to 0, where each head but 0 leads to a node.
+fn clear_by_nodes(pool: &Pool<Node>, heads: &mut [u32], width: u16)
+    requires led { AreLed (cell_of_node width pool.now.nodes) 0 (length pool.now.nodes) heads.old }
     requires inside { (id : ℕ) (n : _) → slice_get pool.now.nodes id ≡ Some n
-        → IsPlaced width (length index.old.heads.items) (state_of index.old.layout n).cell }
+        → IsPlaced width (length heads.old) (state_told n.place).cell }
+    ensures blank { AreBlank heads.new }
+    ensures as_many { length heads.new ≡ length heads.old }
+{
+    for id in 0..pool.len() {
+        let cell = number_of(width, pool.node(id).place.cell()) as usize;
+        heads[cell] = 0;
+    }
+}
+
+// Sets all heads back to 0: only those that are not 0 are looked at.
+fn clear_heads(pool: &Pool<Node>, index: &mut Index, width: u16)
+    requires exact { IsExact index.old.layout width pool.now.nodes index.old.heads.items
+        index.old.records.items }
     ensures blank { AreBlank index.new.heads.items }
     ensures as_many { length index.new.heads.items ≡ length index.old.heads.items }
     ensures layout { index.new.layout ≡ index.old.layout }
     ensures records { index.new.records ≡ index.old.records }
 {
-    for id in 0..pool.len() {
-        let cell = number_of(width, pool.node(id).place.cell()) as usize;
-        index.heads[cell] = 0;
+    match index.layout {
+        Layout::ByCell => clear_by_nodes(pool, index.heads.as_mut_slice(), width),
+        Layout::ByArrival => {
+            clear_by_records(index.heads.as_mut_slice(), index.records.as_slice());
+        }
     }
 }
 
@@ -94,30 +111,51 @@ fn forget(pool: &mut Pool<Node>, index: &mut Index, width: u16)
     ensures records { index.new.records.items ≡ [] }
     ensures as_many { length index.new.heads.items ≡ length index.old.heads.items }
     ensures layout { index.new.layout ≡ index.old.layout }
+    ensures spare { pool.new.spare ≡ length pool.old.nodes + pool.old.spare }
+    ensures capacity { vec_capacity index.new.records ≡ vec_capacity index.old.records }
 {
     clear_heads(pool, index, width);
     index.records.clear();
     pool.clear();
 }
 
-// Makes room for so many nodes and records more.
-fn make_room(pool: &mut Pool<Node>, index: &mut Index, n: u32) -> Result<(), NoMemory>
-    requires few { length pool.old.nodes + n < 2 ^ 28 }
-    ensures room { OnOk result (n ≤ pool.new.spare) }
-    ensures records_room { OnOk result (HasRoomFor index.old.layout n (vec_len index.new.records)
-        (vec_capacity index.new.records)) }
-    ensures not_less { pool.old.spare ≤ pool.new.spare }
+// Makes room for so many records in all, where cells have records.
+fn grow_records(index: &mut Index, n: usize) -> Result<(), NoMemory>
+    requires fewer { vec_len index.old.records ≤ n }
+    ensures room { OnOk result (HasRoomFor index.old.layout n 0 (vec_capacity index.new.records)) }
+    ensures capacity { vec_capacity index.old.records ≤ vec_capacity index.new.records }
+    ensures layout { index.new.layout ≡ index.old.layout }
+    ensures heads { index.new.heads ≡ index.old.heads }
+    ensures records { index.new.records.items ≡ index.old.records.items }
+{
+    match index.layout {
+        Layout::ByCell => Ok(()),
+        Layout::ByArrival => index.records.reserve(n - index.records.len()),
+    }
+}
+
+// Makes room for at least eight nodes more: up to a power of two, so it doubles and is seldom called, and
+// to 2^28 - 1 at most. There are at most 150994944 nodes: nine states for each of 2^24 cells.
+#[inline(never)]
+fn grow(pool: &mut Pool<Node>, index: &mut Index, room: &mut u32) -> Result<(), NoMemory>
+    requires few { length pool.old.nodes ≤ 150994944 }
+    requires fewer { vec_len index.old.records ≤ length pool.old.nodes }
+    requires has { HasRoom index.old.layout room.old (length pool.old.nodes) pool.old.spare
+        (vec_capacity index.old.records) }
+    ensures has { HasRoom index.new.layout room.new (length pool.new.nodes) pool.new.spare
+        (vec_capacity index.new.records) }
+    ensures room { OnOk result (length pool.old.nodes + 8 ≤ room.new) }
     ensures rest_kept { pool.new ≡ record pool.old { spare = pool.new.spare } }
     ensures layout { index.new.layout ≡ index.old.layout }
     ensures heads { index.new.heads ≡ index.old.heads }
     ensures records { index.new.records.items ≡ index.old.records.items }
-    ensures len { vec_len index.new.records ≡ vec_len index.old.records }
 {
-    pool.reserve(n)?;
-    match index.layout {
-        Layout::ByCell => Ok(()),
-        Layout::ByArrival => index.records.reserve(n as usize),
-    }
+    let len = pool.len();
+    let wanted = (len + 64).next_power_of_two().min((1 << 28) - 1);
+    pool.reserve(wanted - len)?;
+    grow_records(index, wanted as usize)?;
+    *room = (*room).max(wanted);
+    Ok(())
 }
 
 // Adds a node, and closes it, as it is the only one.
@@ -127,6 +165,7 @@ fn add_first<L: Ledger>(pool: &mut Pool<Node>, node: Node, steps: &mut Steps<L>)
     requires room { 1 ≤ pool.old.spare }
     ensures nodes { pool.new.nodes ≡ node ∷ [] }
     ensures open_at { pool.new.open_at ≡ false ∷ [] }
+    ensures spare { pool.new.spare + 1 ≡ pool.old.spare }
 {
     pool.add(node, steps);
     pool.pop(steps);
@@ -143,6 +182,7 @@ impl Space {
             pool: Pool::new(alloc),
             index: Index::new(alloc, layout, cells)?,
             width: 1,
+            room: 0,
         })
     }
 
@@ -165,7 +205,7 @@ impl Space {
     {
         forget(&mut self.pool, &mut self.index, self.width);
         self.width = width;
-        make_room(&mut self.pool, &mut self.index, 1)?;
+        grow(&mut self.pool, &mut self.index, &mut self.room)?;
         let to = State {
             cell: start,
             arrival: None,
@@ -177,8 +217,7 @@ impl Space {
         };
         add_first(&mut self.pool, node_for(goal, offer), steps);
         let layout = self.index.layout;
-        self.index
-            .put(layout, number_of(width, start) as usize, to, 1);
+        self.index.put(layout, number_of(width, start), to, 1);
         Ok(())
     }
 
@@ -199,12 +238,16 @@ impl Space {
     }
 
     /// Makes room for eight offers, so that they need no memory.
+    #[inline(always)]
     pub fn reserve(&mut self) -> Result<(), NoMemory>
         ensures room { OnOk result (8 ≤ self.new.spare) }
         ensures shape { KeepsShape self.old self.new }
         ensures table { self.new.table ≡ self.old.table }
     {
-        make_room(&mut self.pool, &mut self.index, 8)
+        if self.pool.len() + 8 <= self.room {
+            return Ok(());
+        }
+        grow(&mut self.pool, &mut self.index, &mut self.room)
     }
 
     // 0 where a state has no node, or the number of its node and one; told the number of its cell.
@@ -241,8 +284,7 @@ impl Space {
         ensures spare { self.old.spare ≤ self.new.spare + 1 }
     {
         let id = self.pool.add(node, steps);
-        self.index
-            .put(layout_by(BY_CELL), number as usize, state, id + 1);
+        self.index.put(layout_by(BY_CELL), number, state, id + 1);
     }
 
     // The same, told the parts of the node: a node would be handed over in memory, these are in registers. The

@@ -24,4 +24,4 @@ returns-clause-put c =
     (λ entries g. c.set_in_record.ensures.changed entries
     (ap (λ (r : ℕ). slice_get c.open_record.new.records.items r) r_is ∙ g)
     ∙ ap (λ (r : ℕ). slice_set c.open_record.new.records.items r
-    (slice_set entries c.args.arrival c.args.entry)) r_is)
+    (slice_set entries (suc c.args.arrival) c.args.entry)) r_is)

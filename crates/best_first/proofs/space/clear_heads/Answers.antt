@@ -1,47 +1,40 @@
-use Rattle.std.proofs.Common.{◌≡◌, ◌∙◌, ◌<◌, sym, ap, subst, arith, length, ℕ}
+use Rattle.std.proofs.Common.{ℕ, List, subst, sym, length}
 use Rattle.grid_moves.specs.declared.Cell.{Cell}
-use Rattle.grid_moves.specs.Grid.{cell_number}
-use Rattle.best_first.specs.Index.{AreCovered}
+use Rattle.best_first.specs.declared.state.Layout.{Layout}
+use Rattle.best_first.specs.Index.{IsExact, AreLed, cell_of_node, cell_of_record}
 use Rattle.best_first.specs.Node.{state_of}
+use Rattle.best_first.specs.Space.{IsPlaced}
 use Rattle.best_first.specs.State.{state_told}
+use Rattle.best_first.proofs.Forgetting.{led_by_nodes, led_by_records}
 use Rattle.best_first.proofs.Offering.{in_cell}
-use Rattle.best_first.proofs.Forgetting.{covered_next, covered_none, cell_placed}
-use Rattle.std.proofs.lemmas.List.{length-set}
 use Rattle.best_first.proofs.space.clear_heads.Goals as goal
 
-pub number_of-cell-requires-clause-column : goal.number_of-cell-requires-clause-column
-number_of-cell-requires-clause-column c =
-    (cell_placed c.args.index.now.layout c.args.width (length c.args.index.now.heads.items) c.node.result.now
-    c.cell.result (c.requires.inside c.loop-id.id c.node.result.now c.node.ensures) c.cell.ensures).column
+pub clear_by_nodes-requires-clause-led : goal.clear_by_nodes-requires-clause-led
+clear_by_nodes-requires-clause-led c =
+    let i = c.args.index.now in
+    let nodes = c.args.pool.now.nodes in
+    subst (λ (hs : List ℕ). AreLed (cell_of_node c.args.width nodes) 0 (length nodes) hs)
+    (sym c.as_mut_slice.ensures.value) (led_by_nodes c.args.width nodes i.heads.items i.records.items
+    (subst (λ (y : Layout). IsExact y c.args.width nodes i.heads.items i.records.items) c.in-ByCell.is
+    c.requires.exact))
 
-pub number_of-cell-requires-clause-row : goal.number_of-cell-requires-clause-row
-number_of-cell-requires-clause-row c =
-    (cell_placed c.args.index.now.layout c.args.width (length c.args.index.now.heads.items) c.node.result.now
-    c.cell.result (c.requires.inside c.loop-id.id c.node.result.now c.node.ensures) c.cell.ensures).row
+pub clear_by_nodes-requires-clause-inside : goal.clear_by_nodes-requires-clause-inside
+clear_by_nodes-requires-clause-inside c = λ id n h.
+    let i = c.args.index.now in
+    subst (λ (d : Cell). IsPlaced c.args.width (length c.as_mut_slice.result.now) d)
+    (in_cell i.layout (state_told n.place))
+    (subst (λ (hs : List ℕ). IsPlaced c.args.width (length hs) (state_of i.layout n).cell)
+    (sym c.as_mut_slice.ensures.value)
+    (c.requires.exact.inside id n h))
 
-pub index_mut-requires : goal.index_mut-requires
-index_mut-requires c =
-    let p = cell_placed c.args.index.now.layout c.args.width (length c.args.index.now.heads.items)
-    c.node.result.now c.cell.result (c.requires.inside c.loop-id.id c.node.result.now c.node.ensures)
-    c.cell.ensures in
-    let w : cell_number c.args.width c.cell.result < length c.args.index.now.heads.items = p.within in
-    omega (arith, c.loop-id.index.heads.ok.0)
-
-pub loop-id-preserved : goal.loop-id-preserved
-loop-id-preserved c =
-    let cell : c.number_of-cell.result ≡ cell_number c.args.width (state_of c.loop-id.index.layout
-    c.node.result.now).cell = c.number_of-cell.ensures ∙ ap (λ (d : Cell). cell_number c.args.width d)
-    (c.cell.ensures ∙ sym (in_cell c.loop-id.index.layout (state_told c.node.result.now.place))) in
-    record {
-      covered = grind (arith, covered_next);
-      as_many = grind (arith, length-set);
-      layout = c.loop-id.invariant.layout;
-      records = c.loop-id.invariant.records;
-    }
-
-pub returns-clause-blank : goal.returns-clause-blank
-returns-clause-blank c =
-    let last : c.loop-id.id ≡ length c.args.pool.now.nodes = omega (arith, c.len-id-end.ensures.value) in
-    covered_none c.loop-id.index.layout c.args.width c.args.pool.now.nodes c.loop-id.index.heads.items
-    (subst (λ (i : ℕ). AreCovered c.loop-id.index.layout c.args.width c.args.pool.now.nodes i
-    c.loop-id.index.heads.items) last c.loop-id.invariant.covered)
+pub clear_by_records-requires-clause-led : goal.clear_by_records-requires-clause-led
+clear_by_records-requires-clause-led c =
+    let i = c.args.index.now in
+    let records = i.records.items in
+    let led = led_by_records c.args.width c.args.pool.now.nodes i.heads.items records
+    (subst (λ (y : Layout). IsExact y c.args.width c.args.pool.now.nodes i.heads.items records)
+    c.in-ByArrival.is c.requires.exact) in
+    subst (λ (rs : List (List ℕ)). AreLed (cell_of_record rs) 0 (length rs)
+    c.as_mut_slice-in-ByArrival.result.now) (sym c.as_slice.ensures.value)
+    (subst (λ (hs : List ℕ). AreLed (cell_of_record records) 0 (length records) hs)
+    (sym c.as_mut_slice-in-ByArrival.ensures.value) led)

@@ -1,23 +1,37 @@
 use Rattle.std.proofs.Common.{◌≡◌, ◌+◌, ◌≤◌, sym, subst, length, ℕ, suc, arith}
-use Rattle.std.specs.Prelude.{None}
+use Rattle.std.specs.Prelude.{None, vec_len, vec_capacity}
 use Rattle.grid_moves.specs.Grid.{cell_number}
 use Rattle.best_first.specs.declared.state.Layout.{Layout}
-use Rattle.best_first.specs.Index.{IsPut, AreParts}
+use Rattle.best_first.specs.Index.{IsPut, IsSpace}
 use Rattle.best_first.specs.Space.{IsPlaced}
 use Rattle.best_first.specs.State.{state_in, arrival_number}
 use Rattle.best_first.specs.Table.{lookup}
 use Rattle.best_first.proofs.Parts.{parts_added, parts_few}
+use Rattle.best_first.proofs.Rooms.{room_stays, record_fits, one_longer}
 use Rattle.best_first.proofs.space.Space.add.Goals as goal
+
+pub add-id-requires : goal.add-id-requires
+add-id-requires g c =
+    let r = c.self.invariant.room.for_nodes in
+    record { room = grind arith }
+
+pub put-requires-clause-room : goal.put-requires-clause-room
+put-requires-clause-room g c =
+    let i = c.self.inside in
+    let fits : length i.pool.nodes + 1 ≤ i.room = grind arith in
+    let few = c.self.invariant.parts.exact.few in
+    record_fits i.index.layout i.room (length i.pool.nodes) i.pool.spare (vec_capacity i.index.records)
+    (vec_len i.index.records) c.self.invariant.room fits (omega (arith, i.index.records.ok.0))
 
 pub overflow_add-id : goal.overflow_add-id
 overflow_add-id g c =
-    let f = parts_few _ _ _ _ _ c.self.invariant in
+    let f = parts_few _ _ _ _ _ c.self.invariant.parts in
     omega (arith, c.add-id.ensures.id)
 
 pub put-requires-clause-few : goal.put-requires-clause-few
 put-requires-clause-few g c =
-    let f = parts_few _ _ _ _ _ c.self.invariant in
-    let r = c.self.invariant.exact.few in
+    let f = parts_few _ _ _ _ _ c.self.invariant.parts in
+    let r = c.self.invariant.parts.exact.few in
     omega (arith, c.self.inside.index.records.ok.0)
 
 pub invariant_of-self : goal.invariant_of-self
@@ -34,9 +48,16 @@ invariant_of-self g c =
     (arrival_number (state_in i.index.layout c.args.state).arrival) (c.add-id.result + 1)) number
     c.put.ensures.put in
     let l = c.put.ensures.one_more in
-    subst (λ (y : Layout). AreParts y i.width c.add-id.new.self.nodes c.put.new.self.heads.items
-    c.put.new.self.records.items) (sym c.put.ensures.layout)
-    (parts_added i.index.layout i.width i.pool.nodes c.add-id.new.self.nodes i.index.heads.items
+    let parts = parts_added i.index.layout i.width i.pool.nodes c.add-id.new.self.nodes i.index.heads.items
     c.put.new.self.heads.items i.index.records.items c.put.new.self.records.items c.args.node c.args.state
-    (c.add-id.result + 1) c.self.invariant narrow placed c.requires.made new c.add-id.ensures.nodes entry put
-    (omega (arith, i.index.records.ok.0, c.put.new.self.records.ok.0)))
+    (c.add-id.result + 1) c.self.invariant.parts narrow placed c.requires.made new c.add-id.ensures.nodes
+    entry put
+    (omega (arith, i.index.records.ok.0, c.put.new.self.records.ok.0)) in
+    let room = room_stays i.index.layout i.room (length i.pool.nodes) i.pool.spare
+    (vec_capacity i.index.records) (length c.add-id.new.self.nodes) c.add-id.new.self.spare
+    (vec_capacity c.put.new.self.records) c.self.invariant.room
+    (let n = one_longer _ _ _ c.add-id.ensures.nodes in omega (arith, c.add-id.ensures.spare))
+    (omega (arith, c.put.ensures.capacity)) in
+    subst (λ (y : Layout). IsSpace y i.width i.room c.add-id.new.self.spare
+    (vec_capacity c.put.new.self.records) c.add-id.new.self.nodes c.put.new.self.heads.items
+    c.put.new.self.records.items) (sym c.put.ensures.layout) (record { parts = parts; room = room })

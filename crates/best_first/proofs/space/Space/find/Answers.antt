@@ -16,6 +16,6 @@ returns g c =
     ∙ ap (λ (n : ℕ). entry_in i.index.layout i.index.heads.items i.index.records.items n
     (arrival_number (state_in i.index.layout c.args.state).arrival)) number
     ∙ parts_found i.index.layout i.width i.pool.nodes i.index.heads.items i.index.records.items c.args.state
-    c.self.invariant placed
+    c.self.invariant.parts placed
     ∙ ap (λ (s : SpaceData). entry_for (lookup s.layout s.table.nodes (state_in s.layout c.args.state)))
     c.self.view_is

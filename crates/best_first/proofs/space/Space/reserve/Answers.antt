@@ -2,7 +2,12 @@ use Rattle.std.proofs.Common.{arith}
 use Rattle.best_first.proofs.Parts.{parts_few}
 use Rattle.best_first.proofs.space.Space.reserve.Goals as goal
 
-pub make_room-requires : goal.make_room-requires
-make_room-requires c =
-    let f = parts_few _ _ _ _ _ c.self.invariant in
-    record { few = omega arith }
+pub grow-requires : goal.grow-requires
+grow-requires c =
+    let f = parts_few _ _ _ _ _ c.self.invariant.parts in
+    let r = c.self.invariant.parts.exact.few in
+    record {
+      few = omega arith;
+      fewer = omega (arith, c.self.inside.index.records.ok.0);
+      has = c.self.invariant.room;
+    }
