@@ -1,6 +1,6 @@
 -- The search of a block, word by word.
 use Rattle.std.proofs.lemmas.Grind.{common_steps}
-use Rattle.std.proofs.Common.{◌≡◌, ℕ, zero, suc, ◌+◌, ◌*◌, ◌-◌, ◌/◌, ◌^◌, ◌<◌, ◌≤◌, ◌⊎◌, inl, inr, arith}
+use Rattle.std.proofs.Common.{◌≡◌, ℕ, zero, suc, ◌+◌, ◌*◌, ◌-◌, ◌/◌, ◌%◌, ◌^◌, ◌<◌, ◌≤◌, ◌⊎◌, inl, inr, arith}
 use Rattle.std.proofs.Common.{Bool, true, false, not, ◌&&◌, refl, ap, sym, ◌∙◌, subst, bit_and}
 use Rattle.std.proofs.Common.{slice_index_or}
 use Rattle.std.specs.Prelude.{nat_eq}
@@ -284,17 +284,9 @@ word_marks t rule way base place marks words last low are shown =
     (no_edges (begun rule t) way (base + place) base last (omega arith) (omega arith))
 
 -- the block in which a scan starts
-module _ (t : Trail) (rule : Corner) (way : Way) (start place w found halting over : ℕ)
-    (words last : ThreeWords) (b : Block) (block : IsBlockOf t way (start + w * 64 + place) start 0 b)
-    (low : place < 64) (high : w < 8)
-    (are : AreWordsOf (begun rule t) way (start + w * 64 + place) (start + w * 64) words)
-    (told : TellTrails halts way words last halting)
-    (masked : (j : ℕ) → j < 64 → is_set over j ≡ is_past way place j)
-    (found_is : found ≡ bit_and halting over) where
-  pub start_found : IsFound (begun rule t) way (start + w * 64 + place) (start + w * 64) 0 found
-  start_found = word_found t rule way (start + w * 64) place found halting over words last low are told masked
-      found_is
-
+module _ (t : Trail) (rule : Corner) (way : Way) (start place w : ℕ) (words : ThreeWords) (b : Block)
+    (block : IsBlockOf t way (start + w * 64 + place) start 0 b) (low : place < 64) (high : w < 8)
+    (are : AreWordsOf (begun rule t) way (start + w * 64 + place) (start + w * 64) words) where
   -- the words after it are the trail's own
   later_words : (way : Way) (n : ℕ) → nth_word way w + 1 ≤ n → n < 8 → (j k : ℕ) → j < 64
       → Meets way (start + w * 64 + place) (start + nth_word way n * 64 + j) k → (m : ℕ) × (k ≡ suc m)
@@ -316,13 +308,13 @@ module _ (t : Trail) (rule : Corner) (way : Way) (start place w found halting ov
   far_edge : (way : Way) → far way (start + w * 64) ≡ edge_before way start (nth_word way w + 1)
   far_edge way = grind (arith, nat_tests, common_steps)
 
-  pub start_passed : found ≡ 0
+  pub start_passed : IsClear (begun rule t)
+      (moves_before way (start + w * 64 + place) (far way (start + w * 64)))
       → HasPassed (begun rule t) way (start + w * 64 + place) (edge_before way start (nth_word way w + 1))
       words
-  start_passed none = rw (← far_edge way) (record {
+  start_passed clear = rw (← far_edge way) (record {
     edges = edges_of (begun rule t) way (start + w * 64 + place) (start + w * 64) words are;
-    clear = word_clear t rule way (start + w * 64) place found halting over words last low are told masked
-        found_is none;
+    clear = clear;
   })
 
 -- the edge after the word in which a scan starts lies ahead
@@ -343,3 +335,11 @@ word_there t way from start w b block h =
 
     small : (way : Way) → nth_word way w < 8
     small way = grind (arith, nat_tests, common_steps)
+
+-- the word of the start, by the places that it has
+pub own_word : (t : Trail) (way : Way) (from : ℕ) (b : Block) → IsBlockOf t way from (from / 512 * 512) 0 b
+    → AreWordsOf t way from (from / 64 * 64) (words_of b (from % 512 / 64))
+own_word t way from b block =
+    let place : from / 512 * 512 + from % 512 / 64 * 64 ≡ from / 64 * 64 = omega arith in
+    subst (λ (base : ℕ). AreWordsOf t way from base (words_of b (from % 512 / 64))) place
+    (word_there t way from (from / 512 * 512) (from % 512 / 64) b block (omega arith))

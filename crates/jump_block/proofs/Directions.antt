@@ -22,10 +22,10 @@ use Rattle.jump_block.proofs.Runs.{IsTold, told_by_ray}
 use Rattle.jump_block.specs.declared.block.Halt.{Halt}
 use Rattle.jump_block.specs.declared.word.Way.{Way}
 use Rattle.jump_block.specs.Trail.{Trail, at_start, begun, opens, opens_beside, trail_on}
-use Rattle.jump_block.specs.Scan.{IsStart, MeetsFrom, MeetsMark, most_lanes}
+use Rattle.jump_block.specs.Scan.{IsStart, MeetsFrom, MeetsMark, looked, most_lanes}
 use Rattle.jump_block.specs.Source as block
 use Rattle.jump_block.specs.Source.{by_rows, by_columns, trail_of, row_dir, column_dir, row_way, column_way}
-use Rattle.jump_block.specs.Source.{scanned}
+use Rattle.jump_block.specs.Source.{StopsAt, StopsFrom, scanned}
 
 abbrev pub cell : ℕ → ℕ → Cell
 cell x y = record { x = x; y = y }
@@ -262,6 +262,23 @@ mark_on g x d rule h r f whole goal off old new marked met = (
         → b ≡ is_some (block.stop_of rule (Some (record { passed = met.0; marked = b })) 0)
     shown b = grind (arith, nat_tests, common_steps)
 
+-- or where it stops
+pub stop_on : (g : GridData) (x : Cell) (d : Dir) (rule : Corner) → is_diagonal d ≡ false → rule ≡ g.corner
+    → is_free g x ≡ true → IsGrid g → (old new : ℕ) (stop : Option ℕ)
+    → StopsAt rule (begun rule (trail_of g d x)) old new stop
+    → ((goal : Cell) → moves_to d x goal ≡ 0 → stop ≡ first_stop g goal x d)
+    × (new ≤ old + most_lanes (scanned g x d stop))
+stop_on g x d rule h r f whole old new stop its = (
+  λ goal off. its.2 ∙ told.0 ∙ ap (λ (n : ℕ). stop_of (reach_of g x d) n) (sym off)
+      ∙ sym (straight_stop g goal x d h),
+  subst (λ (o : Option ℕ). new ≤ old + most_lanes (scanned g x d o)) (sym its.2)
+      (let within = told.2 in let few = its.3 in omega (arith, within, few)),
+)
+  where
+    told : (block.stop_of rule its.0 0 ≡ stop_of (reach_of g x d) 0) × block.HasFew its.0
+        × (looked 0 its.0 ≤ scanned g x d (block.stop_of rule its.0 0))
+    told = told_on g x d rule h r f whole 0 its.0 its.1
+
 -- the trail by its row or its column
 pub row_trail : (g : GridData) (way : Way) (x : Cell)
     → trail_of g (row_dir way) x ≡ trail_on (by_rows g) way (x.y + 1) (x.x + 1)
@@ -288,15 +305,36 @@ column_met g way x rule l free are old new marked met =
     subst (λ (t : Trail). MeetsMark rule (begun rule t) old new marked) (sym (column_trail g way x))
     (met (by_columns g) (column_start g x free l are))
 
--- a scan over more moves reads no fewer blocks
-pub more_lanes : (m n : ℕ) → m ≤ n → most_lanes m ≤ most_lanes n
-more_lanes m n h = omega arith
-
 pub row_straight : (way : Way) → is_diagonal (row_dir way) ≡ false
 row_straight way = grind (arith, nat_tests, common_steps)
 
 pub column_straight : (way : Way) → is_diagonal (column_dir way) ≡ false
 column_straight way = grind (arith, nat_tests, common_steps)
+
+-- and where a jump stops
+pub row_stop : (g : GridData) (way : Way) (x : Cell) (rule : Corner) (l : LineData) → rule ≡ g.corner
+    → is_free g x ≡ true → IsGrid g → AreRowsOf l g → (old new : ℕ) (stop : Option ℕ)
+    → StopsFrom l rule way (x.y + 1) (x.x + 1) old new stop
+    → ((goal : Cell) → moves_to (row_dir way) x goal ≡ 0 → stop ≡ first_stop g goal x (row_dir way))
+    × (new ≤ old + most_lanes (scanned g x (row_dir way) stop))
+row_stop g way x rule l r f whole are old new stop its =
+    stop_on g x (row_dir way) rule (row_straight way) r f whole old new stop
+    (subst (λ (t : Trail). StopsAt rule (begun rule t) old new stop) (sym (row_trail g way x))
+    (its (by_rows g) (row_start g x f l are)))
+
+pub column_stop : (g : GridData) (way : Way) (x : Cell) (rule : Corner) (l : LineData) → rule ≡ g.corner
+    → is_free g x ≡ true → IsGrid g → AreColumnsOf l g → (old new : ℕ) (stop : Option ℕ)
+    → StopsFrom l rule way (x.x + 1) (x.y + 1) old new stop
+    → ((goal : Cell) → moves_to (column_dir way) x goal ≡ 0 → stop ≡ first_stop g goal x (column_dir way))
+    × (new ≤ old + most_lanes (scanned g x (column_dir way) stop))
+column_stop g way x rule l r f whole are old new stop its =
+    stop_on g x (column_dir way) rule (column_straight way) r f whole old new stop
+    (subst (λ (t : Trail). StopsAt rule (begun rule t) old new stop) (sym (column_trail g way x))
+    (its (by_columns g) (column_start g x f l are)))
+
+-- a scan over more moves reads no fewer blocks
+pub more_lanes : (m n : ℕ) → m ≤ n → most_lanes m ≤ most_lanes n
+more_lanes m n h = omega arith
 
 -- a cell that is not on the line is not ahead on it
 pub off_row : (way : Way) (u v : Cell) → nat_eq u.y v.y ≡ false → moves_to (row_dir way) u v ≡ 0

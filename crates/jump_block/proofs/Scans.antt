@@ -1,8 +1,8 @@
 -- Scans over several blocks.
 use Rattle.std.proofs.lemmas.Grind.{common_steps}
 use Rattle.std.proofs.Common.{◌≡◌, ℕ, suc, ◌+◌, ◌*◌, ◌-◌, ◌/◌, ◌<◌, ◌≤◌, ◌⊎◌, arith, Bool}
-use Rattle.std.proofs.Common.{true, false, ◌&&◌, ap, sym, ◌∙◌, subst}
-use Rattle.std.specs.Prelude.{nat_lt, nat_le}
+use Rattle.std.proofs.Common.{true, false, ◌&&◌, inl, inr, ap, sym, ◌∙◌, subst}
+use Rattle.std.specs.Prelude.{nat_lt, nat_le, Option, Some, None}
 use Rattle.std.proofs.lemmas.Bool.{cases_lt}
 use Rattle.std.proofs.lemmas.Bool.Decides.{nat_tests}
 use Rattle.grid_moves.specs.declared.Corner.{Corner}
@@ -15,7 +15,9 @@ use Rattle.jump_block.specs.Trail.{Trail, IsClear, Halts, begun, along, trail_on
 use Rattle.jump_block.specs.Word.{Meets, IsBlockOf, IsAhead, moves_before, nth_word, edge_before}
 use Rattle.jump_block.specs.Word.{HasNext, next_block}
 use Rattle.jump_block.specs.Seek.{HasPassed}
-use Rattle.jump_block.specs.Scan.{IsStart, most_lanes, nearer}
+use Rattle.jump_block.specs.declared.block.Halt.{Halt}
+use Rattle.jump_block.specs.Scan.{Finds, IsStart, most_lanes, nearer}
+use Rattle.jump_block.specs.Source.{HasFew}
 use Rattle.jump_block.proofs.Blocks.{own_later}
 
 -- how many blocks past the first, and how many are left
@@ -84,6 +86,33 @@ module _ {l : LineData} {free : ℕ → ℕ → Bool} {line from : ℕ} (start :
       let there : from - (from - (index * 512 + (8 - 8) * 64)) ≡ index * 512 = omega arith in
       let next = back_next index (last_place Back rule index below on_way clear (index * 512) there) in
       (next, omega arith, omega arith)
+
+  -- a scan makes few moves
+  few_passed : l.blocks ≤ 128 → (way : Way) (rule : Corner) (passed : ℕ)
+      → IsClear (begun rule (trail_on free way line from)) passed → passed < 65535
+  few_passed few way rule passed clear =
+      by_way way (last_free (begun rule (trail_on free way line from)) passed
+      (ap (λ (p : ℕ). free line p) (along_start way from) ∙ start.starts) clear)
+    where
+      below : (p : ℕ) → free line p ≡ true → p ≤ start.positions
+      below p there = grind (arith, nat_tests, common_steps)
+
+      by_way : (way : Way) → free line (along way from passed) ≡ true → passed < 65535
+      by_way Forward there = let ample = start.shows.ample in let inside = below (from + passed) there in
+          omega arith
+      by_way Back there = by_place (cases_lt passed from)
+        where
+          by_place : (passed < from) ⊎ (from ≤ passed) → passed < 65535
+          by_place (inl h) = let ample = start.shows.ample in let inside = below from start.starts in
+              omega arith
+          by_place (inr h) =
+              let none : from - passed ≡ 0 = omega arith in
+              grind (arith, nat_tests, common_steps)
+
+  pub few_found : l.blocks ≤ 128 → (way : Way) (rule : Corner) (to_goal : ℕ) (found : Option Halt)
+      → Finds rule (begun rule (trail_on free way line from)) to_goal found → HasFew found
+  few_found few way rule to_goal (Some h) is = few_passed few way rule h.passed is.clear
+  few_found few way rule to_goal None is = tt
 
 -- blocks meet at their edges
 pub edges_meet : (way : Way) (index : ℕ) → HasNext way index

@@ -7,7 +7,8 @@ use Rattle.grid_moves.specs.declared.Corner.{Corner}
 use Rattle.jump_block.specs.declared.word.Way.{Way}
 use Rattle.bit_grid.specs.declared.lines.ThreeWords.{ThreeWords}
 use Rattle.jump_block.specs.Trail.{Trail, Halts, IsClear, begun, trail_on}
-use Rattle.jump_block.specs.Word.{edge_before, far, moves_before}
+use Rattle.jump_block.specs.declared.block.Block.{Block}
+use Rattle.jump_block.specs.Word.{IsBlockOf, edge_before, far, moves_before}
 use Rattle.jump_block.specs.Seek.{HasPassed}
 
 -- a scan starts at this place of this line, at a free cell of the map that the lines show
@@ -43,6 +44,11 @@ looked to_goal None = to_goal
 abbrev pub FindsFrom : LineData → Corner → Way → ℕ → ℕ → ℕ → Option Halt → Type 0
 FindsFrom l rule way to_goal line place found = (free : ℕ → ℕ → Bool) → IsStart l free line place
     → Finds rule (begun rule (trail_on free way line place)) to_goal found
+
+-- this is the block of the line, with those of the lines beside it, in which a scan starts
+abbrev pub HasFirst : LineData → Way → ℕ → ℕ → Block → Type 0
+HasFirst l way line place b = (free : ℕ → ℕ → Bool) → IsStart l free line place
+    → IsBlockOf (trail_on free way line place) way place (place / 512 * 512) 0 b
 
 -- nothing halts a scan from there in the word in which it starts
 abbrev pub ClearFrom : LineData → Corner → Way → ℕ → ℕ → Type 0

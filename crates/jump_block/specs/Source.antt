@@ -1,14 +1,14 @@
 -- Jumps over bits: the grids for which they stand, where a scan on one halts, and how many cells it covers.
 use Rattle.std.specs.Prelude.{◌≡◌, ⊤, IsTrue, ℕ, ◌+◌, ◌<◌, ◌≤◌, Bool, true, false, if◌then◌else◌}
-use Rattle.std.specs.Prelude.{◌&&◌, nat_lt, Option, Some, None, codes, refl}
+use Rattle.std.specs.Prelude.{◌&&◌, nat_eq, nat_lt, Option, Some, None, codes, refl}
 use Rattle.grid_moves.specs.declared.Cell.{Cell}
 use Rattle.grid_moves.specs.declared.Corner.{Corner}
 use Rattle.grid_moves.specs.declared.Corner.TheVariants.{One, Both}
 use Rattle.grid_moves.specs.declared.Dir.{Dir}
-use Rattle.grid_moves.specs.declared.Dir.TheVariants.{N, NE, E, SE, S, SW, W}
+use Rattle.grid_moves.specs.declared.Dir.TheVariants.{N, NE, E, SE, S, SW, W, NW}
 use Rattle.grid_moves.specs.Grid.{GridData, IsGrid, grid_of, is_free}
 use Rattle.grid_moves.specs.Move.{is_same}
-use Rattle.bit_grid.specs.Bits.{BitData, AreBitsOf, AreRowsOf, AreColumnsOf, is_free_from_one}
+use Rattle.bit_grid.specs.Bits.{BitData, LineData, AreBitsOf, AreRowsOf, AreColumnsOf, is_free_from_one}
 use Rattle.pruning.specs.First.{first_stop, run_length}
 use Rattle.jump_plain.specs.declared.scan.Reach.{Reach}
 use Rattle.jump_plain.specs.Reach as reach
@@ -17,8 +17,8 @@ use Rattle.jump_block.specs.declared.block.Halt.{Halt}
 use Rattle.jump_block.specs.declared.straight.Bits.{Bits}
 use Rattle.jump_block.specs.declared.word.Way.{Way}
 use Rattle.jump_block.specs.declared.word.Way.TheVariants.{Forward, Back}
-use Rattle.jump_block.specs.Scan.{most_lanes}
-use Rattle.jump_block.specs.Trail.{Trail, shows_mark, trail_on}
+use Rattle.jump_block.specs.Scan.{Finds, IsStart, looked, most_lanes}
+use Rattle.jump_block.specs.Trail.{Trail, begun, shows_mark, trail_on}
 
 -- what jumps read is of the bits of this grid
 pub record AreItsBits (b : Bits) (g : GridData) : Type 0 where
@@ -61,6 +61,10 @@ row_dir Back = W
 abbrev pub column_dir : Way → Dir
 column_dir Forward = S
 column_dir Back = N
+
+-- the diagonal of this number
+abbrev pub diagonal_of : ℕ → Dir
+diagonal_of n = if nat_eq n 0 then NE else if nat_eq n 1 then SE else if nat_eq n 2 then SW else NW
 
 -- which way along the row, and along the column, the straight parts of a diagonal lead
 abbrev pub row_way : Dir → Way
@@ -122,6 +126,17 @@ reach_of_halt rule h =
 abbrev pub stop_of : Corner → Option Halt → ℕ → Option ℕ
 stop_of rule (Some h) to_goal = reach.stop_of (reach_of_halt rule h) to_goal
 stop_of rule None to_goal = Some to_goal
+
+-- the stop that follows from where a scan halts, the goal not being ahead, and the steps of such a scan at
+-- most
+abbrev pub StopsAt : Corner → Trail → ℕ → ℕ → Option ℕ → Type 0
+StopsAt rule t old new stop = (found : Option Halt) × Finds rule t 0 found × (stop ≡ stop_of rule found 0)
+    × (new ≤ old + most_lanes (looked 0 found))
+
+-- the same of a scan from this place of this line, on each map that the lines show
+abbrev pub StopsFrom : LineData → Corner → Way → ℕ → ℕ → ℕ → ℕ → Option ℕ → Type 0
+StopsFrom l rule way line place old new stop = (free : ℕ → ℕ → Bool) → IsStart l free line place
+    → StopsAt rule (begun rule (trail_on free way line place)) old new stop
 
 -- so few moves that one more can be counted
 abbrev pub HasFew : Option Halt → Type 0

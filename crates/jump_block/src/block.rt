@@ -5,7 +5,7 @@ ghost use Rattle.bit_grid.specs.Bits.{Shows};
 ghost use Rattle.jump_block.specs.Trail as trails;
 ghost use Rattle.jump_block.specs.Trail.{Trail, IsClear, begun, trail_on};
 ghost use Rattle.jump_block.specs.Word as spec;
-ghost use Rattle.jump_block.specs.Word.{AreEdgesOf, AreEight, IsBlockOf, IsAhead, edge_before, moves_before, words_of, nth_word};
+ghost use Rattle.jump_block.specs.Word.{AreEdgesOf, AreEight, AreWordsOf, IsBlockOf, IsAhead, edge_before, moves_before, words_of, nth_word};
 ghost use Rattle.jump_block.specs.Seek.{HasPassed, IsSought};
 ghost use Rattle.jump_block.specs.Near.{AreNear};
 ghost use Rattle.jump_block.specs.Scan.{IsStart};
@@ -99,12 +99,10 @@ fn halt_at(way: Way, marks: u64, found: u64, from: u32, base: u32) -> Halt
 #[inline(always)]
 pub(crate) fn halt_near(way: Way, rule: Corner, near: ThreeWords, from: u32) -> Option<Halt>
     requires from { from < 65536 }
-    ensures halts { (free : ℕ → ℕ → Bool) (line : ℕ) → AreNear free line from near
-        → IfSome result
-        (λ h. trails.Halts rule (begun rule (trail_on free way line from)) h.passed h.marked) }
-    ensures clear { is_some result ≡ false → (free : ℕ → ℕ → Bool) (line : ℕ) → AreNear free line from near
-        → IsClear (begun rule (trail_on free way line from))
-        (moves_before way from (spec.far way (from / 64 * 64))) }
+    ensures halts { (t : Trail) → AreWordsOf t way from (from / 64 * 64) near
+        → IfSome result (λ h. trails.Halts rule (begun rule t) h.passed h.marked) }
+    ensures clear { is_some result ≡ false → (t : Trail) → AreWordsOf t way from (from / 64 * 64) near
+        → IsClear (begun rule t) (moves_before way from (spec.far way (from / 64 * 64))) }
 {
     let place = from % 64;
     let words = begun(rule, near, place);
@@ -271,23 +269,53 @@ impl<'a> Block<'a> {
         self.seek(way, rule, 0, last, from, start)
     }
 
+    /// Where a scan halts among the places of the word in which it starts, told the block with this word, or
+    /// `None` where it leaves the word.
+    #[inline(always)]
+    pub(crate) fn halt_first(&self, way: Way, rule: Corner, from: u32) -> Option<Halt>
+        requires eight { AreEight self.now }
+        requires from { from < 65536 }
+        ensures halts { (t : Trail) → IsBlockOf t way from (from / 512 * 512) 0 self.now
+            → IfSome result (λ h. trails.Halts rule (begun rule t) h.passed h.marked) }
+        ensures clear { is_some result ≡ false → (t : Trail)
+            → IsBlockOf t way from (from / 512 * 512) 0 self.now
+            → IsClear (begun rule t) (moves_before way from (spec.far way (from / 64 * 64))) }
+    {
+        halt_near(way, rule, self.words(from % 512 / 64), from)
+    }
+
+    /// Searches the words of that block that come after that word, where nothing halts the scan before.
+    #[inline(always)]
+    pub(crate) fn seek_rest(&self, way: Way, rule: Corner, from: u32) -> Seek
+        requires eight { AreEight self.now }
+        requires from { from < 65536 }
+        ensures { (t : Trail) → IsBlockOf t way from (from / 512 * 512) 0 self.now
+            → IsClear (begun rule t) (moves_before way from (spec.far way (from / 64 * 64)))
+            → IsSought rule (begun rule t) way from (edge_before way (from / 512 * 512) 8) result }
+    {
+        let w = from % 512 / 64;
+        let words = begun(rule, self.words(w), from % 64);
+        self.seek(
+            way,
+            rule,
+            nth_word(way, w) + 1,
+            words,
+            from,
+            from / 512 * 512,
+        )
+    }
+
     /// Searches the block in which a scan starts.
     #[inline(always)]
-    pub(crate) fn seek_start(&self, way: Way, rule: Corner, from: u32, start: u32) -> Seek
+    pub(crate) fn seek_start(&self, way: Way, rule: Corner, from: u32) -> Seek
         requires eight { AreEight self.now }
-        requires small { start + 512 ≤ 65536 }
-        requires low { start ≤ from }
-        requires high { from < start + 512 }
-        ensures { (t : Trail) → IsBlockOf t way from start 0 self.now
-            → IsSought rule (begun rule t) way from (edge_before way start 8) result }
+        requires from { from < 65536 }
+        ensures { (t : Trail) → IsBlockOf t way from (from / 512 * 512) 0 self.now
+            → IsSought rule (begun rule t) way from (edge_before way (from / 512 * 512) 8) result }
     {
-        let (w, place) = ((from - start) / 64, (from - start) % 64);
-        let words = begun(rule, self.words(w), place);
-        let found = halts(way, words, NOTHING) & past(way, place);
-        if found != 0 {
-            let marks = marks(way, rule, words, NOTHING);
-            return Seek::Halted(halt_at(way, marks, found, from, start + w * 64));
+        match self.halt_first(way, rule, from) {
+            Some(halt) => Seek::Halted(halt),
+            None => self.seek_rest(way, rule, from),
         }
-        self.seek(way, rule, nth_word(way, w) + 1, words, from, start)
     }
 }

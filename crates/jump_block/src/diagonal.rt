@@ -24,6 +24,21 @@ use pruning::{Side, forced_on, ring_of, turn};
 use std::sync::ledger::Ledger;
 use steps::Steps;
 
+/// The diagonal of this number, so that it can be a constant of a function, which has code of its own for
+/// each.
+#[inline(always)]
+pub(crate) fn diagonal_of(number: usize) -> Dir
+    ensures is { result ≡ spec.diagonal_of number }
+    ensures diagonal { is_diagonal result ≡ true }
+{
+    match number {
+        0 => Dir::NE,
+        1 => Dir::SE,
+        2 => Dir::SW,
+        _ => Dir::NW,
+    }
+}
+
 /// Which way along the row a diagonal leads.
 #[inline(always)]
 pub(crate) fn row_way(d: Dir) -> Way

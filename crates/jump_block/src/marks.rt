@@ -1,14 +1,17 @@
-//! Whether a scan along a line halts at a mark, where the goal does not lie on the line.
+//! Scans along a line on which the goal is not ahead: where they halt at a mark, and whether they do.
 
 ghost use Rattle.std.specs.Prelude.{◌≡◌, ℕ, ◌+◌, ◌<◌, ◌≤◌, Bool};
 ghost use Rattle.grid_moves.specs.Ruled as ruled;
 ghost use Rattle.jump_block.specs.Trail.{Halts, Trail};
-ghost use Rattle.jump_block.specs.Scan.{ClearFrom, Finds, IsStart, MeetsFrom, looked};
+ghost use Rattle.jump_block.specs.Scan.{ClearFrom, Finds, HasFirst, IsStart, MeetsFrom, looked};
+ghost use Rattle.jump_block.specs.Source.{StopsFrom};
 ghost use Rattle.jump_block.specs.Near.{AreNearStart};
 ghost use Rattle.jump_block.specs.Word as ways;
+ghost use Rattle.jump_block.specs.Word.{AreEight};
 
-use crate::block::{Halt, halt_near, halt_next};
-use crate::scan::{Start, scan, way_of};
+use crate::block::{Block, Halt, halt_near, halt_next};
+use crate::scan::{Start, scan, scan_rest, way_of};
+use crate::straight::stop_of;
 use crate::word::Way;
 use bit_grid::{Lines, ThreeWords};
 use grid_moves::{Corner, rule_of_number};
@@ -47,7 +50,7 @@ fn finds_far<const WAY: usize, const RULE: usize, L: Ledger>(
         place,
         to_goal: 0,
     };
-    is_mark(scan::<RULE, L>(way_of(WAY), rule_of_number(RULE), lines, start, steps))
+    is_mark(scan::<RULE, false, L>(way_of(WAY), rule_of_number(RULE), lines, start, steps))
 }
 
 // The same, where nothing halts the scan in the words around the cell: the next three are read before.
@@ -111,4 +114,69 @@ pub(crate) fn finds_mark<const RULE: usize, L: Ledger>(
         Way::Forward => finds_next::<0, RULE, L>(rule, lines, line, place, near, steps),
         Way::Back => finds_next::<1, RULE, L>(rule, lines, line, place, near, steps),
     }
+}
+
+// After how many moves a jump stops, where nothing halts its scan in the word in which it starts. It is told
+// the block with this word and those of the lines beside it, each by itself, so that they stay in registers.
+#[inline(never)]
+fn mark_past<const WAY: usize, const RULE: usize, L: Ledger>(
+    lines: &Lines,
+    line: u32,
+    place: u32,
+    middle: &[u64],
+    before: &[u64],
+    after: &[u64],
+    steps: &mut Steps<L>,
+) -> Option<u16>
+    requires starts { (free : ℕ → ℕ → Bool) × IsStart lines.now free line place }
+    requires few { lines.now.lines < 65536 }
+    requires short { lines.now.blocks ≤ 128 }
+    requires eight { AreEight (record { middle = middle; before = before; after = after }) }
+    requires block { HasFirst lines.now (ways.way_of WAY) line place
+        (record { middle = middle; before = before; after = after }) }
+    requires clear { ClearFrom lines.now (ruled.rule_of_number RULE) (ways.way_of WAY) line place }
+    ensures stops { StopsFrom lines.now (ruled.rule_of_number RULE) (ways.way_of WAY) line place
+        steps.old (steps.new + 3) result }
+    ensures more { steps.old ≤ steps.new }
+{
+    let block = Block {
+        middle,
+        before,
+        after,
+    };
+    let found = scan_rest::<WAY, RULE, L>(lines, line, place, block, steps);
+    stop_of(rule_of_number(RULE), found, 0)
+}
+
+/// After how many moves a jump from a free cell stops: at the mark at which its scan halts, or `None` where
+/// its run ends there.
+///
+/// It is out of line, so that other jumps do not pay for its registers. What is past the word in which the
+/// scan starts is out of line too, as about half of the scans halt in their first word.
+#[inline(never)]
+pub(crate) fn first_mark<const WAY: usize, const RULE: usize, L: Ledger>(
+    lines: &Lines,
+    line: u32,
+    place: u32,
+    steps: &mut Steps<L>,
+) -> Option<u16>
+    requires starts { (free : ℕ → ℕ → Bool) × IsStart lines.now free line place }
+    requires few { lines.now.lines < 65536 }
+    requires short { lines.now.blocks ≤ 128 }
+    ensures stops { StopsFrom lines.now (ruled.rule_of_number RULE) (ways.way_of WAY) line place
+        steps.old steps.new result }
+    ensures fewest { steps.old + 3 ≤ steps.new }
+{
+    let rule = rule_of_number(RULE);
+    let block = Block::read(lines, line, place / 512, steps);
+    let found = block.halt_first(way_of(WAY), rule, place);
+    if found.is_some() {
+        return stop_of(rule, found, 0);
+    }
+    let Block {
+        middle,
+        before,
+        after,
+    } = block;
+    mark_past::<WAY, RULE, L>(lines, line, place, middle, before, after, steps)
 }

@@ -1,9 +1,10 @@
 //! Scans along a line, block by block.
 
-ghost use Rattle.std.specs.Prelude.{◌≡◌, ℕ, ◌+◌, ◌-◌, ◌<◌, ◌≤◌, ◌&&◌, Bool, nat_lt, nat_le};
+ghost use Rattle.std.specs.Prelude.{◌≡◌, ℕ, ◌+◌, ◌-◌, ◌<◌, ◌≤◌, ◌&&◌, Bool, false, nat_lt, nat_le};
 ghost use Rattle.grid_moves.specs.Ruled as ruled;
-ghost use Rattle.jump_block.specs.Scan.{FindsFrom, IsStart, PassedFrom, looked, most_lanes};
+ghost use Rattle.jump_block.specs.Scan.{ClearFrom, FindsFrom, HasFirst, IsStart, PassedFrom, looked, most_lanes};
 ghost use Rattle.jump_block.specs.Word as spec;
+ghost use Rattle.jump_block.specs.Word.{AreEight};
 
 use crate::block::{Block, Halt, Seek};
 use crate::word::Way;
@@ -101,9 +102,19 @@ pub(crate) fn way_of(number: usize) -> Way
     }
 }
 
-// The same out of line, on a way and under a rule that the compiler knows: each has a loop of its own.
+// How many moves on the goal lies: 0, which the compiler then knows, where it is told that it is not ahead.
+#[inline(always)]
+fn moves_to_goal<const AIMED: bool>(to_goal: u32) -> u32
+    requires aside { AIMED ≡ false → to_goal ≡ 0 }
+    ensures { result ≡ to_goal }
+{
+    if AIMED { to_goal } else { 0 }
+}
+
+// The same out of line, on a way and under a rule that the compiler knows: each has a loop of its own, and
+// another one in which the goal is not looked for.
 #[inline(never)]
-fn scan_on_by<const WAY: usize, const RULE: usize, L: Ledger>(
+fn scan_on_by<const WAY: usize, const RULE: usize, const AIMED: bool, L: Ledger>(
     rule: Corner,
     lines: &Lines,
     line: u32,
@@ -113,6 +124,7 @@ fn scan_on_by<const WAY: usize, const RULE: usize, L: Ledger>(
     steps: &mut Steps<L>,
 ) -> Option<Halt>
     requires rule { rule ≡ ruled.rule_of_number RULE }
+    requires aside { AIMED ≡ false → to_goal ≡ 0 }
     requires starts { (free : ℕ → ℕ → Bool) × IsStart lines.now free line place }
     requires few { lines.now.lines < 65536 }
     requires short { lines.now.blocks ≤ 128 }
@@ -122,14 +134,45 @@ fn scan_on_by<const WAY: usize, const RULE: usize, L: Ledger>(
     ensures more { steps.old ≤ steps.new }
 {
     let rule = rule_of_number(RULE);
+    let to_goal = moves_to_goal::<AIMED>(to_goal);
     scan_on(way_of(WAY), rule, lines, line, place, to_goal, last, steps)
+}
+
+/// Goes on with a scan past the word in which it starts, where nothing halts it before and the goal is not
+/// ahead, told the block in which it starts.
+#[inline(always)]
+pub(crate) fn scan_rest<const WAY: usize, const RULE: usize, L: Ledger>(
+    lines: &Lines,
+    line: u32,
+    place: u32,
+    block: Block,
+    steps: &mut Steps<L>,
+) -> Option<Halt>
+    requires starts { (free : ℕ → ℕ → Bool) × IsStart lines.now free line place }
+    requires few { lines.now.lines < 65536 }
+    requires short { lines.now.blocks ≤ 128 }
+    requires eight { AreEight block }
+    requires block { HasFirst lines.now (spec.way_of WAY) line place block }
+    requires clear { ClearFrom lines.now (ruled.rule_of_number RULE) (spec.way_of WAY) line place }
+    ensures finds { FindsFrom lines.now (ruled.rule_of_number RULE) (spec.way_of WAY) 0 line place result }
+    ensures most { steps.new + 3 ≤ steps.old + most_lanes (looked 0 result) }
+    ensures more { steps.old ≤ steps.new }
+{
+    let rule = rule_of_number(RULE);
+    match block.seek_rest(way_of(WAY), rule, place) {
+        Seek::Halted(halt) => Some(halt),
+        Seek::Passed(words) => {
+            scan_on_by::<WAY, RULE, false, L>(rule, lines, line, place, 0, words, steps)
+        }
+    }
 }
 
 /// Scans along a line from a free cell: finds where the scan halts, or `None` where the goal is met before.
 ///
-/// Most scans halt in the block in which they start, so what is past it is looked at out of line.
+/// Most scans halt in the block in which they start, so what is past it is looked at out of line. `AIMED`
+/// tells whether the goal may be ahead: where it is false, the goal is not ahead and is not looked for.
 #[inline(always)]
-pub(crate) fn scan<const RULE: usize, L: Ledger>(
+pub(crate) fn scan<const RULE: usize, const AIMED: bool, L: Ledger>(
     way: Way,
     rule: Corner,
     lines: &Lines,
@@ -137,6 +180,7 @@ pub(crate) fn scan<const RULE: usize, L: Ledger>(
     steps: &mut Steps<L>,
 ) -> Option<Halt>
     requires rule { rule ≡ ruled.rule_of_number RULE }
+    requires aside { AIMED ≡ false → start.to_goal ≡ 0 }
     requires starts { (free : ℕ → ℕ → Bool) × IsStart lines.now free start.line start.place }
     requires few { lines.now.lines < 65536 }
     requires short { lines.now.blocks ≤ 128 }
@@ -144,9 +188,8 @@ pub(crate) fn scan<const RULE: usize, L: Ledger>(
     ensures most { steps.new ≤ steps.old + most_lanes (looked start.to_goal result) }
     ensures fewest { steps.old + 3 ≤ steps.new }
 {
-    let index = start.place / 512;
-    let block = Block::read(lines, start.line, index, steps);
-    match block.seek_start(way, rule, start.place, index * 512) {
+    let block = Block::read(lines, start.line, start.place / 512, steps);
+    match block.seek_start(way, rule, start.place) {
         Seek::Halted(halt) => Some(halt),
         Seek::Passed(words) => {
             let Start {
@@ -156,10 +199,10 @@ pub(crate) fn scan<const RULE: usize, L: Ledger>(
             } = start;
             match way {
                 Way::Forward => {
-                    scan_on_by::<0, RULE, L>(rule, lines, line, place, to_goal, words, steps)
+                    scan_on_by::<0, RULE, AIMED, L>(rule, lines, line, place, to_goal, words, steps)
                 }
                 Way::Back => {
-                    scan_on_by::<1, RULE, L>(rule, lines, line, place, to_goal, words, steps)
+                    scan_on_by::<1, RULE, AIMED, L>(rule, lines, line, place, to_goal, words, steps)
                 }
             }
         }

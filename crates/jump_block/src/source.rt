@@ -9,9 +9,9 @@ ghost use Rattle.pruning.specs.Stop.{IsFirstStop};
 ghost use Rattle.pruning.specs.Turns.{is_diagonal};
 ghost use Rattle.jump_block.specs.Scan.{most_lanes};
 ghost use Rattle.bit_grid.specs.Bits.{AreBitsOf};
-ghost use Rattle.jump_block.specs.Source.{AreItsBits, JumpsOnEach, JumpsOnSome, OnEach, OnSome, is_forward, is_back, is_toward, scanned};
+ghost use Rattle.jump_block.specs.Source.{AreItsBits, JumpsOnEach, JumpsOnSome, OnEach, OnSome, is_forward, is_back, diagonal_of, is_toward, scanned};
 
-use crate::diagonal::is_toward;
+use crate::diagonal::{diagonal_of, is_toward};
 use crate::straight::Bits;
 use crate::word::Way;
 use bit_grid::BitGrid;
@@ -41,36 +41,49 @@ impl<'a> Bits<'a> {
         }
     }
 
-    // A diagonal jump, under a rule that the compiler knows. It is a function of its own, so that straight
-    // jumps, which are short, keep clear of its many registers. A jump that leads elsewhere than to where the
-    // goal lies has loops of its own too, in which no cell is compared with the goal.
+    // A diagonal jump, under a rule and in a direction that the compiler knows. It is a function of its own,
+    // so that others, which are short, keep clear of its many registers. A jump that leads elsewhere than to
+    // where the goal lies has a loop of its own too, in which no cell is compared with the goal.
     #[inline(never)]
-    fn diagonal_by<const RULE: usize, const AIMED: bool, L: Ledger>(
+    fn diagonal_by<const RULE: usize, const DIAGONAL: usize, const AIMED: bool, L: Ledger>(
         &self,
         at: Cell,
-        d: Dir,
         goal: Cell,
         steps: &mut Steps<L>,
     ) -> Option<u16>
         requires rule { self.now.corner ≡ ruled.rule_of_number RULE }
-        requires diagonal { is_diagonal d ≡ true }
         requires stands { OnSome self.now at }
-        requires aside { AIMED ≡ false → is_toward d at goal ≡ false }
-        ensures first { OnEach self.now at (λ g. result ≡ first.first_stop g goal at d) }
+        requires aside { AIMED ≡ false → is_toward (diagonal_of DIAGONAL) at goal ≡ false }
+        ensures first { OnEach self.now at (λ g. result ≡ first.first_stop g goal at (diagonal_of DIAGONAL)) }
         ensures fewest { steps.old + 3 ≤ steps.new }
     {
         let bits = self.under::<RULE>();
-        match d {
-            Dir::NE => bits.diagonal::<RULE, AIMED, L>(at, Dir::NE, goal, steps),
-            Dir::SE => bits.diagonal::<RULE, AIMED, L>(at, Dir::SE, goal, steps),
-            Dir::SW => bits.diagonal::<RULE, AIMED, L>(at, Dir::SW, goal, steps),
-            _ => bits.diagonal::<RULE, AIMED, L>(at, Dir::NW, goal, steps),
-        }
+        bits.diagonal::<RULE, AIMED, L>(at, diagonal_of(DIAGONAL), goal, steps)
     }
 
     // The same, for any goal.
     #[inline(always)]
-    fn diagonal_stop<const RULE: usize, L: Ledger>(
+    fn diagonal_stop<const RULE: usize, const DIAGONAL: usize, L: Ledger>(
+        &self,
+        at: Cell,
+        goal: Cell,
+        steps: &mut Steps<L>,
+    ) -> Option<u16>
+        requires rule { self.now.corner ≡ ruled.rule_of_number RULE }
+        requires stands { OnSome self.now at }
+        ensures first { OnEach self.now at (λ g. result ≡ first.first_stop g goal at (diagonal_of DIAGONAL)) }
+        ensures fewest { steps.old + 3 ≤ steps.new }
+    {
+        if is_toward(diagonal_of(DIAGONAL), at, goal) {
+            self.diagonal_by::<RULE, DIAGONAL, true, L>(at, goal, steps)
+        } else {
+            self.diagonal_by::<RULE, DIAGONAL, false, L>(at, goal, steps)
+        }
+    }
+
+    // A straight jump along the goal's row or column. Few are, so it is out of line.
+    #[inline(never)]
+    fn straight_by<const RULE: usize, L: Ledger>(
         &self,
         at: Cell,
         d: Dir,
@@ -78,20 +91,24 @@ impl<'a> Bits<'a> {
         steps: &mut Steps<L>,
     ) -> Option<u16>
         requires rule { self.now.corner ≡ ruled.rule_of_number RULE }
-        requires diagonal { is_diagonal d ≡ true }
+        requires straight { is_diagonal d ≡ false }
         requires stands { OnSome self.now at }
         ensures first { OnEach self.now at (λ g. result ≡ first.first_stop g goal at d) }
+        ensures most { OnEach self.now at
+            (λ g. steps.new ≤ steps.old + most_lanes (scanned g at d result)) }
         ensures fewest { steps.old + 3 ≤ steps.new }
     {
-        if is_toward(d, at, goal) {
-            self.diagonal_by::<RULE, true, L>(at, d, goal, steps)
-        } else {
-            self.diagonal_by::<RULE, false, L>(at, d, goal, steps)
+        let bits = self.under::<RULE>();
+        match d {
+            Dir::N => bits.straight_on_column::<RULE, L>(at, Way::Back, goal, steps),
+            Dir::E => bits.straight_on_row::<RULE, L>(at, Way::Forward, goal, steps),
+            Dir::S => bits.straight_on_column::<RULE, L>(at, Way::Forward, goal, steps),
+            _ => bits.straight_on_row::<RULE, L>(at, Way::Back, goal, steps),
         }
     }
 
-    // After how many moves a jump stops, under such a rule. Each direction has loops of its own, in which it
-    // is a constant too.
+    // After how many moves a jump stops, under such a rule. Each direction has code of its own, in which
+    // it is a constant too. A straight jump looks for the goal only along the goal's row or column.
     #[inline(never)]
     fn stop_by<const RULE: usize, L: Ledger>(
         &self,
@@ -107,15 +124,16 @@ impl<'a> Bits<'a> {
             (λ g. steps.new ≤ steps.old + most_lanes (scanned g at d result)) }
         ensures fewest { steps.old + 3 ≤ steps.new }
     {
-        let bits = self.under::<RULE>();
         match d {
-            Dir::N => bits.straight_on_column::<RULE, L>(at, Way::Back, goal, steps),
-            Dir::E => bits.straight_on_row::<RULE, L>(at, Way::Forward, goal, steps),
-            Dir::S => bits.straight_on_column::<RULE, L>(at, Way::Forward, goal, steps),
-            Dir::W => bits.straight_on_row::<RULE, L>(at, Way::Back, goal, steps),
-            Dir::NE | Dir::SE | Dir::SW | Dir::NW => {
-                self.diagonal_stop::<RULE, L>(at, d, goal, steps)
-            }
+            Dir::N if at.x != goal.x => self.mark_on_column::<1, RULE, L>(at, steps),
+            Dir::E if at.y != goal.y => self.mark_on_row::<0, RULE, L>(at, steps),
+            Dir::S if at.x != goal.x => self.mark_on_column::<0, RULE, L>(at, steps),
+            Dir::W if at.y != goal.y => self.mark_on_row::<1, RULE, L>(at, steps),
+            Dir::N | Dir::E | Dir::S | Dir::W => self.straight_by::<RULE, L>(at, d, goal, steps),
+            Dir::NE => self.diagonal_stop::<RULE, 0, L>(at, goal, steps),
+            Dir::SE => self.diagonal_stop::<RULE, 1, L>(at, goal, steps),
+            Dir::SW => self.diagonal_stop::<RULE, 2, L>(at, goal, steps),
+            Dir::NW => self.diagonal_stop::<RULE, 3, L>(at, goal, steps),
         }
     }
 

@@ -9,10 +9,11 @@ ghost use Rattle.jump_block.specs.Trail.{begun};
 ghost use Rattle.jump_block.specs.Scan.{Finds, looked, most_lanes};
 ghost use Rattle.jump_block.specs.Near.{AreNearStart};
 ghost use Rattle.jump_block.specs.Source as spec;
+ghost use Rattle.jump_block.specs.Word as ways;
 ghost use Rattle.jump_block.specs.Source.{LooksOut, OnSome, OnEach, trail_of, scanned};
 
 use crate::block::Halt;
-use crate::marks::finds_mark;
+use crate::marks::{finds_mark, first_mark};
 use crate::near::words_near;
 use crate::scan::{Start, scan};
 use crate::word::Way;
@@ -22,10 +23,10 @@ use jump_plain::jump::moves_to;
 use std::sync::ledger::Ledger;
 use steps::Steps;
 
-// The first stop, told where the scan halts: the goal where it is met before, else the mark, if there is one.
-// Where no corner is cut the mark is the next cell's, and else that of the cell where the scan halts.
+/// The first stop, told where the scan halts: the goal where it is met before, else the mark, if any. Where
+/// no corner is cut the mark is the next cell's, and else that of the cell where the scan halts.
 #[inline(always)]
-fn stop_of(rule: Corner, found: Option<Halt>, to_goal: u16) -> Option<u16>
+pub(crate) fn stop_of(rule: Corner, found: Option<Halt>, to_goal: u16) -> Option<u16>
     requires few { spec.HasFew found }
     ensures { result ≡ spec.stop_of rule found to_goal }
 {
@@ -98,7 +99,7 @@ impl<'a> Bits<'a> {
             place: u32::from(at.x) + 1,
             to_goal: u32::from(to_goal),
         };
-        scan::<RULE, L>(way, self.corner, self.rows, along_row, steps)
+        scan::<RULE, true, L>(way, self.corner, self.rows, along_row, steps)
     }
 
     // Where a scan along the column halts, or `None` where the goal, so many moves on, is met before.
@@ -122,7 +123,7 @@ impl<'a> Bits<'a> {
             place: u32::from(at.y) + 1,
             to_goal: u32::from(to_goal),
         };
-        scan::<RULE, L>(way, self.corner, self.columns, along_column, steps)
+        scan::<RULE, true, L>(way, self.corner, self.columns, along_column, steps)
     }
 
     // The words around a free cell, of its row and of those beside it.
@@ -181,6 +182,47 @@ impl<'a> Bits<'a> {
         let (line, place) = (u32::from(at.x) + 1, u32::from(at.y) + 1);
         let near = words_near(self.columns, line, place, steps);
         finds_mark::<RULE, L>(way, self.corner, self.columns, line, place, near, steps)
+    }
+
+    /// After how many moves a straight jump along the row stops, for a goal to which it does not lead.
+    #[inline(always)]
+    pub(crate) fn mark_on_row<const WAY: usize, const RULE: usize, L: Ledger>(
+        &self,
+        at: Cell,
+        steps: &mut Steps<L>,
+    ) -> Option<u16>
+        requires rule { self.now.corner ≡ ruled.rule_of_number RULE }
+        requires stands { OnSome self.now at }
+        ensures first { OnEach self.now at (λ g. (goal : Cell)
+            → reach.moves_to (spec.row_dir (ways.way_of WAY)) at goal ≡ 0
+            → result ≡ first.first_stop g goal at (spec.row_dir (ways.way_of WAY))) }
+        ensures most { OnEach self.now at
+            (λ g. steps.new ≤ steps.old + most_lanes (scanned g at (spec.row_dir (ways.way_of WAY)) result)) }
+        ensures fewest { steps.old + 3 ≤ steps.new }
+    {
+        let (line, place) = (u32::from(at.y) + 1, u32::from(at.x) + 1);
+        first_mark::<WAY, RULE, L>(self.rows, line, place, steps)
+    }
+
+    /// The same along the column.
+    #[inline(always)]
+    pub(crate) fn mark_on_column<const WAY: usize, const RULE: usize, L: Ledger>(
+        &self,
+        at: Cell,
+        steps: &mut Steps<L>,
+    ) -> Option<u16>
+        requires rule { self.now.corner ≡ ruled.rule_of_number RULE }
+        requires stands { OnSome self.now at }
+        ensures first { OnEach self.now at (λ g. (goal : Cell)
+            → reach.moves_to (spec.column_dir (ways.way_of WAY)) at goal ≡ 0
+            → result ≡ first.first_stop g goal at (spec.column_dir (ways.way_of WAY))) }
+        ensures most { OnEach self.now at
+            (λ g. steps.new ≤ steps.old
+            + most_lanes (scanned g at (spec.column_dir (ways.way_of WAY)) result)) }
+        ensures fewest { steps.old + 3 ≤ steps.new }
+    {
+        let (line, place) = (u32::from(at.x) + 1, u32::from(at.y) + 1);
+        first_mark::<WAY, RULE, L>(self.columns, line, place, steps)
     }
 
     /// After how many moves a straight jump along the row stops.

@@ -15,6 +15,13 @@ use Rattle.pruning.specs.Packed.{word_of, dirs_of}
 digit_is : (d : Dir) (w : ℕ) → (dir_number d + 1 + 16 * w) % 16 - 1 ≡ dir_number d
 digit_is d w = let n = dir_number-few d in omega (arith, n)
 
+-- it tells the first direction
+pub first_is : (d : Dir) (w word : ℕ) → word ≡ dir_number d + 1 + 16 * w
+    → get_or all_dirs (word % 16 - 1) N ≡ d
+first_is d w word h =
+    ap (λ (n : ℕ). get_or all_dirs (n % 16 - 1) N) h ∙ ap (λ (n : ℕ). get_or all_dirs n N) (digit_is d w)
+    ∙ numbered_dir d
+
 others_are : (d : Dir) (w : ℕ) → (dir_number d + 1 + 16 * w) / 16 ≡ w
 others_are d w = let n = dir_number-few d in omega (arith, n)
 

@@ -39,6 +39,10 @@ pub struct Split {
     pub others: Packed,
 }
 
+// The directions in their order. A `static` is read where it lies; a constant would be laid on the stack at
+// each use.
+static DIRS: [Dir; 8] = ALL_DIRS;
+
 // The word of a direction and of those after it.
 #[inline(always)]
 fn put_first(d: Dir, others: u32) -> u32
@@ -54,7 +58,7 @@ fn first_of(word: u32) -> Dir
     requires { (d : Dir) × (ds : List Dir) × (word ≡ word_of (d ∷ ds)) }
     ensures { (d : Dir) (ds : List Dir) → word ≡ word_of (d ∷ ds) → result ≡ d }
 {
-    ALL_DIRS[(word % 16 - 1) as usize]
+    DIRS[(word % 16) as usize - 1]
 }
 
 impl Packed {

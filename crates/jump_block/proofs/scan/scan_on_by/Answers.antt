@@ -1,4 +1,4 @@
-use Rattle.std.proofs.Common.{sym, ◌∙◌}
+use Rattle.std.proofs.Common.{ℕ, sym, ◌∙◌, subst}
 use Rattle.grid_moves.specs.declared.Corner.{Corner}
 use Rattle.jump_block.specs.declared.word.Way.{Way}
 use Rattle.jump_block.specs.Scan.{FindsFrom, PassedFrom}
@@ -14,4 +14,6 @@ pub returns-clause-finds : goal.returns-clause-finds
 returns-clause-finds g c =
     on_same (λ (w : Way) (r : Corner). FindsFrom c.args.lines.now r w c.args.to_goal c.args.line c.args.place
     c.scan_on.result)
-    c.way_of.ensures (c.rule_of_number-rule.ensures ∙ sym c.requires.rule) c.scan_on.ensures.finds
+    c.way_of.ensures (c.rule_of_number-rule.ensures ∙ sym c.requires.rule)
+    (subst (λ (n : ℕ). FindsFrom c.args.lines.now c.rule_of_number-rule.result c.way_of.result n c.args.line
+    c.args.place c.scan_on.result) c.moves_to_goal-to_goal.ensures c.scan_on.ensures.finds)
