@@ -1,5 +1,4 @@
 -- One offer keeps what holds in a wave.
-use Rattle.std.proofs.lemmas.Bool.{cases_Bool}
 use Rattle.std.proofs.Common.{◌≡◌, ◌≢◌, ℕ, ◌+◌, ◌*◌, ◌<◌, ◌≤◌, inl, inr, arith, refl, ap, sym, ◌∙◌, subst}
 use Rattle.std.proofs.Common.{Bool, true, false, List, [], ◌∷◌, ◌++◌, length, get_or, length-set}
 use Rattle.std.specs.Prelude.{nat_lt, nat_le, bit_or, ◌&&◌, if◌then◌else◌}
@@ -85,7 +84,13 @@ module _ (g : GridData) (s : Cell) (whole : IsGrid g) (floor : ℕ) (now : List 
     joined_told : (c : Cell) (d : Dir) → is_inside g c ≡ true → has_dir (dirs_at g with_dirs.firsts c) d
         ≡ true
         → rank_at g f.ranks c < rank_limit
-    joined_told c d h1 h2 = grind (arith, nat_tests, same_or_apart, is_on, on, dirs_there, short)
+    joined_told c d h1 h2 = elim (same_or_apart g c to (is_on g c h1) on) [
+      | inr n ↦ k.told c d h1 (ap (λ (m : ℕ). has_dir m d) (sym (dirs_there c n)) ∙ h2)
+      | inl e ↦
+          let r : rank_at g f.ranks c ≡ old = ap (λ (v : Cell). rank_at g f.ranks v) e in
+          let l = short in
+          omega arith
+    ]
 
     pub joined_keeps : Keeps g s floor now with_dirs
     joined_keeps = record {
@@ -106,12 +111,22 @@ module _ (g : GridData) (s : Cell) (whole : IsGrid g) (floor : ℕ) (now : List 
 
     joined_grows : (c : Cell) (d : Dir) → IsOn g c → has_dir (dirs_at g f.firsts c) d ≡ true
         → has_dir (dirs_at g with_dirs.firsts c) d ≡ true
-    joined_grows c d h1 h2 =
-        grind (arith, cases_Bool, same_or_apart, on, dirs_there, dirs_here, bit_or-dir, or_left)
+    joined_grows c d h1 h2 = elim (same_or_apart g c to h1 on) [
+      | inr n ↦ ap (λ (m : ℕ). has_dir m d) (dirs_there c n) ∙ h2
+      | inl e ↦ ap (λ (v : Cell). has_dir (dirs_at g with_dirs.firsts v) d) e
+          ∙ ap (λ (m : ℕ). has_dir m d) dirs_here ∙ bit_or-dir (dirs_at g f.firsts to) first d
+          ∙ or_left _ _ (ap (λ (v : Cell). has_dir (dirs_at g f.firsts v) d) (sym e) ∙ h2)
+    ]
 
     joined_stays : (c : Cell) → IsOn g c → rank_at g f.ranks c < floor + straight_rank
         → dirs_at g with_dirs.firsts c ≡ dirs_at g f.firsts c
-    joined_stays c h1 h2 = grind (arith, nat_tests, same_or_apart, on, dirs_there)
+    joined_stays c h1 h2 = elim (same_or_apart g c to h1 on) [
+      | inr n ↦ dirs_there c n
+      | inl e ↦ absurd (
+          let r : rank_at g f.ranks c ≡ old = ap (λ (v : Cell). rank_at g f.ranks v) e in
+          let low = o.low in
+          omega arith)
+    ]
 
     pub joined_follows : Follows g floor f with_dirs
     joined_follows = record {
@@ -158,7 +173,14 @@ module _ (g : GridData) (s : Cell) (whole : IsGrid g) (floor : ℕ) (now : List 
     ]
 
     lower : (c : Cell) → IsOn g c → rank_at g with_rank.ranks c ≤ rank_at g f.ranks c
-    lower c h1 = grind (arith, nat_tests, same_or_apart, on, there, here)
+    lower c h1 = elim (same_or_apart g c to h1 on) [
+      | inr n ↦ let q = there c n in omega arith
+      | inl e ↦
+          let was : rank_at g f.ranks c ≡ old = ap (λ (v : Cell). rank_at g f.ranks v) e in
+          let is_now : rank_at g with_rank.ranks c ≡ rank = ap (λ (v : Cell). rank_at g with_rank.ranks v) e
+          ∙ here in
+          omega arith
+    ]
 
     -- one more cell is known, or as many
     data Counts : Type 0 where
@@ -175,7 +197,10 @@ module _ (g : GridData) (s : Cell) (whole : IsGrid g) (floor : ℕ) (now : List 
     more = elim counts [ new h e ↦ omega arith | as_before h e ↦ omega arith ]
 
     bounded_to : rank + diagonal_rank ≤ diagonal_rank * known_count with_rank.ranks
-    bounded_to = grind (arith, nat_tests, counts, on_inside, on)
+    bounded_to = elim counts [
+      | new h e ↦ let b = o.bounded in omega arith
+      | as_before h e ↦ let b = k.bounded to (on_inside g to on) h in omega arith
+    ]
 
     -- a list to which the cell is added, where a test holds
     abbrev with_to : Bool → List Cell → List Cell

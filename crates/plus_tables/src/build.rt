@@ -122,6 +122,21 @@ fn sweep<T: Terrain>(
     Ok(())
 }
 
+// The same in memory of its own.
+fn sweep_alone<T: Terrain>(
+    alloc: Global,
+    t: &T,
+    heading: Heading,
+    entries: &mut Vec<i16>,
+) -> Result<(), NoMemory>
+    requires whole { IsGrid (T.grid t.now) }
+    requires none { AreSwept (T.grid t.now) heading 0 entries.old.items }
+    ensures { OnOk result (AreSwept (T.grid t.now) heading (T.grid t.now).height entries.new.items) }
+{
+    let mut rows = Rows::blank(alloc, t)?;
+    sweep(t, heading, &mut rows, entries)
+}
+
 impl Tables {
     ghost use Rattle.std.specs.Prelude.{IfOk};
     ghost use Rattle.plus_tables.specs.Tables.{AreTablesOf};
@@ -135,10 +150,8 @@ impl Tables {
             return Tables::blank(alloc, t);
         }
         let mut entries = Vec::with_capacity(alloc, height * width * 8)?;
-        let mut up = Rows::blank(alloc, t)?;
-        sweep(t, Heading::Upwards, &mut up, &mut entries)?;
-        let mut down = Rows::blank(alloc, t)?;
-        sweep(t, Heading::Downwards, &mut down, &mut entries)?;
+        sweep_alone(alloc, t, Heading::Upwards, &mut entries)?;
+        sweep_alone(alloc, t, Heading::Downwards, &mut entries)?;
         Ok(Tables::of_entries(t, entries))
     }
 }

@@ -1,6 +1,7 @@
 //! Heights of cells, by a list of cells that is read once, in the order of the cells.
 
 ghost use Rattle.std.specs.Prelude.{◌≡◌, IsTrue, []};
+ghost use Rattle.potential_check.specs.Certificate.{is_small};
 ghost use Rattle.potential_check.specs.Heights as spec;
 
 use grid_moves::{Cell, estimate};
@@ -26,6 +27,52 @@ pub(crate) enum Heights<'a> {
     },
 }
 
+// The height that a value is.
+#[inline(always)]
+fn value_height(value: Cost) -> i64
+    requires { IsTrue (is_small value) }
+    ensures { result ≡ spec.value_height value }
+{
+    value.signed().rank()
+}
+
+// The height of a cell with no value.
+#[inline(always)]
+fn unlisted_height(cost: Cost, goal: Cell, c: Cell) -> i64
+    requires { IsTrue (is_small cost) }
+    ensures { result ≡ spec.value_floor cost goal c }
+{
+    cost.minus(estimate(c, goal)).rank()
+}
+
+// The height of the cell by a list of values, and the list without its entry, where the first is the cell's.
+#[inline(always)]
+fn take_value(cost: Cost, goal: Cell, rest: &[(Cell, Cost)], c: Cell) -> (i64, &[(Cell, Cost)])
+    requires cost { IsTrue (is_small cost) }
+    requires low { IsTrue (spec.values_are_low rest.now) }
+    ensures height { result.0
+        ≡ spec.first_height (spec.value_floor cost goal) (spec.value_entries rest.now) c }
+    ensures rest { spec.value_entries result.1.now ≡ spec.rest_after (spec.value_entries rest.now) c }
+    ensures low { IsTrue (spec.values_are_low result.1.now) }
+{
+    match rest.split_first() {
+        Some(((cell, value), more)) if *cell == c => (value_height(*value), more),
+        _ => (unlisted_height(cost, goal, c), rest),
+    }
+}
+
+// The same by a list of cells.
+#[inline(always)]
+fn take_member(rest: &[Cell], c: Cell) -> (i64, &[Cell])
+    ensures height { result.0 ≡ spec.first_height spec.member_floor (spec.member_entries rest.now) c }
+    ensures rest { spec.member_entries result.1.now ≡ spec.rest_after (spec.member_entries rest.now) c }
+{
+    match rest.split_first() {
+        Some((cell, more)) if *cell == c => (0, more),
+        _ => (OUT_OF_REACH, rest),
+    }
+}
+
 impl<'a> Heights<'a> {
     /// The height of the cell, and the list without its entry, where the first entry is the cell's.
     #[inline(always)]
@@ -37,24 +84,14 @@ impl<'a> Heights<'a> {
         ensures low { IsTrue (spec.are_low result.1) }
     {
         match self {
-            Heights::Values { cost, goal, rest } => match rest.split_first() {
-                Some(((cell, value), more)) if *cell == c => {
-                    let height = value.signed().rank();
-                    (
-                        height,
-                        Heights::Values {
-                            cost,
-                            goal,
-                            rest: more,
-                        },
-                    )
-                }
-                _ => (cost.minus(estimate(c, goal)).rank(), self),
-            },
-            Heights::Members { rest } => match rest.split_first() {
-                Some((cell, more)) if *cell == c => (0, Heights::Members { rest: more }),
-                _ => (OUT_OF_REACH, self),
-            },
+            Heights::Values { cost, goal, rest } => {
+                let (height, rest) = take_value(cost, goal, rest, c);
+                (height, Heights::Values { cost, goal, rest })
+            }
+            Heights::Members { rest } => {
+                let (height, rest) = take_member(rest, c);
+                (height, Heights::Members { rest })
+            }
         }
     }
 

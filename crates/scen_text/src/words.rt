@@ -9,7 +9,7 @@ use crate::entry::ByteRange;
 use text_line::{FieldsAt, PlacedField};
 
 /// The words of an entry: its fields, those of the map's name as one.
-#[derive(Clone, Copy, Debug)]
+#[derive(Clone, Copy)]
 pub(crate) struct Words<'a> {
     pub bucket: PlacedField<'a>,
     pub name: ByteRange,

@@ -1,5 +1,4 @@
 -- Walks back that keep abreast: one of them goes on or ends, and what they change adds up.
-use Rattle.std.proofs.lemmas.Bool.Decides.{nat_tests}
 use Rattle.std.proofs.Common.{◌≡◌, ℕ, zero, suc, ◌+◌, ◌⊎◌, inl, inr, arith, Bool, true, false, refl, sym, ◌∙◌}
 use Rattle.std.proofs.Common.{◌||◌, List, [], ◌∷◌, ◌++◌, length}
 use Rattle.std.specs.Prelude.{Option, Some, None, option_and_then}
@@ -21,13 +20,18 @@ use Rattle.table_repair.proofs.Walking.{or_false, false_or, or_left, or_right}
 
 -- `||` of three, none of which holds
 or_joined : (a b c : Bool) → (a || (b || c)) ≡ false → ((a || b) || c) ≡ false
-or_joined a b c h = grind (arith, nat_tests)
+or_joined true b c h = h
+or_joined false b c h = h
 
 or_swapped : (a b c : Bool) → ((a || b) || c) ≡ false → (b || (a || c)) ≡ false
-or_swapped a b c h = grind (arith, nat_tests)
+or_swapped true true c h = h
+or_swapped true false c h = h
+or_swapped false true c h = h
+or_swapped false false c h = h
 
 or_further : (a b c d : Bool) → d ≡ (b || c) → (a || d) ≡ ((a || b) || c)
-or_further a b c d h = grind (arith, nat_tests)
+or_further true b c d h = refl
+or_further false b c d h = h
 
 -- so many moves, and then so many more
 pub after_further : (d : Dir) (j k : ℕ) (u v w : Cell) → cell_after d j u ≡ Some v → cell_after d k v ≡ Some w
@@ -39,11 +43,14 @@ after_further d (suc j) k u v w e f = by_cell (ahead d u) refl e
     by_cell : (o : Option Cell) → ahead d u ≡ o → option_and_then (λ p. cell_after d j p) o ≡ Some v
         → ((p : Cell) → cell_after d j p ≡ Some v → cell_after d (j + k) p ≡ Some w)
         → cell_after d (suc j + k) u ≡ Some w
-    by_cell o h i j = grind (arith, nat_tests)
+    by_cell None h i further = absurd (cc)
+    by_cell (Some p) h i further =
+        let more : suc j + k ≡ suc (j + k) = omega arith in
+        rw more (after_before d (j + k) u p w h (further p i))
 
 -- the first walk, and those after it
 pub at_first : (v : Walk) (vs : List Walk) → is_at_one (v ∷ vs) v.at ≡ true
-at_first v vs = let s : is_same v.at v.at ≡ true = is_same-itself v.at in grind arith
+at_first v vs = or_left (is_same v.at v.at) (is_at_one vs v.at) (is_same-itself v.at)
 
 pub at_others : (v : Walk) (vs : List Walk) (w : Cell) → is_at_one vs w ≡ true → is_at_one (v ∷ vs) w ≡ true
 at_others v vs w h = or_right (is_same w v.at) (is_at_one vs w) h
@@ -54,10 +61,15 @@ at_both (x ∷ xs) ys w =
     or_further (is_same w x.at) (is_at_one xs w) (is_at_one ys w) (is_at_one (xs ++ ys) w) (at_both xs ys w)
 
 pub at_next : (next : Walk) (w : Cell) → is_at_one (next ∷ []) w ≡ true → w ≡ next.at
-at_next next w a = grind (arith, is_same-cell)
+at_next next w a = is_same-cell w next.at (first (is_same w next.at) a)
+  where
+    first : (a : Bool) → (a || false) ≡ true → a ≡ true
+    first true h = refl
+    first false h = h
 
 pub or_either : (a b : Bool) → (a || b) ≡ true → (a ≡ true) ⊎ (b ≡ true)
-or_either a b h = grind (arith, nat_tests)
+or_either true b h = inl refl
+or_either false b h = inr h
 
 -- what lies behind a cell that was reached lies behind its start
 mended_further : {h : GridData} {d : Dir} {starts piece : Cell → Bool} {now new : TablesData} {n m : ℕ}
@@ -216,4 +228,27 @@ pub abreast_enter : {h : GridData} {d : Dir} {starts row : Cell → Bool} {old n
     → ((w : Cell) → row w ≡ true → is_inside h w ≡ true)
     → ((w : Cell) → row w ≡ true → IsRight h now w d) → ((w : Cell) → row w ≡ true → starts w ≡ true)
     → KeepAbreast h d starts old now more no_cell n
-abreast_enter h i j k l = grind (arith, nat_tests)
+abreast_enter {row = row} {walks = walks} {more = more} h i j k l = record {
+  ready = h.ready;
+  inside = λ w m. elim (or_either (is_at_one walks w) (row w) (sym (i w) ∙ m)) [
+    | inl a ↦ h.inside w a
+    | inr r ↦ j w r
+  ];
+  mended = λ w m. elim (or_either (is_at_one walks w) (row w) (sym (i w) ∙ m)) [
+    | inl a ↦ h.mended w a
+    | inr r ↦ record {
+      right = k w r;
+      moves = 0;
+      few = omega arith;
+      start = w;
+      starts_there = l w r;
+      reaches = refl;
+    }
+  ];
+  mends = h.mends;
+  follows = λ later f. follow_more (λ w m.
+      let p = or_false (is_at_one more w) (later w) m in
+      let q = or_false (is_at_one walks w) (row w) (sym (i w) ∙ p.0) in
+      false_or (is_at_one walks w) (row w || later w) q.0 (false_or (row w) (later w) q.1 p.1))
+      (h.follows later f);
+}

@@ -1,6 +1,6 @@
 -- What is kept as entries are made right, one after the other.
 use Rattle.std.proofs.lemmas.Bool.Decides.{nat_tests}
-use Rattle.std.proofs.Common.{◌≡◌, ℕ, ◌+◌, ◌≤◌, inl, inr, ◌∙◌, arith, Bool, true, false}
+use Rattle.std.proofs.Common.{◌≡◌, ℕ, ◌+◌, ◌≤◌, inl, inr, refl, ◌∙◌, arith, Bool, true, false}
 use Rattle.grid_moves.specs.declared.Cell.{Cell}
 use Rattle.grid_moves.specs.declared.Dir.{Dir}
 use Rattle.grid_moves.specs.Grid.{GridData, is_inside}
@@ -45,6 +45,18 @@ pub still_mended : {h : GridData} {d : Dir} {few more : Cell → Bool} {old new 
     → ((w : Cell) → few w ≡ true → more w ≡ true) → IsRight h new u d → m ≤ n → IsMended h old d few m u
     → IsMended h new d more n u
 still_mended h i j k = grind (arith, nat_tests)
+
+-- nothing is changed
+pub nothing_mended : (h : GridData) (d : Dir) (starts : Cell → Bool) (t : TablesData) → Mends h d starts t t 0
+nothing_mended h d starts t = record {
+  width = refl;
+  height = refl;
+  corner = refl;
+  length_kept = refl;
+  others = λ u e k l. refl;
+  along = λ u k. inl refl;
+  count = λ r w a. omega arith;
+}
 
 -- first these, and then those, which begin at cells that the first reached
 pub mends_then : {h : GridData} {d : Dir} {starts piece : Cell → Bool} {s t u : TablesData} {m n : ℕ}

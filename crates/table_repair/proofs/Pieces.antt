@@ -1,7 +1,8 @@
 -- A row is swept piece by piece along a diagonal direction, which leads from no cell of it to another.
-use Rattle.std.proofs.lemmas.Bool.Decides.{nat_tests}
 use Rattle.std.proofs.Common.{◌≡◌, ℕ, suc, ◌+◌, ◌*◌, ◌-◌, ◌<◌, ◌≤◌, ◌⊎◌, inl, inr, arith, Bool, true, false}
 use Rattle.std.proofs.Common.{refl, sym, ◌∙◌, ◌||◌, List, [], ◌∷◌, ◌++◌}
+use Rattle.std.specs.Prelude.{nat_eq}
+use Rattle.grid_moves.proofs.Legal.{and_both}
 use Rattle.grid_moves.specs.declared.Cell.{Cell}
 use Rattle.grid_moves.specs.declared.Dir.{Dir}
 use Rattle.grid_moves.specs.Grid.{GridData, is_inside}
@@ -12,12 +13,13 @@ use Rattle.plus_tables.specs.Tables.{TablesData}
 use Rattle.table_repair.specs.declared.span.Span.{Span}
 use Rattle.table_repair.specs.declared.walks.Walk.{Walk}
 use Rattle.table_repair.specs.Abreast.{is_at_one}
-use Rattle.table_repair.specs.Mending.{IsRight, Mends, CanSweep, Sweeps, either, is_in_row}
+use Rattle.table_repair.specs.Mending.{IsRight, Mends, CanSweep, Sweeps, either, is_among, is_in_row}
 use Rattle.table_repair.proofs.Abreast.{at_both}
 use Rattle.table_repair.proofs.Lines.{after_moved, right_ahead}
 use Rattle.table_repair.proofs.Mends.{mends_wider, follow_more}
 use Rattle.table_repair.proofs.Rows.{and_true, not_true}
-use Rattle.table_repair.proofs.Sweeping.{Swept, swept_more, swept_all, among_from}
+use Rattle.table_repair.proofs.Sweeping.{Swept, swept_more, swept_all, among_from, among_parts}
+use Rattle.table_repair.proofs.Sweeping.{same_number, number_same}
 use Rattle.table_repair.proofs.Walking.{false_or}
 
 -- what is told of one test, told of another that answers the same
@@ -39,10 +41,13 @@ part first end = record { first = first; end = end }
 
 row_parts : (y : ℕ) (s : Span) (w : Cell) → is_in_row y s w ≡ true
     → (w.y ≡ y) × ((s.first ≤ w.x) × (w.x < s.end))
-row_parts y s w i = grind (arith, nat_tests)
+row_parts y s w i =
+    let p = and_both (nat_eq w.y y) (is_among s w.x) i in
+    (number_same w.y y p.0, among_parts s w.x p.1)
 
 row_from : (y : ℕ) (s : Span) (w : Cell) → w.y ≡ y → s.first ≤ w.x → w.x < s.end → is_in_row y s w ≡ true
-row_from y s w e l m = grind (arith, and_true, among_from)
+row_from y s w e l m =
+    and_true (nat_eq w.y y) (is_among s w.x) (rw e (same_number y)) (among_from s w.x l m)
 
 pub row_on_map : (h : GridData) (y : ℕ) (s : Span) (w : Cell) → y < h.height → s.end ≤ h.width
     → is_in_row y s w ≡ true → is_inside h w ≡ true
@@ -51,7 +56,13 @@ row_on_map h y s w low narrow i = grind (arith, row_parts, inside_from)
 -- an empty piece adds no walk
 pub none_there : (y n : ℕ) (before : List Walk) (w : Cell)
     → is_at_one before w ≡ (is_at_one before w || is_in_row y (part n n) w)
-none_there y n before w = grind (arith, not_true, row_parts)
+none_there y n before w = or_none (is_at_one before w) (is_in_row y (part n n) w)
+    (not_true (is_in_row y (part n n) w) (λ i.
+    let p = row_parts y (part n n) w i in let a = p.1.0 in let b = p.1.1 in absurd (omega arith)))
+  where
+    or_none : (a b : Bool) → b ≡ false → a ≡ (a || b)
+    or_none true b e = refl
+    or_none false b e = sym e
 
 -- one more walk, at the next column
 pub one_more_there : (y first x : ℕ) (before walks : List Walk) (w : Cell) → first ≤ x
@@ -72,7 +83,7 @@ module _ {h : GridData} {d : Dir} (y : ℕ) (columns : Span) (first : ℕ) {old 
       row_from y columns w p.0 (omega arith) (omega arith)
 
   off_row : (k : ℕ) (v w : Cell) (s : Span) → v.y ≡ y → AreMoved d (suc k) v w → is_in_row y s w ≡ false
-  off_row k v w s e m = grind (arith, not_true, row_parts)
+  off_row k v w s e m = not_true (is_in_row y s w) (λ i. let p = row_parts y s w i in grind arith)
 
   -- each of its entries is right, since no cell ahead waits
   pub piece_right : y < h.height → columns.end ≤ h.width → CanSweep h old d (is_in_row y columns)

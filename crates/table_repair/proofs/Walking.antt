@@ -1,26 +1,28 @@
 -- One walk back from a cell, as long as entries change.
-use Rattle.std.proofs.lemmas.Bool.Decides.{nat_tests}
-use Rattle.std.proofs.Common.{◌≡◌, ◌≢◌, ℕ, ◌+◌, ◌<◌, ◌⊎◌, inl, inr, arith, Bool, true, false, sym}
-use Rattle.std.proofs.Common.{◌∙◌, ◌||◌, length-set}
-use Rattle.std.specs.Prelude.{Some, None}
+use Rattle.std.proofs.Common.{◌≡◌, ◌≢◌, ℕ, suc, ◌+◌, ◌<◌, ◌⊎◌, inl, inr, arith, Bool, true, false, sym, refl}
+use Rattle.std.proofs.Common.{◌∙◌, ◌||◌, length, length-set, get_or, ap}
+use Rattle.std.specs.Prelude.{Some, None, ℤ, pos}
 use Rattle.std.proofs.lemmas.Bool.{cases_Bool}
 use Rattle.grid_moves.specs.declared.Cell.{Cell}
 use Rattle.grid_moves.specs.declared.Dir.{Dir}
+use Rattle.grid_moves.specs.declared.Dir.TheVariants.{N, NE, E, SE, S, SW, W, NW}
 use Rattle.grid_moves.specs.Grid.{GridData, IsGrid, is_inside}
 use Rattle.grid_moves.specs.Move.{ahead, is_same, legal_ahead}
 use Rattle.grid_moves.proofs.Legal.{is_same-cell, is_same-itself}
 use Rattle.pruning.proofs.Bridging.{one_of, legal_leads}
 use Rattle.pruning.proofs.Running.{IsMoved, column_trend, row_trend}
 use Rattle.grid_moves.proofs.Places.{inside_is}
+use Rattle.grid_moves.specs.Move.{is_dir}
+use Rattle.pruning.proofs.Table.{at_dir}
 use Rattle.plus_tables.specs.Entry.{table_entry}
 use Rattle.plus_tables.specs.Tables.{TablesData, IsWhole, AreTablesOf, RestsRight, is_on, entry_at}
-use Rattle.plus_tables.specs.Tables.{tables_with}
+use Rattle.plus_tables.specs.Tables.{tables_with, entry_place}
 use Rattle.table_repair.specs.Counted.{places_differing}
 use Rattle.table_repair.specs.Mending.{IsRight, AreBesideRight, AreReady, IsMended, Mends, FollowBut}
 use Rattle.table_repair.specs.Mending.{cell_after, behind_on}
 use Rattle.table_repair.proofs.Counting.{entry-with, entry-with_other, count-with, with_itself}
-use Rattle.table_repair.proofs.Lines.{behind_on-from, one_behind, after_moved}
-use Rattle.table_repair.proofs.Mends.{still_mended, on_inside, ready_stays}
+use Rattle.table_repair.proofs.Lines.{behind_on-from, one_behind, after_before, after_moved}
+use Rattle.table_repair.proofs.Mends.{still_mended, on_inside, ready_stays, nothing_mended}
 
 -- what waits for this cell, and for those that wait later
 abbrev pub or_later : Cell → (Cell → Bool) → Cell → Bool
@@ -39,19 +41,30 @@ pub record Walked (h : GridData) (d : Dir) (v : Cell) (old now : TablesData) (at
 
 pub walked_none : {h : GridData} {d : Dir} {v : Cell} {t : TablesData} → AreReady h t d → is_inside h v ≡ true
     → IsRight h t v d → Walked h d v t t v 0
-walked_none h i j = grind (arith, nat_tests)
+walked_none {h = h} {d = d} {v = v} {t = t} ready i j = record {
+  ready = ready;
+  reaches = refl;
+  inside = i;
+  right = j;
+  mends = nothing_mended h d (λ w. is_same w v) t;
+  follows = λ later f. f;
+}
 
 pub or_false : (a b : Bool) → (a || b) ≡ false → (a ≡ false) × (b ≡ false)
-or_false a b h = (grind arith, grind arith)
+or_false true b h = absurd (cc)
+or_false false b h = (refl, h)
 
 pub or_left : (a b : Bool) → a ≡ true → (a || b) ≡ true
-or_left a b h = grind arith
+or_left true b h = refl
+or_left false b h = absurd (cc)
 
 pub or_right : (a b : Bool) → b ≡ true → (a || b) ≡ true
-or_right a b h = grind arith
+or_right true b h = refl
+or_right false b h = h
 
 pub false_or : (a b : Bool) → a ≡ false → b ≡ false → (a || b) ≡ false
-false_or a b h k = grind arith
+false_or true b h k = h
+false_or false b h k = k
 
 -- the condition of a refresh
 pub rests_right : (h : GridData) (t : TablesData) (d : Dir) (u v : Cell) → ahead d u ≡ Some v
@@ -121,7 +134,9 @@ module _ {h : GridData} {d : Dir} {v : Cell} {old now : TablesData} {at_cell : C
     }
       where
         reaches : cell_after d (n + 1) u ≡ Some v
-        reaches = grind (arith, nat_tests)
+        reaches =
+            let more : n + 1 ≡ suc n = omega arith in
+            rw more (after_before d n u at_cell v e walked.reaches)
 
         along : (w : Cell) → is_inside h w ≡ true
             → (entry_at new w d ≡ entry_at old w d) ⊎ IsMended h new d (λ w. is_same w v) (n + 1) w
@@ -144,10 +159,35 @@ module _ {h : GridData} {d : Dir} {v : Cell} {old now : TablesData} {at_cell : C
 
         count : (r : TablesData) → IsWhole r → AreTablesOf r h
             → places_differing old.entries r.entries ≡ places_differing new.entries r.entries + (n + 1)
-        count r w a = grind (arith, count-with, whole, on)
+        count r w a =
+            let sized = walked.ready.sized in
+            let wide : now.width ≡ r.width = sized.width ∙ sym a.sized.width in
+            let high : now.height ≡ r.height = sized.height ∙ sym a.sized.height in
+            let long : length now.entries ≡ length r.entries = whole.whole ∙ rw (wide, high) (sym w.whole) in
+            let right : table_entry h u d ≡ get_or r.entries (entry_place now.width u d) (pos 0)
+            = sym (a.right u d i) ∙ ap (λ (n : ℕ). get_or r.entries (entry_place n u d) (pos 0)) (sym wide) in
+            let one =
+            count-with now whole u on d (table_entry h u d) r.entries long right changed in
+            let same : places_differing new.entries r.entries
+            ≡ places_differing (tables_with now u d (table_entry h u d)).entries r.entries
+            = ap (λ (t : TablesData). places_differing t.entries r.entries) is in
+            let before = walked.mends.count r w a in
+            omega arith
+
+        same_dir : is_dir d d ≡ true
+        same_dir = at_dir (λ d. is_dir d d) refl d
 
         mends : Mends h d (λ w. is_same w v) old new (n + 1)
-        mends = grind (arith, length-set, stays, along, count)
+        mends = record {
+          width = rw is walked.mends.width;
+          height = rw is walked.mends.height;
+          corner = rw is walked.mends.corner;
+          length_kept = rw is (length-set now.entries (entry_place now.width u d) (table_entry h u d)
+              ∙ walked.mends.length_kept);
+          others = λ w f q j. stays w f j (λ k l. absurd (cc same_dir)) ∙ walked.mends.others w f q j;
+          along = along;
+          count = count;
+        }
 
         follows : (later : Cell → Bool) → FollowBut h old d (or_later v later)
             → FollowBut h new d (or_later u later)
@@ -189,10 +229,19 @@ walk_short h d v u n grid i j r =
   where
     by_dir : (d : Dir) → IsMoved (column_trend d) n u.x v.x → IsMoved (row_trend d) n u.y v.y
         → u.x < 4096 → v.x < 4096 → u.y < 4096 → v.y < 4096 → n < 4096
-    by_dir d p q j k l m = grind (arith, nat_tests)
+    by_dir N p q j k l m = omega arith
+    by_dir NE p q j k l m = omega arith
+    by_dir E p q j k l m = omega arith
+    by_dir SE p q j k l m = omega arith
+    by_dir S p q j k l m = omega arith
+    by_dir SW p q j k l m = omega arith
+    by_dir W p q j k l m = omega arith
+    by_dir NW p q j k l m = omega arith
 
 -- a refresh of a right entry leaves the tables as they are
 pub nothing_set : (h : GridData) (t new : TablesData) (u : Cell) (d : Dir) → AreReady h t d
     → is_inside h u ≡ true → new ≡ tables_with t u d (table_entry h u d) → entry_at t u d ≡ table_entry h u d
     → new ≡ t
-nothing_set h t new u d ready i is right = grind (arith, with_itself, on_inside)
+nothing_set h t new u d ready i is right =
+    is ∙ ap (λ (x : ℤ). tables_with t u d x) (sym right)
+    ∙ with_itself t ready.whole u (on_inside t h ready.sized u i) d

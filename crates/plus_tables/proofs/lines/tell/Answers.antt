@@ -1,4 +1,7 @@
-use Rattle.std.proofs.Common.{◌≡◌, ◌<◌, refl, arith, length, ap, ◌∙◌}
+use Rattle.std.proofs.Common.{◌≡◌, ◌<◌, ℕ, List, refl, arith, length, ap, ◌∙◌}
+use Rattle.std.specs.Global.{Vec}
+use Rattle.std.specs.Prelude.{ℤ}
+use Rattle.std.specs.Vec.{with_items}
 use Rattle.std.proofs.lemmas.List.{with_items_is}
 use Rattle.grid_moves.specs.declared.Dir.TheVariants.{N, NE, E, W, NW}
 use Rattle.grid_moves.specs.Grid.{GridData}
@@ -6,6 +9,18 @@ use Rattle.plus_tables.specs.Rows.{seen}
 use Rattle.plus_tables.proofs.Fitting.{long_as}
 use Rattle.plus_tables.proofs.Lining.{along_seen, entries_as, leads_ahead, seen_as}
 use Rattle.plus_tables.proofs.lines.tell.Goals as goal
+
+-- a row that was lent as a slice is what was written, and stays as long
+row_set : (row : Vec ℤ) (out : List ℤ) {lent : List ℤ} → length out ≡ length lent → lent ≡ row.items
+    → (with_items row out).items ≡ out
+row_set row out same is =
+    let long = ap (λ (l : List ℤ). length l) is in
+    with_items_is row out (omega (arith, row.ok.0))
+
+row_long : (row : Vec ℤ) (out : List ℤ) {lent : List ℤ} {n : ℕ} → length out ≡ length lent → lent ≡ row.items
+    → length row.items ≡ n → length (with_items row out).items ≡ n
+row_long row out same is long = ap (λ (l : List ℤ). length l) (row_set row out same is) ∙ same
+    ∙ ap (λ (l : List ℤ). length l) is ∙ long
 
 pub tell_ahead-requires : goal.tell_ahead-requires
 tell_ahead-requires g c =
@@ -70,7 +85,7 @@ returns-clause-told g c = λ h y ready around.
     c.deref-3.ensures.value (ready.rows.around_next on) in
     record {
       ahead = entries_as grid y (seen h N) c.tell_ahead.new.out _
-          (with_items_is c.args.this.now.ahead c.tell_ahead.new.out (omega arith))
+          (row_set c.args.this.now.ahead _ c.tell_ahead.auto.out c.deref_mut.ensures.value)
           (c.tell_ahead.ensures h y m (seen h N) (seen h N) ready.rows.ahead_is here beyond
           (entries_as grid m (seen h N) last.ahead.items c.deref-7.result.now c.deref-7.ensures.value
           ready.told.ahead)
@@ -80,7 +95,7 @@ returns-clause-told g c = λ h y ready around.
           ready.told.ahead)
           (λ k. absurd (cc)));
       ahead_east = entries_as grid y (seen h NE) c.tell_ahead-2.new.out _
-          (with_items_is c.args.this.now.ahead_east c.tell_ahead-2.new.out (omega arith))
+          (row_set c.args.this.now.ahead_east _ c.tell_ahead-2.auto.out c.deref_mut-2.ensures.value)
           (c.tell_ahead-2.ensures h y m (seen h E) (seen h N) lies.0 here beyond
           (entries_as grid m (seen h NE) last.ahead_east.items c.deref-10.result.now c.deref-10.ensures.value
           ready.told.ahead_east)
@@ -90,7 +105,7 @@ returns-clause-told g c = λ h y ready around.
           ready.told.ahead)
           (λ k. (refl, refl)));
       ahead_west = entries_as grid y (seen h NW) c.tell_ahead-3.new.out _
-          (with_items_is c.args.this.now.ahead_west c.tell_ahead-3.new.out (omega arith))
+          (row_set c.args.this.now.ahead_west _ c.tell_ahead-3.auto.out c.deref_mut-3.ensures.value)
           (c.tell_ahead-3.ensures h y m (seen h N) (seen h W) lies.1 here beyond
           (entries_as grid m (seen h NW) last.ahead_west.items c.deref-13.result.now c.deref-13.ensures.value
           ready.told.ahead_west)
@@ -104,16 +119,12 @@ returns-clause-told g c = λ h y ready around.
 pub returns-clause-long : goal.returns-clause-long
 returns-clause-long g c =
     let long = c.requires.long in
-    let ahead : length c.tell_ahead.new.out ≡ length c.args.this.now.ahead.items = omega arith in
-    let east : length c.tell_ahead-2.new.out ≡ length c.args.this.now.ahead_east.items = omega arith in
-    let west : length c.tell_ahead-3.new.out ≡ length c.args.this.now.ahead_west.items = omega arith in
     record {
-      ahead = ap length (with_items_is c.args.this.now.ahead c.tell_ahead.new.out (omega arith)) ∙ ahead
-          ∙ long.ahead;
-      ahead_east = ap length (with_items_is c.args.this.now.ahead_east c.tell_ahead-2.new.out (omega arith))
-          ∙ east ∙ long.ahead_east;
-      ahead_west = ap length (with_items_is c.args.this.now.ahead_west c.tell_ahead-3.new.out (omega arith))
-          ∙ west ∙ long.ahead_west;
+      ahead = row_long c.args.this.now.ahead _ c.tell_ahead.auto.out c.deref_mut.ensures.value long.ahead;
+      ahead_east = row_long c.args.this.now.ahead_east _ c.tell_ahead-2.auto.out c.deref_mut-2.ensures.value
+          long.ahead_east;
+      ahead_west = row_long c.args.this.now.ahead_west _ c.tell_ahead-3.auto.out c.deref_mut-3.ensures.value
+          long.ahead_west;
       east = long.east;
       west = long.west;
     }

@@ -1,5 +1,4 @@
 -- Each refresh is a further cell of the walk, or its end.
-use Rattle.std.proofs.lemmas.Bool.Decides.{nat_tests}
 use Rattle.std.proofs.Common.{arith, sym, ◌∙◌}
 use Rattle.table_repair.proofs.Lines.{behind_on-is}
 use Rattle.table_repair.proofs.Walking.{walk_stops, walk_goes_on, walk_ends, walk_short}
@@ -45,13 +44,24 @@ returns-then-not-refresh-clause-follows g c = λ later f.
     rw same (walk_stops c.in-Some.before w l.0 l.1 right later f)
 
 pub returns-then-not-refresh-clause-few : goal.returns-then-not-refresh-clause-few
-returns-then-not-refresh-clause-few g c = grind (arith, nat_tests, walk_short)
+returns-then-not-refresh-clause-few g c =
+    let w = c.loop-before.invariant.walked in
+    walk_short c.args.grid.now c.args.d c.args.from c.loop-before.at c.loop-before.changed w.ready.grid
+    c.requires.inside w.inside w.reaches
 
 pub overflow_add-changed : goal.overflow_add-changed
-overflow_add-changed g c = grind (arith, nat_tests, walk_short)
+overflow_add-changed g c =
+    let w = c.loop-before.invariant.walked in
+    let few = walk_short c.args.grid.now c.args.d c.args.from c.loop-before.at c.loop-before.changed w.ready.grid
+    c.requires.inside w.inside w.reaches in
+    omega arith
 
 pub loop-before-smaller : goal.loop-before-smaller
-loop-before-smaller g c = grind (arith, walk_short)
+loop-before-smaller g c =
+    let w = c.loop-before.invariant.walked in
+    let few = walk_short c.args.grid.now c.args.d c.args.from c.loop-before.at c.loop-before.changed w.ready.grid
+    c.requires.inside w.inside w.reaches in
+    omega arith
 
 pub loop-before-preserved : goal.loop-before-preserved
 loop-before-preserved g c =
@@ -69,4 +79,7 @@ returns-clause-follows g c =
     walk_ends c.loop-before.invariant.walked (sym c.cell_before.ensures ∙ c.in_default.is)
 
 pub returns-clause-few : goal.returns-clause-few
-returns-clause-few g c = grind (arith, walk_short)
+returns-clause-few g c =
+    let w = c.loop-before.invariant.walked in
+    walk_short c.args.grid.now c.args.d c.args.from c.loop-before.at c.loop-before.changed w.ready.grid
+    c.requires.inside w.inside w.reaches

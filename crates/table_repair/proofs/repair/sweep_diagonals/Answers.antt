@@ -15,10 +15,15 @@ sweep_diagonal-changed-requires-clause-ready g c =
     (c.requires.diagonal d (listed_at c.args.dirs.now c.loop-d.d-index N c.loop-d-test.true))
 
 pub sweep_diagonal-changed-requires-clause-diagonal : goal.sweep_diagonal-changed-requires-clause-diagonal
-sweep_diagonal-changed-requires-clause-diagonal g c = grind (arith, listed_at)
+sweep_diagonal-changed-requires-clause-diagonal g c =
+    c.requires.diagonal (get_or c.args.dirs.now c.loop-d.d-index N)
+    (listed_at c.args.dirs.now c.loop-d.d-index N c.loop-d-test.true)
 
 pub sweep_diagonal-changed-requires-clause-waits : goal.sweep_diagonal-changed-requires-clause-waits
-sweep_diagonal-changed-requires-clause-waits g c = grind (arith, listed_at)
+sweep_diagonal-changed-requires-clause-waits g c =
+    let d : Dir = get_or c.args.dirs.now c.loop-d.d-index N in
+    c.loop-d.invariant.passed.follows d
+    (c.requires.diagonal d (listed_at c.args.dirs.now c.loop-d.d-index N c.loop-d-test.true))
 
 pub loop-d-preserved : goal.loop-d-preserved
 loop-d-preserved g c =

@@ -1,5 +1,4 @@
 -- One direction after the other.
-use Rattle.std.proofs.lemmas.Bool.Decides.{nat_tests}
 use Rattle.std.proofs.Common.{arith, add-one, get_or}
 use Rattle.grid_moves.specs.declared.Dir.{Dir}
 use Rattle.grid_moves.specs.declared.Dir.TheVariants.{N}
@@ -10,7 +9,10 @@ use Rattle.table_repair.proofs.Totals.{later_on}
 use Rattle.table_repair.proofs.repair.sweep_straight.Goals as goal
 
 pub sweep-changed-requires-clause-ready : goal.sweep-changed-requires-clause-ready
-sweep-changed-requires-clause-ready g c = grind (arith, nat_tests, get_or, straight_ready, listed_at)
+sweep-changed-requires-clause-ready g c =
+    straight_ready c.loop-d.invariant.passed.mends.sound
+    (c.requires.straight (get_or c.args.dirs.now c.loop-d.d-index N)
+    (listed_at c.args.dirs.now c.loop-d.d-index N c.loop-d-test.true))
 
 pub sweep-changed-requires-clause-waits : goal.sweep-changed-requires-clause-waits
 sweep-changed-requires-clause-waits g c =
@@ -40,4 +42,5 @@ loop-d-preserved g c =
     }
 
 pub returns-clause-right : goal.returns-clause-right
-returns-clause-right g c = grind (arith, nat_tests, listed_all)
+returns-clause-right g c = λ d k.
+    c.loop-d.invariant.passed.right d (listed_all c.args.dirs.now c.loop-d.d-index d c.loop-d-test.false k)

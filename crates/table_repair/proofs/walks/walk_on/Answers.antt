@@ -1,7 +1,8 @@
 -- The entry behind is refreshed, and the walk goes on or ends.
 use Rattle.std.proofs.Common.{sym, ◌∙◌}
 use Rattle.table_repair.proofs.Lines.{behind_on-is}
-use Rattle.table_repair.proofs.Walking.{rests_right}
+use Rattle.table_repair.proofs.Mends.{on_inside, nothing_mended}
+use Rattle.table_repair.proofs.Walking.{rests_right, nothing_set}
 use Rattle.table_repair.proofs.Onward.{follows_end, follows_stay, mends_one, follows_on, onward_told}
 use Rattle.table_repair.proofs.walks.walk_on.Goals as goal
 
@@ -11,6 +12,15 @@ refresh-requires-clause-rests g c =
     (sym c.cell_before.ensures ∙ c.in-Some.is) in
     rests_right c.args.grid.now c.args.tables.now c.args.d c.in-Some.before c.args.walk.at l.0
     c.requires.inside c.requires.right c.requires.ready.beside
+
+pub refresh-requires-clause-sized : goal.refresh-requires-clause-sized
+refresh-requires-clause-sized g c = c.requires.ready.sized
+
+pub refresh-requires-clause-inside : goal.refresh-requires-clause-inside
+refresh-requires-clause-inside g c =
+    let l = behind_on-is c.args.grid.now c.args.d c.in-Some.before c.args.walk.at
+    (sym c.cell_before.ensures ∙ c.in-Some.is) in
+    on_inside c.args.tables.now c.args.grid.now c.requires.ready.sized c.in-Some.before l.1
 
 pub returns-then-refresh-clause-mends : goal.returns-then-refresh-clause-mends
 returns-then-refresh-clause-mends g c =
@@ -40,3 +50,20 @@ pub returns-in_default-clause-follows : goal.returns-in_default-clause-follows
 returns-in_default-clause-follows g c =
     follows_end c.args.walk.at c.requires.ready c.requires.inside
     c.requires.right (sym c.cell_before.ensures ∙ c.in_default.is)
+
+pub returns-else-refresh-clause-mends : goal.returns-else-refresh-clause-mends
+returns-else-refresh-clause-mends g c =
+    let l = behind_on-is c.args.grid.now c.args.d c.in-Some.before c.args.walk.at
+    (sym c.cell_before.ensures ∙ c.in-Some.is) in
+    let same = nothing_set c.args.grid.now c.args.tables.now c.refresh.new.self c.in-Some.before c.args.d
+    c.requires.ready l.1 c.refresh.ensures.is (c.refresh.ensures.stayed c.if-refresh.false) in
+    rw same (nothing_mended c.args.grid.now c.args.d _ c.args.tables.now)
+
+pub returns-in_default-clause-mends : goal.returns-in_default-clause-mends
+returns-in_default-clause-mends g c = nothing_mended c.args.grid.now c.args.d _ c.args.tables.now
+
+pub returns-else-refresh-clause-onward : goal.returns-else-refresh-clause-onward
+returns-else-refresh-clause-onward g c = λ next e. absurd (cc)
+
+pub returns-in_default-clause-onward : goal.returns-in_default-clause-onward
+returns-in_default-clause-onward g c = λ next e. absurd (cc)
