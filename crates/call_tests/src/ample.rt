@@ -10,7 +10,7 @@ use crate::calls::{
     Call, ENGINES, OPEN, RULES, check, check_writes, compare, on_map, run_counting, status_of,
     stream, strings,
 };
-use crate::table::{check_table, engines_of, row_of, rules_of, spelled, written};
+use crate::table::{calls_of, check_table, engines_of, row_of, rules_of, spelled, written};
 use io_edge::{Failed, Files, MemSink, Source, SureSource};
 use std::alloc::Global;
 use std::marker::Brand;
@@ -100,22 +100,10 @@ fn check_endless(
     Ok(())
 }
 
-// Each file of each command without an end, by each engine and under each rule; and a script that comes in.
+// Each file of each command without an end, by each engine and under each rule. `endless` are all commands with
+// a map, that of `x`.
 pub(crate) const LONG: &str = "
-map long | query x 0 0 0 0 engine=any rule=any => 3 jps: map long
-map long | solve x s engine=each rule=any => 3 jps: map long
-map long | live x engine=each rule=any => 3 jps: map long
-map long | scen x s engine=any rule=any => 3 jps: map long
-map long | judge x s t rule=any => 3 jps: map long
-map long | prove x 0 0 0 0 rule=any => 3 jps: map long
-map long | check x s rule=any => 3 jps: map long
-map long | draw x 0 0 0 0 engine=each rule=any => 3 jps: map long
-map long | costs x 0 0 rule=any => 3 jps: map long
-map long | tables x rule=any => 3 jps: map long
-map long | boxes x 0 0 rule=any => 3 jps: map long
-map long | moves x 0 0 rule=any => 3 jps: map long
-map long | lengths x s rule=any => 3 jps: map long
-map long | problems x 1 1 rule=any => 3 jps: map long
+map long | endless => 3 jps: map long
 script long | solve m x engine=each rule=any => 3 jps: script long
 scen long | scen m x engine=any rule=any => 3 jps: scen long
 scen long | judge m x t rule=any => 3 jps: scen long
@@ -132,26 +120,33 @@ tables long | live m tables=x engine=plus rule=none => 3 jps: tables long
 tables long | scen m s tables=x engine=plus rule=none => 3 jps: tables long
 ";
 
+// A call with a file without an end, by each engine and under each rule.
+fn check_long(
+    alloc: Global,
+    rt: &impl Abort,
+    words: &str,
+    status: u8,
+    line: &[u8],
+) -> Result<(), Fail> {
+    for engine in engines_of(words) {
+        for rule in rules_of(words) {
+            let call = spelled(alloc, words, engine, rule)?;
+            check_endless(alloc, rt, call.as_str(), 0, status, (b"", b""), line)?;
+        }
+    }
+    Ok(())
+}
+
 // The calls of a table whose files have no end.
-fn check_long(alloc: Global, rt: &impl Abort, table: &str) -> Result<(), Fail> {
+fn check_all_long(alloc: Global, rt: &impl Abort, table: &str) -> Result<(), Fail> {
     for line in table.lines() {
         let Some(row) = row_of(line) else {
             continue;
         };
         let line = written(alloc, row.lines, true)?;
-        for engine in engines_of(row.words) {
-            for rule in rules_of(row.words) {
-                let words = spelled(alloc, row.words, engine, rule)?;
-                check_endless(
-                    alloc,
-                    rt,
-                    words.as_str(),
-                    0,
-                    row.status,
-                    (b"", b""),
-                    line.as_slice(),
-                )?;
-            }
+        let calls = calls_of(alloc, row)?;
+        for call in calls.as_slice() {
+            check_long(alloc, rt, call.as_str(), row.status, line.as_slice())?;
         }
     }
     Ok(())
@@ -159,12 +154,12 @@ fn check_long(alloc: Global, rt: &impl Abort, table: &str) -> Result<(), Fail> {
 
 #[test]
 fn a_file_without_an_end_is_too_long(rt: HostRuntime) -> Result<(), Fail> {
-    check_long(rt.alloc(), &rt, LONG)
+    check_all_long(rt.alloc(), &rt, LONG)
 }
 
 #[test]
 fn the_longest_files_without_an_end_are_too_long(rt: HostRuntime) -> Result<(), Fail> {
-    check_long(rt.alloc(), &rt, LONGEST)
+    check_all_long(rt.alloc(), &rt, LONGEST)
 }
 
 // A script that comes in: a command, and then lines of blanks without an end.

@@ -123,7 +123,8 @@ pub(crate) fn rules_of(words: &str) -> &'static [&'static str] {
     &[""]
 }
 
-// The commands with a script, and those with a table file; each takes the engines and the rules of its own set.
+// The commands with a script, and those with a table file; each takes the engines and the rules of its own
+// set.
 const SCRIPTED: [&str; 2] = ["solve m s", "live m"];
 
 const TABLED: [&str; 4] = [
@@ -133,14 +134,24 @@ const TABLED: [&str; 4] = [
     "scen m s engine=plus tables=t rule=any",
 ];
 
-// The words with another map's name, under which no file is held.
-fn elsewhere(alloc: Global, words: &str) -> Result<String, AllocError> {
+// The words with another name for the map.
+fn renamed(alloc: Global, words: &str, map: &str) -> Result<String, AllocError> {
     let mut changed = String::new(alloc);
     for word in words.split_whitespace() {
-        changed.push_str(if word == "m" { "no" } else { word })?;
+        changed.push_str(if word == "m" { map } else { word })?;
         changed.push_str(" ")?;
     }
     Ok(changed)
+}
+
+// The commands with a map, under another name for it.
+fn mapped_as(alloc: Global, map: &str) -> Result<Vec<String>, AllocError> {
+    let mapped = calls_showing(alloc, "map faults")?;
+    let mut calls = Vec::new(alloc);
+    for call in mapped.as_slice() {
+        calls.push(renamed(alloc, call.as_str(), map)?)?;
+    }
+    Ok(calls)
 }
 
 // Each of the commands, with the settings behind it.
@@ -158,14 +169,8 @@ pub(crate) fn calls_of(alloc: Global, row: Row<'_>) -> Result<Vec<String>, Alloc
         "mapped" => return calls_showing(alloc, "map faults"),
         "listed" => return calls_showing(alloc, "scen faults"),
         "tabled" => return each_with(alloc, &TABLED, ""),
-        "nowhere" => {
-            let mapped = calls_showing(alloc, "map faults")?;
-            let mut calls = Vec::new(alloc);
-            for call in mapped.as_slice() {
-                calls.push(elsewhere(alloc, call.as_str())?)?;
-            }
-            return Ok(calls);
-        }
+        "nowhere" => return mapped_as(alloc, "no"),
+        "endless" => return mapped_as(alloc, "x"),
         _ => (),
     }
     match row.words.strip_prefix("scripted") {

@@ -1,6 +1,7 @@
--- A call as data: the files that it reads, whether it reads the input, what answers it on the texts of its
--- files, and how far the counter rises for what it searches.
-use Rattle.std.specs.Prelude.{◌≡◌, ℕ, ◌+◌, Bool, true, false, List, [], ◌∷◌, ◌++◌, length, Ok, Option}
+-- A call as data: its command's name, the files that it reads, whether it reads the input, what answers it on
+-- the texts of its files, and how far the counter rises for what it searches.
+use Rattle.std.specs.Prelude.{◌≡◌, ℕ, ◌+◌, Bool, true, false, List, [], ◌∷◌, ◌++◌, codes, length, Ok}
+use Rattle.std.specs.Prelude.{Option}
 use Rattle.grid_moves.specs.Layers.{query_grid}
 use Rattle.grid_moves.specs.declared.Cell.{Cell}
 use Rattle.io_edge.specs.Told.{Held}
@@ -47,37 +48,51 @@ call_with asked set = record { request = asked; settings = set }
 abbrev pub cell_at : List (List ℕ) → ℕ → Cell
 cell_at words place = record { x = number_at words place; y = number_at words (place + 1) }
 
--- what a command comes to with its words: the files that it reads, in their order, and the lines and the status
--- that are a right answer on their texts
+-- what is told of a command with its words: its name, the files that it reads, in their order, and the lines
+-- and the status that are a right answer on their texts
 pub record Task : Type 1 where
+  pub name : List ℕ
   pub files : List File
   pub IsRight : List (List ℕ) → List (List ℕ) → ℕ → Type 0
 
--- the task of a command, with its words, the name of a table file, and the settings. A session that begins with
--- a table file, whose text stands behind that of the map, is that on the map
+-- the task of a command, with its words, the name of a table file, and the settings. A session that begins
+-- with a table file, whose text stands behind that of the map, is that on the map
 abbrev pub task : Settings → Command → List (List ℕ) → Option (List ℕ) → Task
-task set command.Help words tables = record { files = []; IsRight = Says help_text }
-task set command.Version words tables = record { files = []; IsRight = Says version_text }
+task set command.Help words tables = record {
+  name = codes "--help";
+  files = [];
+  IsRight = Says help_text;
+}
+task set command.Version words tables = record {
+  name = codes "--version";
+  files = [];
+  IsRight = Says version_text;
+}
 task set command.Query words tables = record {
+  name = codes "query";
   files = map_files set (word_at words 0) tables;
   IsRight = λ texts lines status. OnMap texts (λ m behind. One lines (λ line. IsReplyLine (who_on set m) set.show
       (cell_at words 1) (cell_at words 3) line)) × (status ≡ 0);
 }
 task set command.Solve words tables = record {
+  name = codes "solve";
   files = map_files set (word_at words 0) tables ++ file_of kind.Script (word_at words 1) ∷ [];
   IsRight = λ texts lines status. OnMap texts (λ m behind. OnLast behind (λ second. Reads (script_of second)
       (λ commands. OnSession set m (λ d. AreAnswers d set.show commands lines)))) × (status ≡ 0);
 }
 task set command.Live words tables = record {
+  name = codes "live";
   files = map_files set (word_at words 0) tables;
   IsRight = λ texts lines status. ⊥;
 }
 task set command.Scen words tables = record {
+  name = codes "scen";
   files = map_files set (word_at words 0) tables ++ file_of kind.Scen (word_at words 1) ∷ [];
   IsRight = λ texts lines status. OnMap texts (λ m behind. OnLast behind (λ second. Reads (scen_of second)
       (λ entries. MadeOf lines status (scen_lines set.show) scen_status (AreRows (who_on set m) entries))));
 }
 task set command.Judge words tables = record {
+  name = codes "judge";
   files = file_of kind.Map (word_at words 0) ∷ file_of kind.Scen (word_at words 1)
       ∷ file_of kind.Walks (word_at words 2)
       ∷ [];
@@ -86,57 +101,68 @@ task set command.Judge words tables = record {
       MadeOf lines status judge_lines judge_status (AreRulings (layers_on set m) entries told))));
 }
 task set command.Lengths words tables = record {
+  name = codes "lengths";
   files = file_of kind.Map (word_at words 0) ∷ file_of kind.Scen (word_at words 1) ∷ [];
   IsRight = λ texts lines status. OnMap texts (λ m behind. One behind (λ second. Reads (scen_of second)
       (λ entries. AreLengths (layers_on set m) second entries lines status)));
 }
 task set command.Problems words tables = record {
+  name = codes "problems";
   files = file_of kind.Map (word_at words 0) ∷ [];
   IsRight = λ texts lines status. Prints texts lines status (λ m printed code. AreProblems (layers_on set m)
       (word_at words 0) (seed_at words 1) (count_at words 2) printed code);
 }
 task set command.Prove words tables = record {
+  name = codes "prove";
   files = file_of kind.Map (word_at words 0) ∷ [];
   IsRight = λ texts lines status. Prints texts lines status (λ m printed code. IsProof (layers_on set m)
       (cell_at words 1) (cell_at words 3) printed code);
 }
 task set command.Check words tables = record {
+  name = codes "check";
   files = file_of kind.Map (word_at words 0) ∷ file_of kind.Cert (word_at words 1) ∷ [];
   IsRight = λ texts lines status. OnMap texts (λ m behind. One behind (λ second. (c : Certificate)
       × (certificate_of second ≡ Ok (plain c))
       × One lines (λ line. IsVerdict (query_grid (layers_on set m) c.start) c line status)));
 }
 task set command.Make words tables = record {
+  name = codes "make";
   files = [];
   IsRight = Says (canonical_text
       (made_map (seed_at words 0) (side_at words 1) (side_at words 2) (percent_at words 3)));
 }
 task set command.Drill words tables = record {
+  name = codes "drill";
   files = [];
   IsRight = λ texts lines status. (texts ≡ [])
       × MadeOf lines status (λ found. drill_line found ∷ []) (λ found. 0) (AreDrilled set (seed_at words 0));
 }
 task set command.Draw words tables = record {
+  name = codes "draw";
   files = file_of kind.Map (word_at words 0) ∷ [];
   IsRight = λ texts lines status. Prints texts lines status (λ m printed code. OnSession set m (λ d. IsDrawing d m
       (cell_at words 1) (cell_at words 3) set.show printed code));
 }
 task set command.Costs words tables = record {
+  name = codes "costs";
   files = file_of kind.Map (word_at words 0) ∷ [];
   IsRight = λ texts lines status. OnMap texts (λ m behind. (behind ≡ [])
       × AreCosts (layers_on set m) (cell_at words 1) lines) × (status ≡ 0);
 }
 task set command.Tables words tables = record {
+  name = codes "tables";
   files = file_of kind.Map (word_at words 0) ∷ [];
   IsRight = λ texts lines status. Prints texts lines status (λ m printed code.
       (printed ≡ tables_text set.rule m) × (code ≡ 0));
 }
 task set command.Boxes words tables = record {
+  name = codes "boxes";
   files = file_of kind.SmallMap (word_at words 0) ∷ [];
   IsRight = λ texts lines status. Prints texts lines status (λ m printed code.
       IsBoxText (layers_on set m) (cell_at words 1) printed × (code ≡ 0));
 }
 task set command.Moves words tables = record {
+  name = codes "moves";
   files = file_of kind.SmallMap (word_at words 0) ∷ [];
   IsRight = λ texts lines status. Prints texts lines status (λ m printed code.
       IsRunText (layers_on set m) (cell_at words 1) printed × (code ≡ 0));

@@ -28,4 +28,5 @@ pub mod Ending
 pub mod Opened
 pub mod Served
 pub mod Calls
+pub mod Named
 pub mod Tabled

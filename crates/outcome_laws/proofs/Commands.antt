@@ -1,5 +1,5 @@
 -- What each command comes to, one after the other: its answer is the only one where engines come to answers
--- in one way, and on accepted texts there is one.
+-- in one way, on accepted texts there is one, and the command has a row by its name.
 use Rattle.std.proofs.Common.{◌≡◌, ◌∙◌, refl, sym, ℕ, false, List, [], ◌∷◌}
 use Rattle.potential_check.specs.Text.{certificate_of, plain}
 use Rattle.word_list.specs.Kinds.{count_at, percent_at, seed_at, side_at, word_at}
@@ -7,6 +7,7 @@ use Rattle.word_list.specs.declared.request.Pick.{Pick}
 use Rattle.word_list.specs.declared.request.Settings.{Settings}
 use Rattle.word_list.specs.declared.rows.Command.{Command}
 use Rattle.word_list.specs.declared.rows.Command.TheVariants as command
+use Rattle.word_list.specs.Request.{row_of}
 use Rattle.call_files.specs.Layered.{layers_on}
 use Rattle.jps_run.specs.Calls.{cell_at, reads_input, task}
 use Rattle.jps_run.specs.Session.{by_of, session_on}
@@ -21,7 +22,8 @@ use Rattle.outcome_laws.proofs.Proving.{one_proof}
 use Rattle.outcome_laws.proofs.Verdicts as verdicts
 use Rattle.outcome_laws.proofs.Measured as measured
 use Rattle.outcome_laws.proofs.Posed as posed
-use Rattle.std.specs.Prelude.{Option}
+use Rattle.std.specs.Prelude.{Option, Some}
+use Rattle.std.specs.Option.{option_map}
 use Rattle.io_edge.specs.Told.{Held}
 use Rattle.map_text.specs.Writing.{canonical_text}
 use Rattle.map_maker.specs.Drill.{drill_commands}
@@ -53,15 +55,21 @@ IsThere set command words tables = (holds : List ℕ → Held) (texts : List (Li
     → AreAccepted holds [] (task set command words tables).files texts → reads_input command ≡ false
     → HasAnswer (task set command words tables) texts
 
+abbrev IsCalled : Settings → Command → List (List ℕ) → Option (List ℕ) → Type 0
+IsCalled set command words tables =
+    option_map (λ row. row.command) (row_of (task set command words tables).name) ≡ Some command
+
 pub answers : (set : Settings) (command : Command) (words : List (List ℕ)) (tables : Option (List ℕ))
-    → IsOnly set command words tables × IsThere set command words tables
+    → IsOnly set command words tables × IsThere set command words tables × IsCalled set command words tables
 answers set command.Help words tables = (
   λ pick texts lines same status code way p q. says_one p q,
   λ holds texts p silent. says help_text texts (nothing holds [] texts p),
+  refl,
 )
 answers set command.Version words tables = (
   λ pick texts lines same status code way p q. says_one p q,
   λ holds texts p silent. says version_text texts (nothing holds [] texts p),
+  refl,
 )
 answers set command.Query words tables = (
   λ pick texts lines same status code way p q. (
@@ -71,6 +79,7 @@ answers set command.Query words tables = (
     p.1 ∙ sym q.1,
   ),
   λ holds texts p silent. query_has holds set words tables texts p,
+  refl,
 )
 answers set command.Solve words tables = (
   λ pick texts lines same status code way p q. (
@@ -80,10 +89,12 @@ answers set command.Solve words tables = (
     p.1 ∙ sym q.1,
   ),
   λ holds texts p silent. solve_has holds set words tables texts p,
+  refl,
 )
 answers set command.Live words tables = (
   λ pick texts lines same status code way p q. absurd (p),
   λ holds texts p silent. absurd (cc),
+  refl,
 )
 answers set command.Scen words tables = (
   λ pick texts lines same status code way p q.
@@ -91,11 +102,13 @@ answers set command.Scen words tables = (
       made_one k l (one_rows_on set (picking set pick) m refl (are_layers-text set text m read) way entries
       k.from l.from k.known l.known)))),
   λ holds texts p silent. scen_has holds set words tables texts p,
+  refl,
 )
 answers set command.Judge words tables = (
   λ pick texts lines same status code way p q.
       one_judged set pick words tables texts lines same status code p q,
   λ holds texts p silent. judge_has holds set words tables texts p,
+  refl,
 )
 answers set command.Prove words tables = (
   λ pick texts lines same status code way p q.
@@ -104,6 +117,7 @@ answers set command.Prove words tables = (
   λ holds texts p silent.
       prints holds set (alone holds set (word_at words 0) texts p) (λ text m read.
       proof_exists (layers_on set m) (are_layers-text set text m read) (cell_at words 1) (cell_at words 3)),
+  refl,
 )
 answers set command.Check words tables = (
   λ pick texts lines same status code way p q. on_map p q (λ text m behind read a b. on_one a b (λ second k l.
@@ -111,6 +125,7 @@ answers set command.Check words tables = (
       (ok_same (plain k.0) (plain l.0) (certificate_of second) k.1 l.1) k.2.known l.2.known in
       (one_line k.2 l.2 v.0, v.1))),
   λ holds texts p silent. check_has holds set words tables texts p,
+  refl,
 )
 answers set command.Make words tables = (
   λ pick texts lines same status code way p q. says_one p q,
@@ -118,6 +133,7 @@ answers set command.Make words tables = (
       says (canonical_text
       (made_map (seed_at words 0) (side_at words 1) (side_at words 2) (percent_at words 3))) texts
       (nothing holds [] texts p),
+  refl,
 )
 answers set command.Drill words tables = (
   λ pick texts lines same status code way p q.
@@ -137,6 +153,7 @@ answers set command.Drill words tables = (
           },
         ),
       ),
+  refl,
 )
 answers set command.Draw words tables = (
   λ pick texts lines same status code way p q.
@@ -155,6 +172,7 @@ answers set command.Draw words tables = (
           known = record { reply = r.0; is_reply = r.1; drawn = refl; same_status = refl };
         },
       )),
+  refl,
 )
 answers set command.Costs words tables = (
   λ pick texts lines same status code way p q. (
@@ -178,6 +196,7 @@ answers set command.Costs words tables = (
           refl,
         ),
       ),
+  refl,
 )
 answers set command.Tables words tables = (
   λ pick texts lines same status code way p q.
@@ -191,6 +210,7 @@ answers set command.Tables words tables = (
           refl,
         ),
       )),
+  refl,
 )
 answers set command.Boxes words tables = (
   λ pick texts lines same status code way p q. prints_one p q (λ text m read a b k l. (
@@ -200,6 +220,7 @@ answers set command.Boxes words tables = (
   )),
   λ holds texts p silent. prints holds set (alone_small holds set (word_at words 0) texts p) (λ text m read.
       let all = boxes_exist (layers_on set m) (cell_at words 1) in (all.0, 0, (all.1, refl))),
+  refl,
 )
 answers set command.Moves words tables = (
   λ pick texts lines same status code way p q. prints_one p q (λ text m read a b k l. (
@@ -209,6 +230,7 @@ answers set command.Moves words tables = (
   )),
   λ holds texts p silent. prints holds set (alone_small holds set (word_at words 0) texts p) (λ text m read.
       let all = runs_exist (layers_on set m) (cell_at words 1) in (all.0, 0, (all.1, refl))),
+  refl,
 )
 answers set command.Lengths words tables = (
   λ pick texts lines same status code way p q.
@@ -216,6 +238,7 @@ answers set command.Lengths words tables = (
       measured.one_scenario (layers_on set m) second entries lines same status code
       (are_layers-text set text m read) k l))),
   λ holds texts p silent. lengths_has holds set words tables texts p,
+  refl,
 )
 answers set command.Problems words tables = (
   λ pick texts lines same status code way p q.
@@ -224,4 +247,5 @@ answers set command.Problems words tables = (
   λ holds texts p silent.
       prints holds set (alone holds set (word_at words 0) texts p) (λ text m read.
       problems_exist (layers_on set m) (word_at words 0) (seed_at words 1) (count_at words 2)),
+  refl,
 )

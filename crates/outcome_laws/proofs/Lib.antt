@@ -51,4 +51,6 @@ pub mod Proved
 pub mod Forms
 pub mod Readable
 pub mod Existing
+pub mod Spelled
 pub mod Serving
+pub mod Naming

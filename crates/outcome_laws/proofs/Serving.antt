@@ -1,8 +1,8 @@
 -- A call picks an engine of small maps only where its command's row allows one.
 use Rattle.std.proofs.Common.{◌≡◌, ℕ, Bool, true, false, not, ◌||◌, List, [], ◌∷◌, ◌++◌, length, drop}
-use Rattle.std.proofs.Common.{refl, ap, subst, arith}
-use Rattle.std.specs.Prelude.{Option, Some, None, unwrap_or, option_and_then, bytes_eq, if◌then◌else◌}
-use Rattle.std.specs.List.{fold, list_all}
+use Rattle.std.proofs.Common.{refl, subst, arith}
+use Rattle.std.specs.Prelude.{Option, Some}
+use Rattle.std.specs.List.{fold}
 use Rattle.std.proofs.lemmas.Bool.{and_parts, or_parts}
 use Rattle.std.proofs.lemmas.Bool.Decides.{nat_tests}
 use Rattle.word_list.specs.declared.request.Pick.{Pick}
@@ -15,8 +15,9 @@ use Rattle.word_list.specs.declared.settings.Setting.{Setting}
 use Rattle.word_list.specs.declared.settings.Setting.TheVariants as setting
 use Rattle.word_list.specs.Calls.{fits}
 use Rattle.word_list.specs.Kinds.{is_of}
-use Rattle.word_list.specs.Request.{Call, Named, Row, asked_by, row_in, row_of, rows}
+use Rattle.word_list.specs.Request.{Call, Named, Row, row_of, rows}
 use Rattle.outcome_laws.specs.Serving.{IsServed, SmallEnginesServeTwo, takes_small_maps}
+use Rattle.outcome_laws.proofs.Spelled.{row_told, spelled}
 use Rattle.word_list.specs.Settings.{setting_of, is_for_small_maps, is_allowed, may_follow, all_follow}
 use Rattle.word_list.specs.Settings.{are_settings, settings_with, default_settings}
 
@@ -81,50 +82,17 @@ serving one may = record {
     not_small false takes may never = refl
     not_small true takes may never = absurd (cc)
 
--- the row of a name is this one, or one behind it
-either : (b : Bool) (row : Row) (others : Option Row) (one : Row) → IsServing row
-    → (others ≡ Some one → IsServing one) → (if b then Some row else others) ≡ Some one → IsServing one
-either b row others one h i j = grind (arith, nat_tests)
-
-serves_in : (all : List Named) (name : List ℕ) (row : Row) → list_all may_allow all ≡ true
-    → row_in all name ≡ Some row → IsServing row
-serves_in [] name row may e = absurd (cc)
-serves_in (one ∷ others) name row may e =
-    let parts = and_parts (may_allow one) (list_all may_allow others) may in
-    either (bytes_eq name one.name) one.row (row_in others name) row (serving one parts.0)
-    (serves_in others name row parts.1) e
-
 row_serves : (name : List ℕ) (row : Row) → row_of name ≡ Some row → IsServing row
 unfolding may_allow allows_small
-row_serves name row e = serves_in rows name row refl e
-
-same_call : (one other : Call) → Some one ≡ Some other → one ≡ other
-same_call one other e = ap (λ (o : Option Call). unwrap_or o one) e
+row_serves name row e = let is = row_told may_allow rows name row refl e in
+    subst (λ (r : Row). IsServing r) is.row_is (serving is.one is.passes)
 
 -- so the engine of a call may serve what it asks for
 pub served : SmallEnginesServeTwo
 served [] call e = absurd (cc)
-served (name ∷ words) call e = by_row (row_of name) refl e
-  where
-    by_fit : (row : Row) → IsServing row → (b : Bool) → fits row.takes row.allows words ≡ b
-        → (let told : Call = record {
-          request = asked_by row words;
-          settings = fold (λ set word. settings_with set (setting_of word)) default_settings
-              (drop (length row.takes) words);
-        } in (if b then Some told else None) ≡ Some call) → IsServed call.request.command call.settings
-    by_fit row is true fit e =
-        subst (λ (k : Call). IsServed k.request.command k.settings) (same_call _ call e)
-        (λ no. with_all row.allows (is.bar no) []
-        (drop (length row.takes) words) default_settings
-        (and_parts (all_follow row.allows [] (drop (length row.takes) words)) _
-        (settings_behind row.takes row.allows words fit)).0 refl)
-    by_fit row is false fit e = absurd (cc)
-
-    by_row : (o : Option Row) → row_of name ≡ o → option_and_then
-        (λ row. if fits row.takes row.allows words then Some (record {
-          request = asked_by row words;
-          settings = fold (λ set word. settings_with set (setting_of word)) default_settings
-              (drop (length row.takes) words);
-        }) else None) o ≡ Some call → IsServed call.request.command call.settings
-    by_row None is e = absurd (cc)
-    by_row (Some row) is e = by_fit row (row_serves name row is) (fits row.takes row.allows words) refl e
+served (name ∷ words) call e = let is = spelled name words call e in
+    subst (λ (k : Call). IsServed k.request.command k.settings) is.told
+    (λ no. with_all is.row.allows ((row_serves name is.row is.known).bar no) []
+    (drop (length is.row.takes) words) default_settings
+    (and_parts (all_follow is.row.allows [] (drop (length is.row.takes) words)) _
+    (settings_behind is.row.takes is.row.allows words is.fit)).0 refl)

@@ -1,7 +1,12 @@
--- That one word of a refused list is named.
-use Rattle.std.specs.Prelude.{◌≡◌, ℕ, Bool, List, Some}
+-- That one word of a refused list is named, that what a call does goes by its name, and that each command is
+-- called by one.
+use Rattle.std.specs.Prelude.{◌≡◌, ℕ, Bool, List, Option, Some, slice_get}
+use Rattle.std.specs.Option.{option_map}
+use Rattle.jps_run.specs.Calls.{task, task_of}
 use Rattle.word_list.specs.Calls.{call_of, is_call}
-use Rattle.word_list.specs.Request.{Call}
+use Rattle.word_list.specs.Request.{Call, row_of}
+use Rattle.word_list.specs.declared.request.Settings.{Settings}
+use Rattle.word_list.specs.declared.rows.Command.{Command}
 use Rattle.word_list.specs.Rule.{IsBadWord}
 
 -- whatever lists are accepted, two numbers of the named word of one list are equal
@@ -13,3 +18,13 @@ BadWordsAreOne = (accepts : List (List ℕ) → Bool) (words : List (List ℕ)) 
 abbrev pub CallsHaveNone : Type 0
 CallsHaveNone = (words : List (List ℕ)) (call : Call) (number : ℕ) → call_of words ≡ Some call
     → ¬ IsBadWord is_call words number
+
+-- words that spell a call begin with the name of its command, as the command's task tells it
+abbrev pub CallsGoByName : Type 0
+CallsGoByName = (words : List (List ℕ)) (call : Call) → call_of words ≡ Some call
+    → slice_get words 0 ≡ Some (task_of call).name
+
+-- each command has a row by the name of its task
+abbrev pub CommandsAreCalled : Type 0
+CommandsAreCalled = (set : Settings) (command : Command) (words : List (List ℕ)) (tables : Option (List ℕ))
+    → option_map (λ row. row.command) (row_of (task set command words tables).name) ≡ Some command

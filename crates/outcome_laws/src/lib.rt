@@ -1,6 +1,6 @@
 //! Laws of whole calls: a call comes to at most one outcome, and to one where the files that it names are
-//! there and the input is told; which engine it picks changes nothing but what engines count. Below them
-//! the laws of replies, of what is read and printed, and of lines.
+//! there and the input is told; which engine it picks changes nothing but what engines count; each command
+//! is called by its own name. Below them the laws of replies, of what is read and printed, and of lines.
 //!
 //! This crate has no code that runs: its specs have the statements, and each law is the contract of a call
 //! that does nothing. The program doesn't use it.
@@ -12,6 +12,7 @@ pub mod of_outcomes;
 pub mod of_replies;
 
 pub use of_outcomes::{
-    engines_print_the_same_costs, jump_engines_print_the_same, outcomes_are_one, outcomes_exist,
-    small_engines_serve_two, with_tables_the_same, written_begins_the_output,
+    calls_go_by_name, commands_are_called, engines_print_the_same_costs,
+    jump_engines_print_the_same, outcomes_are_one, outcomes_exist, small_engines_serve_two,
+    with_tables_the_same, written_begins_the_output,
 };

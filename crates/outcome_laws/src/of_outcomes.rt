@@ -5,6 +5,7 @@ ghost use Rattle.outcome_laws.specs.Outcomes.{EnginesPrintTheSameCosts, WrittenB
 ghost use Rattle.outcome_laws.specs.Loaded.{WithTablesTheSame};
 ghost use Rattle.outcome_laws.specs.Existing.{OutcomesExist};
 ghost use Rattle.outcome_laws.specs.Serving.{SmallEnginesServeTwo};
+ghost use Rattle.outcome_laws.specs.Words.{CallsGoByName, CommandsAreCalled};
 
 /// Words come to at most one outcome, where the files that they name and the input are told: one status, one
 /// output, and one line on `err`.
@@ -51,4 +52,15 @@ pub fn outcomes_exist()
 /// to begin with one.
 pub fn small_engines_serve_two()
     ensures { SmallEnginesServeTwo }
+{}
+
+/// Words that spell a call begin with the name of its command, as the definition of what the command does
+/// tells it: no name is read as another command.
+pub fn calls_go_by_name()
+    ensures { CallsGoByName }
+{}
+
+/// Each command has a row in the table of commands by that name: none is forgotten there.
+pub fn commands_are_called()
+    ensures { CommandsAreCalled }
 {}

@@ -169,7 +169,8 @@ impl Kind {
 }
 
 /// What the table of commands tells of one: its name, what it names, the kinds of the words that it takes,
-/// the settings that it allows behind these, and how help calls its words and says what it does, line by line.
+/// the settings that it allows behind these, and how help calls its words and says what it does, line by
+/// line.
 type Told = (
     &'static str,
     Command,
@@ -337,14 +338,19 @@ static ROWS: [Told; 18] = [
     ),
 ];
 
+/// The rows of all commands; by its clause the proofs of what reads it need not spell the table out.
+fn all_rows() -> &'static [Told]
+    ensures { map told_row result.now ≡ rows }
+{
+    &ROWS
+}
+
 /// The name of the command whose row stands at the place in the table, from 0; none past the last row.
 pub fn command_name(place: usize) -> Option<&'static str>
     ensures { option_copied result ≡ option_map (λ row. row.name) (slice_get rows place) }
 {
-    name_among(&ROWS, place)
+    name_among(all_rows(), place)
 }
-
-// Proofs go through any table, as that of all commands would be spelled out in them.
 
 /// The name of the row at the place among some.
 fn name_among(rows: &[Told], place: usize) -> Option<&'static str>
@@ -367,7 +373,7 @@ pub fn row_named(name: &str) -> Option<Row>
     ensures row { option_map row_data result ≡ row_of name.now }
     ensures few { IfSome result (λ row. length row.takes.now ≤ 8) }
 {
-    row_among(&ROWS, name)
+    row_among(all_rows(), name)
 }
 
 /// The first row of this name among some.
