@@ -1,21 +1,23 @@
 -- An exact index leads to what is looked up, and stays exact.
 use Rattle.std.proofs.lemmas.Bool.Decides.{nat_tests}
 use Rattle.std.proofs.Common.{◌≡◌, ℕ, zero, suc, ◌+◌, ◌*◌, ◌<◌, ◌≤◌, ◌⊎◌, inl, inr, length, List, [], ◌∷◌}
-use Rattle.std.proofs.Common.{◌++◌, refl, ap, sym, ◌∙◌, subst, arith}
-use Rattle.std.specs.Prelude.{Option, Some, None, slice_get, slice_set, slice_index_or}
+use Rattle.std.proofs.Common.{◌++◌, Bool, true, false, refl, ap, sym, ◌∙◌, subst, arith}
+use Rattle.std.specs.Prelude.{Option, Some, None, nat_lt, if◌then◌else◌, slice_get, slice_set, slice_index_or}
 use Rattle.std.proofs.lemmas.Grind.{common_steps}
 use Rattle.grid_moves.specs.Grid.{cell_number}
 use Rattle.grid_moves.proofs.Places.{one_cell}
+use Rattle.best_first.specs.declared.index.Record.{Record}
 use Rattle.best_first.specs.declared.node.Node.{Node}
 use Rattle.best_first.specs.declared.state.State.{State}
 use Rattle.best_first.specs.declared.state.Layout.{Layout}
-use Rattle.best_first.specs.Index.{entry_for, entry_in, AreBlank, IsNodeAt}
+use Rattle.best_first.specs.declared.state.Layout.TheVariants.{ByCell, ByArrival}
+use Rattle.best_first.specs.Index.{entry_for, entry_in, records_for, AreBlank, AreReset, IsNodeAt}
 use Rattle.best_first.specs.Index.{IsExact, IsPut}
 use Rattle.best_first.specs.Node.{state_of}
 use Rattle.best_first.specs.Space.{IsPlaced}
 use Rattle.best_first.specs.State.{arrival_number, state_number}
 use Rattle.best_first.specs.Table.{lookup}
-use Rattle.std.proofs.lemmas.List.{length-set}
+use Rattle.std.proofs.lemmas.List.{length-append, length-set}
 use Rattle.open_list.proofs.Changes.{get_pushed, get-append_left}
 use Rattle.best_first.proofs.Lists.{got-added, get-set_same, get-set_other, got-set}
 use Rattle.best_first.proofs.Lookup.{lookup-found, none_found}
@@ -35,10 +37,32 @@ blank_head heads b c = by_get (slice_get heads c) refl
     by_get : (o : Option ℕ) → slice_get heads c ≡ o → slice_index_or heads c 0 ≡ 0
     by_get o h1 = grind (arith, nat_tests, common_steps, read_past, by_value)
 
+-- where there are no records nothing is found
+no_entry : (heads : List ℕ) (c a : ℕ) → entry_in ByArrival heads [] c a ≡ 0
+no_entry heads c a = by_test (nat_lt a 9)
+  where
+    by_test : (b : Bool) → (if b then zero else zero) ≡ zero
+    by_test true = refl
+    by_test false = refl
+
 -- the index of no nodes
-pub exact_blank : (layout : Layout) (width : ℕ) (heads : List ℕ) → AreBlank heads
+pub exact_blank : (layout : Layout) (width : ℕ) (heads : List ℕ) → AreReset layout heads
     → IsExact layout width [] heads []
-exact_blank layout width heads b = grind (arith, nat_tests, common_steps, blank_head)
+exact_blank ByCell width heads b = grind (arith, nat_tests, common_steps, blank_head)
+exact_blank ByArrival width heads b = record {
+  heads_are = record {
+    linked = record {
+      lead = λ q r x y g h l e. absurd (cc);
+      earlier = λ r y h. absurd (cc);
+      own = λ r y h. absurd (cc);
+    };
+    heads_lead = λ c q x g e. absurd (cc);
+  };
+  each = refl;
+  inside = λ id n h. absurd (cc);
+  found = λ id n h. absurd (cc);
+  nowhere_else = λ c a id h. absurd (let e = no_entry heads c a in omega arith);
+}
 
 -- states of one cell number and one arrival number are one
 pub one_placed : (width places : ℕ) (s t : State) → IsPlaced width places s.cell
@@ -49,7 +73,7 @@ pub one_placed : (width places : ℕ) (s t : State) → IsPlaced width places s.
 one_placed width places s t a b e f =
     same_state s t (one_cell width s.cell t.cell a.column b.column e) (one_arrival s.arrival t.arrival f)
 
-module _ (layout : Layout) (width : ℕ) (nodes : List Node) (heads : List ℕ) (records : List (List ℕ))
+module _ (layout : Layout) (width : ℕ) (nodes : List Node) (heads : List ℕ) (records : List Record)
     (x : IsExact layout width nodes heads records) where
   -- what the index has for a state is what is looked up
   pub entry_found : (s : State) → IsPlaced width (length heads) s.cell
@@ -76,15 +100,16 @@ module _ (layout : Layout) (width : ℕ) (nodes : List Node) (heads : List ℕ) 
           (sym f.state) ∙ x.found id f.node f.node_is
 
   -- with one node more, put at its state
-  pub exact_added : (n : Node) (later_heads : List ℕ) (later_records : List (List ℕ))
+  pub exact_added : (n : Node) (later_heads : List ℕ) (later_records : List Record)
       → IsPut layout heads later_heads records later_records (cell_number width (state_of layout n).cell)
       (arrival_number (state_of layout n).arrival) (suc (length nodes))
       → IsPlaced width (length heads) (state_of layout n).cell
-      → lookup layout nodes (state_of layout n) ≡ None → length later_records ≤ length records + 1
+      → lookup layout nodes (state_of layout n) ≡ None
+      → length later_records ≡ records_for layout (suc (length nodes))
       → IsExact layout width (nodes ++ n ∷ []) later_heads later_records
   exact_added n later_heads later_records p placed none l = record {
     heads_are = p.heads_are;
-    few = (let f = x.few in let e = longer nodes in omega arith);
+    each = l ∙ ap (λ (k : ℕ). records_for layout k) (sym longer);
     inside = λ id m h. inside m (elim (got-added nodes n id m h) [
       | inl was ↦ x.inside id m was
       | inr here ↦ subst (λ (q : Node). IsPlaced width (length heads) (state_of layout q).cell)
@@ -108,8 +133,8 @@ module _ (layout : Layout) (width : ℕ) (nodes : List Node) (heads : List ℕ) 
       two : (i j : ℕ) → (i ≡ j) ⊎ (i ≡ j → ⊥)
       two i j = grind arith
 
-      longer : (ns : List Node) → length (ns ++ n ∷ []) ≡ length ns + 1
-      longer ns = grind (arith, common_steps)
+      longer : length (nodes ++ n ∷ []) ≡ suc (length nodes)
+      longer = omega (arith, length-append nodes (n ∷ []))
 
       inside : (m : Node) → IsPlaced width (length heads) (state_of layout m).cell
           → IsPlaced width (length later_heads) (state_of layout m).cell
@@ -153,7 +178,7 @@ module _ (layout : Layout) (width : ℕ) (nodes : List Node) (heads : List ℕ) 
       → state_of layout old ≡ state_of layout n → IsExact layout width (slice_set nodes id n) heads records
   exact_replaced id old n h e = record {
     heads_are = x.heads_are;
-    few = (let f = x.few in let s = length-set nodes id n in omega arith);
+    each = x.each ∙ ap (λ (k : ℕ). records_for layout k) (sym (length-set nodes id n));
     inside = λ j m g. grind (arith, nat_tests, common_steps, got-set);
     found = λ j m g. elim (got-set nodes j id m n g) [
       | inl was ↦ x.found j m was.1

@@ -3,12 +3,13 @@ use Rattle.std.proofs.Common.{◌≡◌, ℕ, suc, ◌+◌, ◌≤◌, inl, inr,
 use Rattle.std.specs.Prelude.{Some, slice_get, slice_set}
 use Rattle.std.proofs.lemmas.Option.{slice_get_within}
 use Rattle.grid_moves.specs.Grid.{cell_number}
+use Rattle.best_first.specs.declared.index.Record.{Record}
 use Rattle.best_first.specs.declared.node.Node.{Node}
-use Rattle.best_first.specs.declared.state.Layout.TheVariants.{ByCell, ByArrival}
-use Rattle.best_first.specs.Index.{cell_of_node, cell_of_record, AreLed, AreBlank, IsExact}
+use Rattle.best_first.specs.declared.state.Layout.TheVariants.{ByCell}
+use Rattle.best_first.specs.Index.{cell_of_node, AreLed, AreBlank, IsExact}
 use Rattle.best_first.specs.State.{state_told}
 use Rattle.best_first.proofs.Lists.{got-set}
-use Rattle.best_first.proofs.Records.{head-is, record_within}
+use Rattle.best_first.proofs.Records.{head-is}
 
 module _ (cell_of : ℕ → ℕ) (count : ℕ) where
   -- one number more
@@ -34,16 +35,9 @@ pub node-told : (width : ℕ) (nodes : List Node) (id : ℕ) (n : Node) → slic
 node-told width nodes id n e = rw e refl
 
 -- where a cell has one state, a head leads to its node
-pub led_by_nodes : (width : ℕ) (nodes : List Node) (heads : List ℕ) (records : List (List ℕ))
+pub led_by_nodes : (width : ℕ) (nodes : List Node) (heads : List ℕ) (records : List Record)
     → IsExact ByCell width nodes heads records
     → AreLed (cell_of_node width nodes) 0 (length nodes) heads
 led_by_nodes width nodes heads records x c r h =
     let at = x.nowhere_else c 8 r (head-is heads c (suc r) h) in
     (omega arith, slice_get_within nodes r at.node at.node_is, rw at.node_is at.cell_is)
-
--- where it has one for each arrival, to its record
-pub led_by_records : (width : ℕ) (nodes : List Node) (heads : List ℕ) (records : List (List ℕ))
-    → IsExact ByArrival width nodes heads records
-    → AreLed (cell_of_record records) 0 (length records) heads
-led_by_records width nodes heads records x c r h =
-    (omega arith, record_within records r (x.heads_are.have c r h), x.heads_are.tell c r h)

@@ -1,13 +1,15 @@
 -- The parts of a space stay in order.
-use Rattle.std.proofs.Common.{◌≡◌, ℕ, suc, ◌+◌, ◌≤◌, length, List, [], ◌∷◌, ◌++◌, ap, sym, ◌∙◌, subst, true}
+use Rattle.std.proofs.Common.{◌≡◌, ℕ, suc, ◌≤◌, length, List, [], ◌∷◌, ◌++◌, ap, sym, ◌∙◌, subst, true}
 use Rattle.std.proofs.Common.{arith}
 use Rattle.std.specs.Prelude.{Some, None, slice_get, slice_set}
 use Rattle.grid_moves.specs.declared.Cell.{Cell}
 use Rattle.grid_moves.specs.Grid.{cell_number}
+use Rattle.best_first.specs.declared.index.Record.{Record}
 use Rattle.best_first.specs.declared.node.Node.{Node}
 use Rattle.best_first.specs.declared.state.State.{State}
 use Rattle.best_first.specs.declared.state.Layout.{Layout}
-use Rattle.best_first.specs.Index.{entry_for, entry_in, AreBlank, IsPut, AreParts}
+use Rattle.best_first.specs.declared.state.Layout.TheVariants.{ByCell, ByArrival}
+use Rattle.best_first.specs.Index.{entry_for, entry_in, records_for, AreBlank, AreReset, IsPut, AreParts}
 use Rattle.best_first.specs.Node.{state_of}
 use Rattle.best_first.specs.Space.{IsPlaced}
 use Rattle.best_first.specs.State.{arrival_number, state_in, state_told, place_of}
@@ -17,9 +19,14 @@ use Rattle.best_first.proofs.Offering.{in_cell}
 use Rattle.best_first.proofs.States.{told-place}
 use Rattle.best_first.proofs.Tables.{bettered_node}
 
+-- heads that are 0 lead nowhere in either layout
+pub blank_reset : (layout : Layout) (heads : List ℕ) → AreBlank heads → AreReset layout heads
+blank_reset ByCell heads b = b
+blank_reset ByArrival heads b = record {}
+
 -- with no node
-pub parts_blank : (layout : Layout) (width : ℕ) (nodes : List Node) (heads : List ℕ) (records : List (List ℕ))
-    → AreBlank heads → nodes ≡ [] → records ≡ [] → length heads ≤ 16777216
+pub parts_blank : (layout : Layout) (width : ℕ) (nodes : List Node) (heads : List ℕ) (records : List Record)
+    → AreReset layout heads → nodes ≡ [] → records ≡ [] → length heads ≤ 16777216
     → AreParts layout width nodes heads records
 parts_blank layout width nodes heads records b n r l = record {
   exact = rw (n, r) (exact_blank layout width heads b);
@@ -39,13 +46,13 @@ seen_cell layout width places s p = subst (λ (c : Cell). IsPlaced width places 
 
 -- with one node more
 pub parts_added : (layout : Layout) (width : ℕ) (nodes after : List Node) (heads later_heads : List ℕ)
-    (records later_records : List (List ℕ)) (n : Node) (s : State) (entry : ℕ)
+    (records later_records : List Record) (n : Node) (s : State) (entry : ℕ)
     → AreParts layout width nodes heads records → width ≤ 4096 → IsPlaced width (length heads) s.cell
     → n.place ≡ place_of s → lookup layout nodes (state_in layout s) ≡ None → after ≡ nodes ++ n ∷ []
     → entry ≡ suc (length nodes)
     → IsPut layout heads later_heads records later_records (cell_number width s.cell)
     (arrival_number (state_in layout s).arrival) entry
-    → length later_records ≤ length records + 1
+    → length later_records ≡ records_for layout entry
     → AreParts layout width after later_heads later_records
 parts_added layout width nodes after heads later_heads records later_records n s entry a narrow p place
     new after_is
@@ -58,13 +65,14 @@ parts_added layout width nodes after heads later_heads records later_records n s
     record {
       exact = rw after_is (exact_added layout width nodes heads records a.exact n later_heads
           later_records at_state
-          (rw state (seen_cell layout width (length heads) s p)) (rw state new) l);
+          (rw state (seen_cell layout width (length heads) s p)) (rw state new)
+          (l ∙ ap (λ (k : ℕ). records_for layout k) entry_is));
       few_cells = (let e = put.as_many in let f = a.few_cells in omega arith);
     }
 
 -- with a node in the place of another of the same state
 pub parts_replaced : (layout : Layout) (width : ℕ) (nodes after : List Node) (heads : List ℕ)
-    (records : List (List ℕ)) (id : ℕ) (n : Node) → AreParts layout width nodes heads records
+    (records : List Record) (id : ℕ) (n : Node) → AreParts layout width nodes heads records
     → is_bettered nodes id n.key ≡ true
     → ((old : Node) → slice_get nodes id ≡ Some old → state_of layout old ≡ state_of layout n)
     → after ≡ slice_set nodes id n → AreParts layout width after heads records
@@ -76,8 +84,14 @@ parts_replaced layout width nodes after heads records id n a t same after_is =
       few_cells = a.few_cells;
     }
 
+-- there are no more records than nodes
+pub parts_fewer : (layout : Layout) (width : ℕ) (nodes : List Node) (heads : List ℕ) (records : List Record)
+    → AreParts layout width nodes heads records → length records ≤ length nodes
+parts_fewer ByCell width nodes heads records a = let e = a.exact.each in omega arith
+parts_fewer ByArrival width nodes heads records a = let e = a.exact.each in omega arith
+
 -- there are fewer than 2^28 nodes, by far
-pub parts_few : (layout : Layout) (width : ℕ) (nodes : List Node) (heads : List ℕ) (records : List (List ℕ))
+pub parts_few : (layout : Layout) (width : ℕ) (nodes : List Node) (heads : List ℕ) (records : List Record)
     → AreParts layout width nodes heads records → length nodes ≤ 150994944
 parts_few layout width nodes heads records a =
     let n = few_nodes layout width nodes heads records a.exact in
@@ -85,7 +99,7 @@ parts_few layout width nodes heads records a =
     omega arith
 
 -- what the index has is what is looked up
-pub parts_found : (layout : Layout) (width : ℕ) (nodes : List Node) (heads : List ℕ) (records : List (List ℕ))
+pub parts_found : (layout : Layout) (width : ℕ) (nodes : List Node) (heads : List ℕ) (records : List Record)
     (s : State) → AreParts layout width nodes heads records → IsPlaced width (length heads) s.cell
     → entry_in layout heads records (cell_number width s.cell) (arrival_number (state_in layout s).arrival)
     ≡ entry_for (lookup layout nodes (state_in layout s))

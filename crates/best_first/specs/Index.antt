@@ -1,8 +1,10 @@
 -- The index of a search: where the node of a state is found. No public clause cites this module.
-use Rattle.std.specs.Prelude.{◌≡◌, ℕ, zero, suc, ◌≤◌, ◌<◌, nat_eq, List, length, Option, Some, None}
-use Rattle.std.specs.Prelude.{if◌then◌else◌, slice_get, slice_index_or}
+use Rattle.std.specs.Prelude.{◌≡◌, ℕ, zero, suc, ◌+◌, ◌*◌, ◌/◌, ◌≤◌, ◌<◌, nat_eq, nat_lt, List, [], ◌∷◌}
+use Rattle.std.specs.Prelude.{length, Option, Some, None, Bool, false, if◌then◌else◌, slice_get}
+use Rattle.std.specs.Prelude.{slice_index_or, ◌⊎◌}
 use Rattle.std.specs.Option.{option_map_or}
 use Rattle.grid_moves.specs.Grid.{cell_number}
+use Rattle.best_first.specs.declared.index.Record.{Record}
 use Rattle.best_first.specs.declared.node.Node.{Node}
 use Rattle.best_first.specs.declared.state.Layout.{Layout}
 use Rattle.best_first.specs.declared.state.Layout.TheVariants.{ByCell, ByArrival}
@@ -15,37 +17,67 @@ abbrev pub entry_for : Option ℕ → ℕ
 entry_for None = 0
 entry_for (Some id) = suc id
 
--- what a record has for an arrival, behind its cell's number; the head before it is 0 where there is none
-abbrev pub entry_of_record : ℕ → List (List ℕ) → ℕ → ℕ
-entry_of_record zero records arrival = 0
-entry_of_record (suc r) records arrival =
-    option_map_or (λ entries. slice_index_or entries (suc arrival) 0) (slice_get records r) 0
+-- a cell and an arrival by their numbers, in one number
+abbrev pub tag_of : ℕ → ℕ → ℕ
+tag_of cell arrival = cell * 16 + arrival
 
--- the number of the cell that a record tells, before the entries
-abbrev pub cell_of_record : List (List ℕ) → ℕ → ℕ
-cell_of_record records r = option_map_or (λ entries. slice_index_or entries 0 0) (slice_get records r) 0
+-- the entry with one record before, which has the tag or not
+abbrev pub entry_before : Bool → ℕ → ℕ
+entry_before has zero = if has then 1 else 0
+entry_before has (suc r) = suc (suc r)
+
+-- the entry that records have for a tag: the number of the last record with it and one, or 0
+abbrev pub entry_of : List Record → ℕ → ℕ
+entry_of [] tag = 0
+entry_of (x ∷ records) tag = entry_before (nat_eq x.tag tag) (entry_of records tag)
 
 -- the entry for a cell and an arrival, by their numbers: a cell's only state has the arrival 8 of a start
-abbrev pub entry_in : Layout → List ℕ → List (List ℕ) → ℕ → ℕ → ℕ
+abbrev pub entry_in : Layout → List ℕ → List Record → ℕ → ℕ → ℕ
 entry_in ByCell heads records cell arrival = if nat_eq arrival 8 then slice_index_or heads cell 0 else 0
-entry_in ByArrival heads records cell arrival = entry_of_record (slice_index_or heads cell 0) records arrival
+entry_in ByArrival heads records cell arrival =
+    if nat_lt arrival 9 then entry_of records (tag_of cell arrival) else 0
 
--- there is a record of this number: its `entries` are ten places, the cell's number first, and behind it an
--- entry for each of nine arrivals
-pub record HasRecord (records : List (List ℕ)) (r : ℕ) : Type 0 where
-  pub entries : List ℕ
-  pub record_is : slice_get records r ≡ Some entries
-  pub ten : length entries ≡ 10
+-- an entry leads to a record of this cell, which is that of the number q or a later one
+pub record LeadsBack (records : List Record) (cell q entry : ℕ) : Type 0 where
+  pub r : ℕ
+  pub entry_is : entry ≡ suc r
+  pub later : q ≤ r
+  pub found : Record
+  pub found_is : slice_get records r ≡ Some found
+  pub cell_is : found.tag / 16 ≡ cell
 
--- each head but 0 leads to a record, which tells the head's cell, and every record tells a cell
-pub record AreRecords (heads : List ℕ) (records : List (List ℕ)) : Type 0 where
-  pub have : (cell r : ℕ) → slice_get heads cell ≡ Some (suc r) → HasRecord records r
-  pub tell : (cell r : ℕ) → slice_get heads cell ≡ Some (suc r) → cell_of_record records r ≡ cell
-  pub within : (r : ℕ) → r < length records → cell_of_record records r < length heads
+-- each record leads back to all earlier ones of its cell, and to no record of another cell
+pub record AreLinked (records : List Record) : Type 0 where
+  pub lead : (q r : ℕ) (x y : Record) → slice_get records q ≡ Some x → slice_get records r ≡ Some y
+      → q < r → x.tag / 16 ≡ y.tag / 16 → LeadsBack records (y.tag / 16) q y.earlier
+  pub earlier : (r : ℕ) (y : Record) → slice_get records r ≡ Some y → y.earlier ≤ r
+  pub own : (r : ℕ) (y : Record) → slice_get records r ≡ Some y
+      → (y.earlier ≡ 0) ⊎ LeadsBack records (y.tag / 16) 0 y.earlier
 
-abbrev pub AreHeads : Layout → List ℕ → List (List ℕ) → Type 0
+-- the head of a cell leads back to all records of the cell
+abbrev pub IsHead : List Record → ℕ → ℕ → Type 0
+IsHead records cell head = (q : ℕ) (x : Record) → slice_get records q ≡ Some x → x.tag / 16 ≡ cell
+    → LeadsBack records cell q head
+
+-- records are linked, and heads lead to them; a head whose cell has no record may be any number
+pub record AreRecords (heads : List ℕ) (records : List Record) : Type 0 where
+  pub linked : AreLinked records
+  pub heads_lead : (cell : ℕ) → IsHead records cell (slice_index_or heads cell 0)
+
+abbrev pub AreHeads : Layout → List ℕ → List Record → Type 0
 AreHeads ByCell heads records = Unit {0}
 AreHeads ByArrival heads records = AreRecords heads records
+
+-- a head where it leads to a record of the cell, and else 0
+abbrev pub latest_of : ℕ → List Record → ℕ → ℕ
+latest_of zero records cell = 0
+latest_of (suc r) records cell =
+    if option_map_or (λ x. nat_eq (x.tag / 16) cell) (slice_get records r) false then suc r else 0
+
+-- how many records there are for so many nodes
+abbrev pub records_for : Layout → ℕ → ℕ
+records_for ByCell nodes = 0
+records_for ByArrival nodes = nodes
 
 -- the node of that number has a state of this cell and this arrival, by their numbers
 pub record IsNodeAt (layout : Layout) (width : ℕ) (nodes : List Node) (cell arrival id : ℕ) : Type 0 where
@@ -64,12 +96,11 @@ abbrev pub AreLed : (ℕ → ℕ) → ℕ → ℕ → List ℕ → Type 0
 AreLed cell_of first count heads = (cell r : ℕ) → slice_get heads cell ≡ Some (suc r)
     → (first ≤ r) × (r < count) × (cell_of r ≡ cell)
 
--- the index is exact: its entries lead to each node, and nowhere else; a head may lead to a record in which
--- no node stands
+-- the index is exact: its entries lead to each node, and nowhere else
 pub record IsExact (layout : Layout) (width : ℕ) (nodes : List Node) (heads : List ℕ)
-    (records : List (List ℕ)) : Type 0 where
+    (records : List Record) : Type 0 where
   pub heads_are : AreHeads layout heads records
-  pub few : length records ≤ length nodes
+  pub each : length records ≡ records_for layout (length nodes)
   pub inside : (id : ℕ) (n : Node) → slice_get nodes id ≡ Some n
       → IsPlaced width (length heads) (state_of layout n).cell
   pub found : (id : ℕ) (n : Node) → slice_get nodes id ≡ Some n
@@ -82,18 +113,13 @@ pub record IsExact (layout : Layout) (width : ℕ) (nodes : List Node) (heads : 
 abbrev pub AreBlank : List ℕ → Type 0
 AreBlank heads = (cell r : ℕ) → slice_get heads cell ≡ Some (suc r) → ⊥
 
--- a cell has a record, which it had or which is new, and no entry was changed
-pub record IsOpened (heads later_heads : List ℕ) (records later_records : List (List ℕ)) (cell : ℕ)
-    : Type 0 where
-  pub r : ℕ
-  pub head : slice_get later_heads cell ≡ Some (suc r)
-  pub records_are : AreRecords later_heads later_records
-  pub entries : (c a : ℕ) → entry_in ByArrival later_heads later_records c a
-      ≡ entry_in ByArrival heads records c a
-  pub as_many : length later_heads ≡ length heads
+-- heads lead nowhere where there are no records: only those that lead to nodes themselves have to be 0
+abbrev pub AreReset : Layout → List ℕ → Type 0
+AreReset ByCell heads = AreBlank heads
+AreReset ByArrival heads = Unit {0}
 
 -- one entry was changed
-pub record IsPut (layout : Layout) (heads later_heads : List ℕ) (records later_records : List (List ℕ))
+pub record IsPut (layout : Layout) (heads later_heads : List ℕ) (records later_records : List Record)
     (cell arrival entry : ℕ) : Type 0 where
   pub here : entry_in layout later_heads later_records cell arrival ≡ entry
   pub others : (c a : ℕ) → ((c ≡ cell) × (a ≡ arrival) → ⊥)
@@ -103,12 +129,12 @@ pub record IsPut (layout : Layout) (heads later_heads : List ℕ) (records later
 
 -- the parts of a space are in order: the index is exact, over at most 2^24 cells
 pub record AreParts (layout : Layout) (width : ℕ) (nodes : List Node) (heads : List ℕ)
-    (records : List (List ℕ)) : Type 0 where
+    (records : List Record) : Type 0 where
   pub exact : IsExact layout width nodes heads records
   pub few_cells : length heads ≤ 16777216
 
 -- a space of such parts is in order, and has memory for as many nodes as it tells
 pub record IsSpace (layout : Layout) (width fits spare capacity : ℕ) (nodes : List Node) (heads : List ℕ)
-    (records : List (List ℕ)) : Type 0 where
+    (records : List Record) : Type 0 where
   pub parts : AreParts layout width nodes heads records
   pub room : HasRoom layout fits (length nodes) spare capacity

@@ -20,12 +20,12 @@ abbrev pub layout_by : Bool → Layout
 layout_by true = ByCell
 layout_by false = ByArrival
 
--- there is room for so many records more, where cells have them
+-- there is room for so many records more, where nodes have them
 abbrev pub HasRoomFor : Layout → ℕ → ℕ → ℕ → Type 0
 HasRoomFor ByCell n len capacity = Unit {0}
 HasRoomFor ByArrival n len capacity = len + n ≤ capacity
 
--- there is memory for so many nodes in all, and where a cell has a record for as many records
+-- there is memory for so many nodes in all, and where nodes have records for as many of these
 pub record HasRoom (layout : Layout) (room nodes spare capacity : ℕ) : Type 0 where
   pub for_nodes : room ≤ nodes + spare
   pub for_records : HasRoomFor layout room 0 capacity

@@ -1,7 +1,7 @@
 //! The memory of a search: its nodes, and an index from states to nodes.
 
 ghost use Rattle.std.specs.Prelude.{◌≡◌, ℕ, suc, ◌+◌, ◌-◌, ◌*◌, ◌<◌, ◌≤◌, ◌^◌, [], ◌∷◌, ◌++◌, length, true, false, Some, None, OnOk, OnErr, IfOk, IfNone, IfSome, vec_len, vec_capacity, slice_get, slice_set};
-ghost use Rattle.best_first.specs.Index.{entry_for, cell_of_node, AreBlank, AreLed, IsExact};
+ghost use Rattle.best_first.specs.Index.{entry_for, cell_of_node, AreBlank, AreReset, AreLed, IsExact};
 ghost use Rattle.best_first.specs.Node.{state_of, ranks_before};
 ghost use Rattle.best_first.specs.Space.{SpaceData, IsPlaced, KeepsShape, HasRoomFor, HasRoom, layout_by};
 ghost use Rattle.best_first.specs.State.{state_in, state_told, place_of, start_at};
@@ -10,7 +10,7 @@ ghost use Rattle.grid_moves.specs.Grid.{cell_number};
 ghost use Rattle.grid_moves.specs.Points.{estimate};
 ghost use Rattle.root2_cost.specs.Rank.{rank_of};
 
-use crate::index::{Index, clear_by_records};
+use crate::index::Index;
 use crate::node::estimate_rank;
 use crate::state::layout_by;
 use crate::{Layout, NoMemory, Node, Offer, Place, State};
@@ -24,14 +24,14 @@ use steps::Steps;
 /// The nodes of a search, and an index from states to their nodes.
 ///
 /// It is made once for a map of so many cells, and used for one search after the other. Contracts
-/// see the nodes of the last search, the width of its map, and how many offers still fit.
+/// see the nodes of the last search, the width of its map, and for how many offers there is memory at least.
 #[derive(Drop)]
 pub struct Space {
     pool: Pool<Node>,
     index: Index,
     // The width of the map of the last search, by which the index has its nodes.
     width: u16,
-    // How many nodes there can be, and as many records, before memory is asked for: one number to look at
+    // How many nodes there can be, each with its record, before memory is asked for: one number to look at
     // before offers, in place of the room of two lists.
     room: u32,
 }
@@ -84,20 +84,18 @@ fn clear_by_nodes(pool: &Pool<Node>, heads: &mut [u32], width: u16)
     }
 }
 
-// Sets all heads back to 0: only those that are not 0 are looked at.
+// Sets heads back where they have to be: only those of cells with a node are looked at.
 fn clear_heads(pool: &Pool<Node>, index: &mut Index, width: u16)
     requires exact { IsExact index.old.layout width pool.now.nodes index.old.heads.items
         index.old.records.items }
-    ensures blank { AreBlank index.new.heads.items }
+    ensures reset { AreReset index.old.layout index.new.heads.items }
     ensures as_many { length index.new.heads.items ≡ length index.old.heads.items }
     ensures layout { index.new.layout ≡ index.old.layout }
     ensures records { index.new.records ≡ index.old.records }
 {
     match index.layout {
         Layout::ByCell => clear_by_nodes(pool, index.heads.as_mut_slice(), width),
-        Layout::ByArrival => {
-            clear_by_records(index.heads.as_mut_slice(), index.records.as_slice());
-        }
+        Layout::ByArrival => (),
     }
 }
 
@@ -107,7 +105,7 @@ fn forget(pool: &mut Pool<Node>, index: &mut Index, width: u16)
         index.old.records.items }
     ensures nodes { pool.new.nodes ≡ [] }
     ensures open_at { pool.new.open_at ≡ [] }
-    ensures blank { AreBlank index.new.heads.items }
+    ensures reset { AreReset index.old.layout index.new.heads.items }
     ensures records { index.new.records.items ≡ [] }
     ensures as_many { length index.new.heads.items ≡ length index.old.heads.items }
     ensures layout { index.new.layout ≡ index.old.layout }
@@ -119,7 +117,7 @@ fn forget(pool: &mut Pool<Node>, index: &mut Index, width: u16)
     pool.clear();
 }
 
-// Makes room for so many records in all, where cells have records.
+// Makes room for so many records in all, where nodes have them.
 fn grow_records(index: &mut Index, n: usize) -> Result<(), NoMemory>
     requires fewer { vec_len index.old.records ≤ n }
     ensures room { OnOk result (HasRoomFor index.old.layout n 0 (vec_capacity index.new.records)) }
@@ -260,7 +258,7 @@ impl Space {
         ensures { result ≡ entry_for (lookup self.now.layout self.now.table.nodes
             (state_in self.now.layout state)) }
     {
-        self.index.entry(layout_by(BY_CELL), number as usize, state)
+        self.index.entry(layout_by(BY_CELL), number, state)
     }
 
     // Adds a node for a state that has none, told the number of the state's cell.

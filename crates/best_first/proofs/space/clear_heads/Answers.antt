@@ -1,11 +1,11 @@
 use Rattle.std.proofs.Common.{ℕ, List, subst, sym, length}
 use Rattle.grid_moves.specs.declared.Cell.{Cell}
 use Rattle.best_first.specs.declared.state.Layout.{Layout}
-use Rattle.best_first.specs.Index.{IsExact, AreLed, cell_of_node, cell_of_record}
+use Rattle.best_first.specs.Index.{IsExact, AreLed, cell_of_node}
 use Rattle.best_first.specs.Node.{state_of}
 use Rattle.best_first.specs.Space.{IsPlaced}
 use Rattle.best_first.specs.State.{state_told}
-use Rattle.best_first.proofs.Forgetting.{led_by_nodes, led_by_records}
+use Rattle.best_first.proofs.Forgetting.{led_by_nodes}
 use Rattle.best_first.proofs.Offering.{in_cell}
 use Rattle.best_first.proofs.space.clear_heads.Goals as goal
 
@@ -26,15 +26,3 @@ clear_by_nodes-requires-clause-inside c = λ id n h.
     (subst (λ (hs : List ℕ). IsPlaced c.args.width (length hs) (state_of i.layout n).cell)
     (sym c.as_mut_slice.ensures.value)
     (c.requires.exact.inside id n h))
-
-pub clear_by_records-requires-clause-led : goal.clear_by_records-requires-clause-led
-clear_by_records-requires-clause-led c =
-    let i = c.args.index.now in
-    let records = i.records.items in
-    let led = led_by_records c.args.width c.args.pool.now.nodes i.heads.items records
-    (subst (λ (y : Layout). IsExact y c.args.width c.args.pool.now.nodes i.heads.items records)
-    c.in-ByArrival.is c.requires.exact) in
-    subst (λ (rs : List (List ℕ)). AreLed (cell_of_record rs) 0 (length rs)
-    c.as_mut_slice-in-ByArrival.result.now) (sym c.as_slice.ensures.value)
-    (subst (λ (hs : List ℕ). AreLed (cell_of_record records) 0 (length records) hs)
-    (sym c.as_mut_slice-in-ByArrival.ensures.value) led)

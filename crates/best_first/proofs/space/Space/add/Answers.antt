@@ -1,12 +1,12 @@
-use Rattle.std.proofs.Common.{◌≡◌, ◌+◌, ◌≤◌, sym, subst, length, ℕ, suc, arith}
+use Rattle.std.proofs.Common.{◌≡◌, ◌∙◌, ◌+◌, ◌-◌, ◌≤◌, ap, sym, subst, length, ℕ, suc, arith}
 use Rattle.std.specs.Prelude.{None, vec_len, vec_capacity}
 use Rattle.grid_moves.specs.Grid.{cell_number}
 use Rattle.best_first.specs.declared.state.Layout.{Layout}
-use Rattle.best_first.specs.Index.{IsPut, IsSpace}
+use Rattle.best_first.specs.Index.{records_for, IsPut, IsSpace}
 use Rattle.best_first.specs.Space.{IsPlaced}
 use Rattle.best_first.specs.State.{state_in, arrival_number}
 use Rattle.best_first.specs.Table.{lookup}
-use Rattle.best_first.proofs.Parts.{parts_added, parts_few}
+use Rattle.best_first.proofs.Parts.{parts_added, parts_few, parts_fewer}
 use Rattle.best_first.proofs.Rooms.{room_stays, record_fits, one_longer}
 use Rattle.best_first.proofs.space.Space.add.Goals as goal
 
@@ -19,7 +19,7 @@ pub put-requires-clause-room : goal.put-requires-clause-room
 put-requires-clause-room g c =
     let i = c.self.inside in
     let fits : length i.pool.nodes + 1 ≤ i.room = grind arith in
-    let few = c.self.invariant.parts.exact.few in
+    let few = parts_fewer _ _ _ _ _ c.self.invariant.parts in
     record_fits i.index.layout i.room (length i.pool.nodes) i.pool.spare (vec_capacity i.index.records)
     (vec_len i.index.records) c.self.invariant.room fits (omega (arith, i.index.records.ok.0))
 
@@ -28,11 +28,12 @@ overflow_add-id g c =
     let f = parts_few _ _ _ _ _ c.self.invariant.parts in
     omega (arith, c.add-id.ensures.id)
 
-pub put-requires-clause-few : goal.put-requires-clause-few
-put-requires-clause-few g c =
-    let f = parts_few _ _ _ _ _ c.self.invariant.parts in
-    let r = c.self.invariant.parts.exact.few in
-    omega (arith, c.self.inside.index.records.ok.0)
+pub put-requires-clause-next : goal.put-requires-clause-next
+put-requires-clause-next g c =
+    let number : c.add-id.result + 1 - 1 ≡ length c.self.inside.pool.nodes =
+    omega (arith, c.add-id.ensures.id) in
+    c.self.invariant.parts.exact.each
+    ∙ ap (λ (n : ℕ). records_for c.self.inside.index.layout n) (sym number)
 
 pub invariant_of-self : goal.invariant_of-self
 invariant_of-self g c =
@@ -47,12 +48,10 @@ invariant_of-self g c =
     i.index.records.items c.put.new.self.records.items n
     (arrival_number (state_in i.index.layout c.args.state).arrival) (c.add-id.result + 1)) number
     c.put.ensures.put in
-    let l = c.put.ensures.one_more in
     let parts = parts_added i.index.layout i.width i.pool.nodes c.add-id.new.self.nodes i.index.heads.items
     c.put.new.self.heads.items i.index.records.items c.put.new.self.records.items c.args.node c.args.state
     (c.add-id.result + 1) c.self.invariant.parts narrow placed c.requires.made new c.add-id.ensures.nodes
-    entry put
-    (omega (arith, i.index.records.ok.0, c.put.new.self.records.ok.0)) in
+    entry put c.put.ensures.each in
     let room = room_stays i.index.layout i.room (length i.pool.nodes) i.pool.spare
     (vec_capacity i.index.records) (length c.add-id.new.self.nodes) c.add-id.new.self.spare
     (vec_capacity c.put.new.self.records) c.self.invariant.room

@@ -3,7 +3,7 @@ use Rattle.std.specs.Prelude.{vec_capacity}
 use Rattle.open_list.specs.OpenList.{OpenList}
 use Rattle.best_first.specs.declared.node.Node.{Node}
 use Rattle.best_first.specs.declared.state.Layout.{Layout}
-use Rattle.best_first.specs.Index.{AreBlank, IsPut, IsSpace}
+use Rattle.best_first.specs.Index.{AreReset, IsPut, IsSpace}
 use Rattle.best_first.specs.Space.{IsPlaced}
 use Rattle.best_first.specs.State.{arrival_number, state_in, start_at}
 use Rattle.best_first.proofs.Parts.{parts_blank, parts_added}
@@ -12,12 +12,17 @@ use Rattle.best_first.proofs.space.Space.begin.Goals as goal
 
 pub invariant_of-self : goal.invariant_of-self
 invariant_of-self g c =
-    let blank = subst (λ (v : _). AreBlank v.items) (sym c.grow.ensures.heads) c.forget.ensures.blank in
+    let heads_kept : c.grow.new.index.heads.items ≡ c.forget.new.index.heads.items =
+    ap (λ (v : _). v.items) c.grow.ensures.heads in
+    let reset = subst (λ (y : Layout). AreReset y c.grow.new.index.heads.items)
+    (sym (c.grow.ensures.layout ∙ c.forget.ensures.layout))
+    (subst (λ (hs : List ℕ). AreReset c.self.inside.index.layout hs) (sym heads_kept)
+    c.forget.ensures.reset) in
     let nodes = ap (λ (p : OpenList Node). p.nodes) c.grow.ensures.rest_kept ∙ c.forget.ensures.nodes in
     let few : length c.grow.new.index.heads.items ≤ 16777216 =
     grind (arith, c.forget.ensures.as_many, c.self.invariant.parts.few_cells) in
     record {
-      parts = parts_blank _ _ _ _ _ blank nodes (c.grow.ensures.records ∙ c.forget.ensures.records) few;
+      parts = parts_blank _ _ _ _ _ reset nodes (c.grow.ensures.records ∙ c.forget.ensures.records) few;
       room = c.grow.ensures.has;
     }
 
@@ -26,11 +31,16 @@ invariant_of-self-2 g c =
     let i = c.grow.new.index in
     let heads = i.heads.items in
     let records = i.records.items in
-    let blank = subst (λ (v : _). AreBlank v.items) (sym c.grow.ensures.heads) c.forget.ensures.blank in
+    let heads_kept : c.grow.new.index.heads.items ≡ c.forget.new.index.heads.items =
+    ap (λ (v : _). v.items) c.grow.ensures.heads in
+    let reset = subst (λ (y : Layout). AreReset y c.grow.new.index.heads.items)
+    (sym (c.grow.ensures.layout ∙ c.forget.ensures.layout))
+    (subst (λ (hs : List ℕ). AreReset c.self.inside.index.layout hs) (sym heads_kept)
+    c.forget.ensures.reset) in
     let grown_nodes = ap (λ (p : OpenList Node). p.nodes) c.grow.ensures.rest_kept ∙ c.forget.ensures.nodes in
     let few : length heads ≤ 16777216 =
     grind (arith, c.forget.ensures.as_many, c.self.invariant.parts.few_cells) in
-    let none = parts_blank i.layout c.args.width [] heads records blank refl
+    let none = parts_blank i.layout c.args.width [] heads records reset refl
     (c.grow.ensures.records ∙ c.forget.ensures.records) few in
     let places : length heads ≡ c.args.self.now.places = grind arith in
     let placed = subst (λ (n : ℕ). IsPlaced c.args.width n c.args.start) (sym places) c.requires.placed in
@@ -41,7 +51,7 @@ invariant_of-self-2 g c =
     c.put.new.self.heads.items records c.put.new.self.records.items c.node_for.result
     (start_at c.args.start) 1 none c.requires.narrow placed (ap (λ (n : Node). n.place) c.node_for.ensures)
     refl c.add_first.ensures.nodes refl put
-    (omega (arith, c.put.ensures.one_more, i.records.ok.0, c.put.new.self.records.ok.0)) in
+    c.put.ensures.each in
     let before : length c.grow.new.pool.nodes ≡ 0 = ap (λ (ns : List Node). length ns) grown_nodes in
     let after : length c.add_first.new.pool.nodes ≡ 1 =
     ap (λ (ns : List Node). length ns) c.add_first.ensures.nodes in

@@ -1,0 +1,30 @@
+use Rattle.std.proofs.Common.{◌≡◌, ◌∙◌, ap, sym, subst, ℕ, ◌∷◌, ◌++◌, [], List}
+use Rattle.std.specs.Prelude.{slice_set, slice_index_or}
+use Rattle.best_first.specs.declared.index.Record.{Record}
+use Rattle.best_first.specs.declared.state.Layout.TheVariants.{ByArrival}
+use Rattle.best_first.specs.Index.{tag_of, latest_of, IsPut}
+use Rattle.best_first.proofs.Records.{put_record, latest}
+use Rattle.best_first.proofs.index.take_record.Goals as goal
+
+pub returns-clause-put : goal.returns-clause-put
+returns-clause-put c =
+    let heads = c.args.heads.now in
+    let records = c.args.records.now.items in
+    let earlier : c.latest_of-earlier.result
+    ≡ latest_of (slice_index_or heads c.args.cell 0) records c.args.cell =
+    c.latest_of-earlier.ensures
+    ∙ ap (λ (rs : List Record). latest_of (slice_index_or heads c.args.cell 0) rs c.args.cell)
+    c.as_slice.ensures.value in
+    let items : c.push_reserved.new.self.items ≡ records ++ latest heads records c.requires.records c.args.cell
+    c.args.arrival c.requires.within c.requires.small ∷ [] =
+    c.push_reserved.ensures.items
+    ∙ ap (λ (n : ℕ). records ++ record { tag = n; earlier = c.latest_of-earlier.result } ∷ []) c.tag_of.ensures
+    ∙ ap (λ (n : ℕ). records ++ record { tag = tag_of c.args.cell c.args.arrival; earlier = n } ∷ [])
+    earlier in
+    subst (λ (rs : List Record). IsPut ByArrival heads (slice_set heads c.args.cell c.args.entry) records rs
+    c.args.cell c.args.arrival c.args.entry) (sym items)
+    (subst (λ (e : ℕ). IsPut ByArrival heads (slice_set heads c.args.cell e) records
+    (records ++ latest heads records c.requires.records c.args.cell c.args.arrival c.requires.within
+    c.requires.small ∷ []) c.args.cell c.args.arrival e) (sym c.requires.next)
+    (put_record heads records c.requires.records c.args.cell c.args.arrival c.requires.within
+    c.requires.small))
