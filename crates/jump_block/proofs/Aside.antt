@@ -1,5 +1,5 @@
 -- Diagonals that lead elsewhere than to where the goal lies.
-use Rattle.std.proofs.Common.{◌≡◌, ℕ, arith, true, false, subst, ◌||◌}
+use Rattle.std.proofs.Common.{◌≡◌, ℕ, arith, Bool, true, false, refl, subst, ◌||◌}
 use Rattle.std.specs.Prelude.{⊤, Option, Some, None, nat_eq}
 use Rattle.std.proofs.lemmas.Bool.Decides.{nat_tests}
 use Rattle.grid_moves.specs.declared.Cell.{Cell}
@@ -78,3 +78,18 @@ pub still_aside : (g : GridData) (d : Dir) (u v goal : Cell) → is_diagonal d �
 still_aside g d u v goal h l k =
     subst (λ (o : Option Cell). StillAside d u goal o) (legal_ahead-ahead g u v d l)
     (still_stepped u.x u.y goal d h) k
+
+-- one of four tests tells that a jump stops, or the last one alone
+module _ (a b c d : Bool) where
+  pub stops-first : a ≡ true → true ≡ (a || b || c || d)
+  stops-first h = rw h refl
+
+  pub stops-second : b ≡ true → true ≡ (a || b || c || d)
+  stops-second h = grind (arith, nat_tests)
+
+  pub stops-third : c ≡ true → true ≡ (a || b || c || d)
+  stops-third h = grind (arith, nat_tests)
+
+  pub stops-fourth : (result : Bool) → a ≡ false → b ≡ false → c ≡ false → result ≡ d
+      → result ≡ (a || b || c || d)
+  stops-fourth result h k l e = rw (h, k, l) e

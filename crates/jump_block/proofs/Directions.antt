@@ -350,3 +350,19 @@ swap x a b = grind arith
 pub parts : (P : Dir → Bool) (d : Dir) → is_diagonal d ≡ true → (x a b : Bool) → a ≡ P (row_dir (row_way d))
     → b ≡ P (column_dir (column_way d)) → (x || a || b) ≡ (x || P (turn Right d) || P (turn Left d))
 parts P d h1 x a b h2 h3 = grind (arith, nat_tests, common_steps, swap)
+
+-- a grid's bits are few lines of few blocks
+pub rows_small : (g : GridData) (l : LineData) → IsGrid g → AreRowsOf l g → (l.lines < 65536) × (l.blocks ≤ 128)
+rows_small g l whole are =
+    let s = whole.sides in
+    let b = are.bordered in
+    let t = are.tight in
+    (omega arith, omega arith)
+
+pub columns_small : (g : GridData) (l : LineData) → IsGrid g → AreColumnsOf l g
+    → (l.lines < 65536) × (l.blocks ≤ 128)
+columns_small g l whole are =
+    let s = whole.sides in
+    let b = are.bordered in
+    let t = are.tight in
+    (omega arith, omega arith)

@@ -216,14 +216,18 @@ impl<'a> Bits<'a> {
             || is_some (first.first_stop g goal at (spec.column_dir (spec.column_way d))))) }
         ensures more { steps.old ≤ steps.new }
     {
-        at == goal
-            || self.forces(at, d, steps)
-            || self
-                .straight_on_row::<RULE, L>(at, row_way(d), goal, steps)
-                .is_some()
-            || self
-                .straight_on_column::<RULE, L>(at, column_way(d), goal, steps)
-                .is_some()
+        if at == goal {
+            return true;
+        }
+        if self.forces(at, d, steps) {
+            return true;
+        }
+        let on_row = self.straight_on_row::<RULE, L>(at, row_way(d), goal, steps);
+        if on_row.is_some() {
+            return true;
+        }
+        let on_column = self.straight_on_column::<RULE, L>(at, column_way(d), goal, steps);
+        on_column.is_some()
     }
 
     // Whether a diagonal jump stops at a cell. Only in the goal's row or column is the goal looked for, and
@@ -253,9 +257,13 @@ impl<'a> Bits<'a> {
             let bits = *self;
             return bits.stops_in_line::<RULE, L>(at, d, goal, steps);
         }
-        self.forces(at, d, steps)
-            || self.finds_mark_on_row::<RULE, L>(at, row_way(d), near, steps)
-            || self.finds_mark_on_column::<RULE, L>(at, column_way(d), steps)
+        if self.forces(at, d, steps) {
+            return true;
+        }
+        if self.finds_mark_on_row::<RULE, L>(at, row_way(d), near, steps) {
+            return true;
+        }
+        self.finds_mark_on_column::<RULE, L>(at, column_way(d), steps)
     }
 
     /// After how many moves a diagonal jump stops, told whether it may lead to where the goal lies.

@@ -1,17 +1,36 @@
 use Rattle.std.proofs.lemmas.Bool.Decides.{nat_tests}
 use Rattle.std.proofs.lemmas.Grind.{common_steps}
-use Rattle.std.proofs.Common.{true, false, arith, refl, sym, ◌∙◌}
-use Rattle.std.specs.Prelude.{is_some}
+use Rattle.std.proofs.Common.{◌≡◌, ℕ, ◌+◌, true, false, arith, refl, sym, ◌∙◌}
+use Rattle.std.specs.Prelude.{Option, is_some}
 use Rattle.grid_moves.specs.declared.Dir.{Dir}
 use Rattle.grid_moves.proofs.Ahead.{legal_ahead-free}
-use Rattle.pruning.specs.First.{first_stop}
+use Rattle.pruning.specs.First.{first_stop, run_length}
 use Rattle.jump_block.proofs.Directions.{parts}
 use Rattle.jump_plain.proofs.Besides.{beyond_stuck}
 use Rattle.pruning.proofs.Lengths.{run_length-next, run_length-few}
-use Rattle.jump_plain.proofs.Diagonal.{is_stop-read, stops_nowhere, stops_here, stops_later}
+use Rattle.jump_plain.proofs.Diagonal.{later, is_stop-read, stops_nowhere, stops_here, stops_later}
 use Rattle.jump_block.proofs.Aside.{aside_ahead, still_aside}
 use Rattle.jump_block.proofs.Diagonals.{legal_next}
 use Rattle.jump_block.proofs.straight.Bits.diagonal.Goals as goal
+
+-- no moves later is now
+at_once : (o : Option ℕ) → o ≡ later 0 o
+at_once o = grind (arith, nat_tests, common_steps)
+
+none_before : (n : ℕ) → 0 + n ≡ n
+none_before n = omega arith
+
+pub run-init : goal.run-init
+run-init g c = record {
+  read = omega (arith, c.near_on_row-near.ensures.three_steps);
+  near = c.near_on_row-near.ensures.near;
+  aside = λ off. off;
+  there = λ grid are free. record {
+    free = free;
+    stop = at_once (first_stop grid c.args.goal c.args.at c.args.d);
+    run = none_before (run_length grid c.args.at c.args.d);
+  };
+}
 
 pub overflow_add-moves : goal.overflow_add-moves
 overflow_add-moves g c = grind (arith, nat_tests, common_steps, legal_next, run_length-next, run_length-few)

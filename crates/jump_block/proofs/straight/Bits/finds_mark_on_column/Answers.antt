@@ -1,7 +1,7 @@
-use Rattle.std.proofs.Common.{ℕ, ◌+◌, arith}
-use Rattle.jump_block.specs.Scan.{MeetsFrom}
-use Rattle.jump_block.specs.Source.{column_dir}
-use Rattle.jump_block.proofs.Directions.{mark_on, one_on, column_met, column_straight}
+use Rattle.std.proofs.Common.{ℕ, ◌+◌, sym, arith}
+use Rattle.jump_block.specs.Scan.{IsStart, MeetsFrom}
+use Rattle.jump_block.specs.Source.{by_columns, column_dir}
+use Rattle.jump_block.proofs.Directions.{mark_on, one_on, column_met, column_start, column_straight, columns_small}
 use Rattle.jump_block.proofs.straight.Bits.finds_mark_on_column.Goals as goal
 
 pub returns-clause-finds : goal.returns-clause-finds
@@ -32,3 +32,22 @@ returns-clause-most g c = λ grid are free goal off.
     are.are_columns old new c.finds_mark.result met) in
     let most = told.1 in
     omega (arith, most)
+
+pub finds_mark-requires-clause-starts : goal.finds_mark-requires-clause-starts
+finds_mark-requires-clause-starts g c =
+    let s = c.requires.stands in
+    let columns = c.args.self.now.columns.now in (
+      by_columns s.0,
+      one_on (λ (line place : ℕ). IsStart columns (by_columns s.0) line place)
+          (sym c.from.ensures) (sym c.from-2.ensures) (column_start s.0 c.args.at s.2 columns s.1.are_columns),
+    )
+
+pub finds_mark-requires-clause-few : goal.finds_mark-requires-clause-few
+finds_mark-requires-clause-few g c =
+    let s = c.requires.stands in
+    (columns_small s.0 c.args.self.now.columns.now s.1.whole s.1.are_columns).0
+
+pub finds_mark-requires-clause-short : goal.finds_mark-requires-clause-short
+finds_mark-requires-clause-short g c =
+    let s = c.requires.stands in
+    (columns_small s.0 c.args.self.now.columns.now s.1.whole s.1.are_columns).1

@@ -1,8 +1,8 @@
 use Rattle.std.proofs.Common.{ℕ, ◌+◌, arith, sym}
 use Rattle.jump_block.specs.Near.{AreNearStart}
-use Rattle.jump_block.specs.Scan.{MeetsFrom}
-use Rattle.jump_block.specs.Source.{row_dir}
-use Rattle.jump_block.proofs.Directions.{mark_on, one_on, row_met, row_straight}
+use Rattle.jump_block.specs.Scan.{IsStart, MeetsFrom}
+use Rattle.jump_block.specs.Source.{by_rows, row_dir}
+use Rattle.jump_block.proofs.Directions.{mark_on, one_on, row_met, row_start, row_straight, rows_small}
 use Rattle.jump_block.proofs.straight.Bits.finds_mark_on_row.Goals as goal
 
 pub finds_mark-requires-clause-near : goal.finds_mark-requires-clause-near
@@ -38,3 +38,22 @@ returns-clause-most g c = λ grid are free goal off.
     are.are_rows old new c.finds_mark.result met) in
     let most = told.1 in
     omega (arith, most)
+
+pub finds_mark-requires-clause-starts : goal.finds_mark-requires-clause-starts
+finds_mark-requires-clause-starts g c =
+    let s = c.requires.stands in
+    let rows = c.args.self.now.rows.now in (
+      by_rows s.0,
+      one_on (λ (line place : ℕ). IsStart rows (by_rows s.0) line place) (sym c.from.ensures)
+          (sym c.from-2.ensures) (row_start s.0 c.args.at s.2 rows s.1.are_rows),
+    )
+
+pub finds_mark-requires-clause-few : goal.finds_mark-requires-clause-few
+finds_mark-requires-clause-few g c =
+    let s = c.requires.stands in
+    (rows_small s.0 c.args.self.now.rows.now s.1.whole s.1.are_rows).0
+
+pub finds_mark-requires-clause-short : goal.finds_mark-requires-clause-short
+finds_mark-requires-clause-short g c =
+    let s = c.requires.stands in
+    (rows_small s.0 c.args.self.now.rows.now s.1.whole s.1.are_rows).1
