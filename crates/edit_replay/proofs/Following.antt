@@ -1,21 +1,32 @@
 -- What is kept beside the grids follows an edit.
-use Rattle.std.proofs.Common.{◌≡◌, ◌≢◌, refl, true, false, ℕ, ◌+◌, ◌*◌, ◌≤◌, Bool, arith}
+use Rattle.std.proofs.Common.{◌≡◌, ◌≢◌, refl, true, false, ℕ, ◌+◌, ◌*◌, ◌≤◌, Bool, arith, ap, sym, ◌∙◌, subst}
+use denote.Enum.Bare.{sameb}
 use Rattle.std.specs.Prelude.{if◌then◌else◌}
 use Rattle.best_first.specs.Space.{SpaceData}
 use Rattle.std.proofs.lemmas.Bool.Decides.{nat_tests}
 use Rattle.bit_grid.specs.Bits.{AreBitsOf, BitData, IsOnMap}
+use Rattle.grid_moves.specs.contracts.Ground.{the_type}
 use Rattle.grid_moves.specs.declared.Cell.{Cell}
-use Rattle.grid_moves.specs.Grid.{GridData, is_inside}
+use Rattle.grid_moves.specs.declared.Ground.{Ground}
+use Rattle.grid_moves.specs.declared.Ground.TheVariants as ground
+use Rattle.grid_moves.specs.Grid.{GridData, grid_with, is_ground, is_inside}
 use Rattle.grid_moves.specs.Layers.{AreLayers, Layers, is_on_map}
 use Rattle.plus_tables.specs.Tables.{TablesData, AreTablesOf, IsWhole}
 use Rattle.table_repair.specs.Counted.{places_differing}
-use Rattle.edit_replay.specs.Kept.{IsFinderOf, IsFinderOn, Serves, engine_of}
+use Rattle.search_core.specs.Jumping.{HasPlaces}
+use Rattle.edit_replay.specs.Kept.{IsFinderOf, IsFinderOn, Serves, as_layers, engine_of}
+use Rattle.edit_replay.specs.Session.{SessionData}
 use Rattle.edit_replay.specs.Mended.{AreMended, IsEditCounted, MendsWithin, repaired}
 use Rattle.edit_replay.specs.declared.kept.Both.{Both}
 use Rattle.edit_replay.specs.declared.kept.Finder.{Finder}
 use Rattle.edit_replay.specs.declared.kept.Finder.TheVariants.{Cells, Bits, Tables}
 use Rattle.edit_replay.specs.declared.kept.Kept.{Kept}
 use Rattle.edit_replay.specs.declared.kept.Kept.TheVariants.{Jumps}
+use Rattle.edit_replay.specs.declared.parts.Parts.{Parts}
+
+-- what the parts of a session stand for
+abbrev pub stands_for : Parts → SessionData
+stands_for p = record { engine = engine_of p.kept; layers = as_layers p.grids }
 
 -- a cell of the map lies inside both grids
 pub on_water : (ls : Layers) (c : Cell) → AreLayers ls → is_on_map ls c ≡ true → is_inside ls.water c ≡ true
@@ -66,3 +77,43 @@ tables_follow old new g h changes changed steps steps_now whole of_old of_new e 
   repaired changes old new whole of_old of_new refl,
   (omega arith),
 )
+
+-- a test of two grounds is that of the specs, from either side
+pub told : (a b : Ground) → sameb the_type a b ≡ is_ground a b
+told ground.Blocked ground.Blocked = refl
+told ground.Blocked ground.Land = refl
+told ground.Blocked ground.Water = refl
+told ground.Land ground.Blocked = refl
+told ground.Land ground.Land = refl
+told ground.Land ground.Water = refl
+told ground.Water ground.Blocked = refl
+told ground.Water ground.Land = refl
+told ground.Water ground.Water = refl
+
+told_back : (a b : Ground) → sameb the_type a b ≡ is_ground b a
+told_back ground.Blocked ground.Blocked = refl
+told_back ground.Blocked ground.Land = refl
+told_back ground.Blocked ground.Water = refl
+told_back ground.Land ground.Blocked = refl
+told_back ground.Land ground.Land = refl
+told_back ground.Land ground.Water = refl
+told_back ground.Water ground.Blocked = refl
+told_back ground.Water ground.Land = refl
+told_back ground.Water ground.Water = refl
+
+-- a grid that was edited by a test of grounds
+pub edited_by : (g : GridData) {h : GridData} (c : Cell) {b : Bool} (of to : Ground) → h ≡ grid_with g c b
+    → b ≡ sameb the_type to of → h ≡ grid_with g c (is_ground of to)
+edited_by g c of to e f = e ∙ ap (λ (b : Bool). grid_with g c b) (f ∙ told_back to of)
+
+-- there are places for it still
+pub places_stay : (g : GridData) {h : GridData} (c : Cell) (b : Bool) {space : SpaceData}
+    → h ≡ grid_with g c b → HasPlaces g space → HasPlaces h space
+places_stay g c b {space = space} e p =
+    subst (λ (h : GridData). HasPlaces h space) (sym e) (record { layout = p.layout; enough = p.enough })
+
+pub no_less : (n : ℕ) → n ≤ n
+no_less n = omega arith
+
+pub later_on : (a b c : ℕ) → a ≤ b → b ≤ c → a ≤ c
+later_on a b c e f = omega arith

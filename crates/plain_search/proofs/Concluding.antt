@@ -1,6 +1,7 @@
 -- From what a search has taken to its answer.
 use Rattle.std.proofs.Common.{◌≡◌, ℕ, ◌⊎◌, List, [], ◌∷◌, refl, ap, sym, ◌∙◌, subst, true, false}
-use Rattle.std.specs.Prelude.{Some, slice_get, OnOk, Ok, Err}
+use Rattle.std.specs.Prelude.{Bool, not, Some, slice_get, OnOk, Ok, Err}
+use Rattle.std.proofs.lemmas.Bool.{not-true, not-false}
 use Rattle.std.specs.declared.result.Result.{Result}
 use Rattle.grid_moves.specs.declared.Cell.{Cell}
 use Rattle.grid_moves.specs.Grid.{GridData, is_free}
@@ -23,6 +24,7 @@ use Rattle.best_first.proofs.Progress.{has_begun, last_led}
 use Rattle.best_first.proofs.Taking.{none_open}
 use Rattle.best_first.proofs.Ways.{offers_after}
 use Rattle.grid_moves.specs.Around.{IsAround}
+use Rattle.grid_moves.proofs.Legal.{is_same-cell}
 use Rattle.plain_search.specs.Offers.{less_offered, sides_of, ways_over, MayExpand, HasExpanded}
 use Rattle.plain_search.specs.Progress.{HasTaken, HasStopped}
 use Rattle.plain_search.specs.Room.{IsReady}
@@ -35,6 +37,20 @@ use Rattle.plain_search.proofs.Posed.{IsAsked, fit}
 pub on_ok : {T E : Type 0} (result : Result T E) {P Q : Type 0} → OnOk result P → (P → Q) → OnOk result Q
 on_ok (Ok v) p f = f p
 on_ok (Err e) p f = tt
+
+-- the cell of a node that was read differs from t or not: so does that of whatever node stands there
+module _ (nodes : List Node) (at : ℕ) (r n : Node) (c t : Cell) {differs : Bool}
+    (read : slice_get nodes at ≡ Some r)
+    (is : c ≡ node_cell r) (told : differs ≡ not (is_same c t)) (there : slice_get nodes at ≡ Some n) where
+  pub differs_there : differs ≡ true → is_same (node_cell n) t ≡ false
+  differs_there e =
+      let cell : node_cell n ≡ c = ap (λ (m : Node). node_cell m) (some_node n r (sym there ∙ read)) ∙ sym is in
+      ap (λ (u : Cell). is_same u t) cell ∙ not-true (is_same c t) (sym told ∙ e)
+
+  pub same_there : differs ≡ false → node_cell n ≡ t
+  same_there e =
+      let cell : node_cell n ≡ c = ap (λ (m : Node). node_cell m) (some_node n r (sym there ∙ read)) ∙ sym is in
+      cell ∙ is_same-cell c t (not-false (is_same c t) (sym told ∙ e))
 
 module _ {g : GridData} {s t : Cell} {link : Links} (asked : IsAsked g s t link) where
   -- at the start

@@ -1,10 +1,10 @@
 -- What stays while a state makes its offers.
 use Rattle.std.proofs.Common.{arith}
 use Rattle.std.proofs.lemmas.Grind.{common_steps}
-use Rattle.std.proofs.Common.{◌∙◌}
+use Rattle.std.proofs.Common.{◌∙◌, ◌≤◌, ℕ, ◌+◌}
 use Rattle.grid_moves.specs.declared.Cell.{Cell}
 use Rattle.best_first.specs.Space.{SpaceData, IsPlaced, KeepsShape}
-use Rattle.grid_moves.specs.Grid.{GridData}
+use Rattle.grid_moves.specs.Grid.{GridData, IsGrid}
 use Rattle.plain_search.specs.Room.{IsReady}
 
 infixl 30 ◌▸◌
@@ -20,3 +20,17 @@ still h1 h2 h3 = grind (arith, common_steps)
 -- a space that is ready stays so
 pub ready_on : {a b : SpaceData} (g : GridData) → IsReady g a → KeepsShape a b → IsReady g b
 ready_on g h1 h2 = grind (arith, common_steps)
+
+-- it is used on a map of at most 4096 columns
+pub narrow_on : {a b : SpaceData} (g : GridData) → IsGrid g → IsReady g a → KeepsShape a b → b.width ≤ 4096
+narrow_on g h r k = rw (k.width, r.width) h.sides.narrow
+
+pub still_narrow : {a b : SpaceData} → KeepsShape a b → a.width ≤ 4096 → b.width ≤ 4096
+still_narrow k h = rw k.width h
+
+-- an offer takes one of the spare places at most
+pub less_room : (k : ℕ) {m n : ℕ} → k + 1 ≤ m → m ≤ n + 1 → k ≤ n
+less_room k h l = omega arith
+
+pub room_left : (k : ℕ) {m : ℕ} → k + 1 ≤ m → 1 ≤ m
+room_left k h = omega arith

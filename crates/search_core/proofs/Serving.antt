@@ -3,13 +3,16 @@ use Rattle.std.proofs.lemmas.Bool.Decides.{nat_tests}
 use Rattle.std.proofs.lemmas.Grind.{common_steps}
 use Rattle.std.proofs.Common.{◌≡◌, ℕ, subst, refl, ap, sym, ◌∙◌, true, List, [], ◌∷◌, ◌++◌, ◌+◌, ◌*◌, ◌≤◌}
 use Rattle.std.proofs.Common.{length, arith, length-append, append-nil}
-use Rattle.std.specs.Prelude.{Option, Some, None, IsTrue}
+use Rattle.std.specs.Prelude.{Bool, false, not, Option, Some, None, IsTrue, slice_get}
+use Rattle.std.proofs.lemmas.Bool.{not-false, not-true}
 use Rattle.std.specs.List.{AllByRecursion}
 use Rattle.std.proofs.lemmas.List.{append_assoc}
 use Rattle.std.specs.Option.{option_map_or}
 use Rattle.grid_moves.specs.declared.Cell.{Cell}
 use Rattle.grid_moves.specs.declared.Dir.{Dir}
 use Rattle.grid_moves.specs.Grid.{GridData, is_free}
+use Rattle.grid_moves.specs.Move.{is_same}
+use Rattle.grid_moves.proofs.Legal.{is_same-cell}
 use Rattle.pruning.specs.Allowed.{is_allowed}
 use Rattle.pruning.specs.First.{first_stop}
 use Rattle.pruning.specs.Source.{MostSteps, IsWithin}
@@ -19,9 +22,12 @@ use Rattle.best_first.specs.declared.node.Offer.{Offer as Way}
 use Rattle.best_first.specs.declared.state.Layout.TheVariants.{ByArrival}
 use Rattle.best_first.specs.Space.{SpaceData, KeepsShape}
 use Rattle.best_first.specs.Table.{Table, offered}
+use Rattle.best_first.specs.Trace.{node_cell}
+use Rattle.best_first.specs.declared.node.Node.{Node}
+use Rattle.best_first.proofs.Mirrors.{some_node}
 use Rattle.best_first.specs.Ways.{with_all}
 use Rattle.search_core.specs.Jumps.{come_to}
-use Rattle.search_core.specs.Jumping.{offer_after, jumped_in, jumped, IsSpaceOf, IsAt, IsOffering}
+use Rattle.search_core.specs.Jumping.{offer_after, jumped_in, jumped, HasPlaces, IsSpaceOf, IsAt, IsOffering}
 use Rattle.search_core.specs.Serving.{IsServed, OnSome, OnEach}
 use Rattle.search_core.specs.declared.jumping.Last.{Last}
 use Rattle.search_core.proofs.Counting.{within_none, within_then}
@@ -38,11 +44,22 @@ module _ (P : Dir → Type 0) where
   all_next [] d rest a = a.0
   all_next (c ∷ done) d rest a = all_next done d rest a.1
 
+-- a space that keeps its layout and its places has them for the same grid
+pub places_so : (g : GridData) {old new : SpaceData} → HasPlaces g old → new.layout ≡ old.layout
+    → new.places ≡ old.places → HasPlaces g new
+places_so g has layout places = record {
+  layout = layout ∙ has.layout;
+  enough = subst (λ (n : ℕ). g.height * g.width ≤ n) (sym places) has.enough;
+}
+
+pub places_kept : (g : GridData) {old new : SpaceData} → HasPlaces g old → KeepsShape old new → HasPlaces g new
+places_kept g has shape = places_so g has shape.layout shape.places
+
 -- a space that keeps its shape serves as before
 pub same_shape : (g : GridData) (old new : SpaceData) → IsSpaceOf g old → KeepsShape old new → IsSpaceOf g new
 same_shape g old new of shape = record {
   whole = of.whole;
-  places = grind (arith, nat_tests, common_steps);
+  places = places_kept g of.places shape;
   width = shape.width ∙ of.width;
 }
 
@@ -182,3 +199,16 @@ pub has_one : (ds done left others : List Dir) (first : Dir) → ds ≡ done ++ 
 has_one ds done left others first parts split old mid few room =
     let n = ap (λ (ds : List Dir). length ds) (parts ∙ ap (λ (rest : List Dir). done ++ rest) split)
     ∙ length-append done (first ∷ others) in omega (arith, n, few, room)
+
+-- the cell of a node that was read differs from t or not: so does that of whatever node stands there
+module _ (nodes : List Node) (at : ℕ) (r n : Node) (c t : Cell) {differs : Bool}
+    (read : slice_get nodes at ≡ Some r)
+    (is : c ≡ node_cell r) (told : differs ≡ not (is_same c t)) (there : slice_get nodes at ≡ Some n) where
+  cell_there : node_cell n ≡ c
+  cell_there = ap (λ (m : Node). node_cell m) (some_node n r (sym there ∙ read)) ∙ sym is
+
+  pub differs_there : differs ≡ true → is_same (node_cell n) t ≡ false
+  differs_there e = ap (λ (u : Cell). is_same u t) cell_there ∙ not-true (is_same c t) (sym told ∙ e)
+
+  pub same_there : differs ≡ false → node_cell n ≡ t
+  same_there e = cell_there ∙ is_same-cell c t (not-false (is_same c t) (sym told ∙ e))

@@ -1,9 +1,10 @@
 -- A file that is written, cell by cell.
 use Rattle.std.proofs.lemmas.Bool.Decides.{nat_tests}
 use Rattle.std.proofs.Common.{◌≡◌, ℕ, ◌+◌, ◌-◌, ◌*◌, ◌<◌, ◌≤◌, List, [], ◌∷◌, ◌++◌, length, take, ap, sym}
-use Rattle.std.proofs.Common.{◌∙◌, arith}
-use Rattle.std.specs.Prelude.{ℤ, pos, flat_map, slice_index_or, slice_set}
-use Rattle.std.proofs.lemmas.List.{append_assoc, length-set, take_all, take_more, take_more_set}
+use Rattle.std.proofs.Common.{◌∙◌, arith, refl, subst, drop, suc, length-drop, Result}
+use Rattle.std.specs.Prelude.{OnErr, Ok, Err, ℤ, pos, flat_map, slice_index_or, slice_set}
+use Rattle.std.proofs.lemmas.List.{append-nil, append_assoc, take-append-drop, length-set, take_all}
+use Rattle.std.proofs.lemmas.List.{take_more, take_more_set}
 pub use Rattle.std.proofs.lemmas.Grind.{flat_map-append}
 use Rattle.table_file.specs.Encoding.{entry_bytes}
 use Rattle.table_file.specs.Written.{Begins}
@@ -13,6 +14,70 @@ pub record ArePut (old : List ℕ) (cells : ℕ) (entries left : List ℤ) (done
   pub long : length left ≡ (cells - done) * 8
   pub text : new ++ flat_map entry_bytes left ≡ old ++ flat_map entry_bytes entries
   pub kept : Begins old new
+
+pub begins_same : (old new : List ℕ) → new ≡ old → Begins old new
+begins_same old new e = ([], e ∙ sym (append-nil old))
+
+pub begins_then : (a b c : List ℕ) → Begins a b → Begins b c → Begins a c
+begins_then a b c (x, e) (y, f) = (x ++ y, f ∙ ap (λ (l : List ℕ). l ++ y) e ∙ append_assoc a x y)
+
+-- a clause on failures, where it always holds
+pub on_err : {T E Q : Type 0} (result : Result T E) → Q → OnErr result Q
+on_err (Ok v) q = tt
+on_err (Err e) q = q
+
+begins_on : (old new more : List ℕ) → Begins old new → Begins old (new ++ more)
+begins_on old new more (added, e) =
+    (added ++ more, ap (λ (l : List ℕ). l ++ more) e ∙ append_assoc old added more)
+
+-- no cell is written yet
+pub put_begun : (old : List ℕ) (cells : ℕ) (entries : List ℤ) → length entries ≡ cells * 8
+    → ArePut old cells entries entries 0 old
+put_begun old cells entries h = record { long = omega arith; text = refl; kept = ([], sym (append-nil old)) }
+
+-- there is a cell left
+pub cell_left : (cells done : ℕ) (left : List ℤ) → length left ≡ (cells - done) * 8 → done < cells
+    → 8 ≤ length left
+cell_left cells done left long h = omega arith
+
+-- one more is written
+pub put_on : {old : List ℕ} {cells : ℕ} {entries left : List ℤ} {done : ℕ} {out : List ℕ} (cell others : List ℤ)
+    (bytes new : List ℕ)
+    → ArePut old cells entries left done out → done < cells → cell ≡ take 8 left → others ≡ drop 8 left
+    → bytes ≡ flat_map entry_bytes cell → new ≡ out ++ bytes → ArePut old cells entries others (done + 1) new
+put_on {old = old} {cells = cells} {left = left} {done = done} {out = out} cell others bytes new put h front
+    back made added =
+    let long = put.long in
+    let fewer = length-drop 8 left in
+    let same = ap (λ (l : List ℤ). length l) back in
+    let whole : cell ++ others ≡ left =
+    ap (λ (l : List ℤ). l ++ others) front ∙ ap (λ (l : List ℤ). take 8 left ++ l) back ∙ take-append-drop 8
+    left
+    in
+    record {
+      long = eight_fewer (length left) (length (drop 8 left)) (length others) cells done long fewer same h;
+      text = ap (λ (l : List ℕ). l ++ flat_map entry_bytes others)
+          (added ∙ ap (λ (l : List ℕ). out ++ l) made)
+          ∙ append_assoc out (flat_map entry_bytes cell) (flat_map entry_bytes others)
+          ∙ ap (λ (l : List ℕ). out ++ l) (sym (flat_map-append entry_bytes cell others))
+          ∙ ap (λ (l : List ℤ). out ++ flat_map entry_bytes l) whole
+          ∙ put.text;
+      kept = subst (λ (l : List ℕ). Begins old l) (sym added) (begins_on old out bytes put.kept);
+    }
+  where
+    eight_fewer : (n m k cells done : ℕ) → n ≡ (cells - done) * 8 → m ≡ n - 8 → k ≡ m → done < cells
+        → k ≡ (cells - (done + 1)) * 8
+    eight_fewer n m k cells done a b c d = omega arith
+
+-- all are written
+pub put_all : {old : List ℕ} {cells : ℕ} {entries left : List ℤ} {done : ℕ} {out : List ℕ}
+    → ArePut old cells entries left done out → cells ≤ done → out ≡ old ++ flat_map entry_bytes entries
+put_all {cells = cells} {left = []} {out = out} put h = sym (append-nil out) ∙ put.text
+put_all {cells = cells} {left = x ∷ left} {done = done} put h =
+    absurd (none_left (length left) cells done put.long h)
+  where
+    none_left : (n cells done : ℕ) → suc n ≡ (cells - done) * 8 → cells ≤ done → ⊥
+    none_left n cells done e l = omega arith
 
 -- the bytes of one more entry, put behind the others
 pub entry_put : (cell : List ℤ) (bytes : List ℕ) (at low high : ℕ) → at < length cell

@@ -1,5 +1,6 @@
-use Rattle.std.proofs.Common.{◌≡◌, ◌∙◌, ◌<◌, sym, ap, subst, length, List, ℕ, [], ◌∷◌, ◌++◌}
+use Rattle.std.proofs.Common.{◌≡◌, ◌∙◌, ◌<◌, sym, ap, subst, length, length-append, List, ℕ, [], ◌∷◌, ◌++◌}
 use Rattle.std.proofs.lemmas.Option.{slice_get_within}
+use Rattle.std.proofs.lemmas.Result.{IfOk-from_err}
 use Rattle.std.specs.Prelude.{slice_get}
 use Rattle.grid_moves.specs.declared.Cell.{Cell}
 use Rattle.grid_moves.specs.Grid.{is_free}
@@ -11,7 +12,7 @@ use Rattle.plain_search.specs.Progress.{HasStopped}
 use Rattle.best_first.proofs.Progress.{next_taken}
 use Rattle.plain_search.proofs.Concluding.{taken_free, may_go_on, has_offered, has_stopped}
 use Rattle.plain_search.proofs.Posed.{plain_asked, fit}
-use Rattle.plain_search.proofs.Shapes.{ready_on}
+use Rattle.plain_search.proofs.Shapes.{ready_on, narrow_on, ◌▸◌}
 use Rattle.plain_search.proofs.search.advance.Goals as goal
 
 pub offer_all-requires-clause-may : goal.offer_all-requires-clause-may
@@ -67,3 +68,60 @@ returns-in_ok-push-in-Some-clause-goes_on g c =
     ∙ ap (λ (i : ℕ). c.args.taken.now ++ i ∷ []) (c.state_at.ensures
     ∙ ap (λ (u : Cell). state_number grid.width (start_at u)) c.cell.ensures) in
     rw (c.in-Some.ensures.closed, pushed) on
+
+pub offer_all-requires-clause-known : goal.offer_all-requires-clause-known
+offer_all-requires-clause-known g c =
+    let searching = c.requires.taken.searching in
+    subst (λ (l : Table). c.args.at < length l.nodes) (sym c.reserve.ensures.table)
+    (slice_get_within c.args.space.now.table.nodes c.args.at searching.node searching.node_is)
+
+pub offer_all-requires-clause-layout : goal.offer_all-requires-clause-layout
+offer_all-requires-clause-layout g c = c.reserve.ensures.shape.layout ∙ c.requires.ready.layout
+
+pub returns-in_err-reserve-clause-goes_on : goal.returns-in_err-reserve-clause-goes_on
+returns-in_err-reserve-clause-goes_on g c = IfOk-from_err c.from_residual.result _ c.from_residual.ensures.0
+
+pub returns-in_err-reserve-clause-one_more : goal.returns-in_err-reserve-clause-one_more
+returns-in_err-reserve-clause-one_more g c = IfOk-from_err c.from_residual.result _ c.from_residual.ensures.0
+
+pub returns-in_err-reserve-clause-ready : goal.returns-in_err-reserve-clause-ready
+returns-in_err-reserve-clause-ready g c =
+    ready_on (g.T.Terrain.grid c.args.t.now) c.requires.ready c.reserve.ensures.shape
+
+pub returns-in_err-push-in-Some-clause-goes_on : goal.returns-in_err-push-in-Some-clause-goes_on
+returns-in_err-push-in-Some-clause-goes_on g c =
+    IfOk-from_err c.from_residual-in_err-push-in-Some.result _ c.from_residual-in_err-push-in-Some.ensures.0
+
+pub returns-in_err-push-in-Some-clause-one_more : goal.returns-in_err-push-in-Some-clause-one_more
+returns-in_err-push-in-Some-clause-one_more g c =
+    IfOk-from_err c.from_residual-in_err-push-in-Some.result _ c.from_residual-in_err-push-in-Some.ensures.0
+
+pub returns-in_err-push-in-Some-clause-ready : goal.returns-in_err-push-in-Some-clause-ready
+returns-in_err-push-in-Some-clause-ready g c =
+    ready_on (g.T.Terrain.grid c.args.t.now) c.requires.ready
+    (c.reserve.ensures.shape ▸ c.offer_all.ensures.shape ▸ c.take_next.ensures.shape)
+
+pub returns-in-None-clause-one_more : goal.returns-in-None-clause-one_more
+returns-in-None-clause-one_more g c = tt
+
+pub returns-in-None-clause-ready : goal.returns-in-None-clause-ready
+returns-in-None-clause-ready g c =
+    ready_on (g.T.Terrain.grid c.args.t.now) c.requires.ready
+    (c.reserve.ensures.shape ▸ c.offer_all.ensures.shape ▸ c.take_next.ensures.shape)
+
+pub returns-in_ok-push-in-Some-clause-one_more : goal.returns-in_ok-push-in-Some-clause-one_more
+returns-in_ok-push-in-Some-clause-one_more g c =
+    ap (λ (ns : List ℕ). length ns) c.in_ok-push-in-Some.ensures.pushed
+    ∙ length-append c.args.taken.now (c.state_at.result ∷ [])
+
+pub returns-in_ok-push-in-Some-clause-ready : goal.returns-in_ok-push-in-Some-clause-ready
+returns-in_ok-push-in-Some-clause-ready g c =
+    ready_on (g.T.Terrain.grid c.args.t.now) c.requires.ready
+    (c.reserve.ensures.shape ▸ c.offer_all.ensures.shape ▸ c.take_next.ensures.shape)
+
+pub offer_all-requires-clause-narrow : goal.offer_all-requires-clause-narrow
+offer_all-requires-clause-narrow g c =
+    narrow_on (g.T.Terrain.grid c.args.t.now) c.requires.whole c.requires.ready c.reserve.ensures.shape
+
+pub offer_all-requires-clause-room : goal.offer_all-requires-clause-room
+offer_all-requires-clause-room g c = c.in_ok-reserve.ensures.room

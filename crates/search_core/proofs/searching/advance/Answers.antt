@@ -1,9 +1,11 @@
-use Rattle.std.proofs.Common.{◌∙◌, length, arith, ap, List}
+use Rattle.std.proofs.Common.{◌∙◌, ◌∷◌, [], ℕ, length, length-append, arith, ap, List}
+use Rattle.std.proofs.lemmas.Result.{IfOk-from_err}
 use Rattle.std.specs.Prelude.{slice_get}
 use Rattle.std.proofs.lemmas.Option.{slice_get_within}
 use Rattle.best_first.specs.declared.node.Node.{Node}
 use Rattle.search_core.proofs.Advancing.{counted_one, ranked, can_call, offering, each_allowed, few_allowed}
 use Rattle.search_core.proofs.Advancing.{ended, on_map, reached_on}
+use Rattle.search_core.proofs.Serving.{places_kept}
 use Rattle.search_core.proofs.searching.advance.Goals as goal
 
 pub last_at-last-requires-clause-ranked : goal.last_at-last-requires-clause-ranked
@@ -111,3 +113,59 @@ returns-in_ok-push-in-Some-clause-counted g c =
     c.come_to.ensures c.allowed_word-dirs.result c.allowed_word-dirs.ensures.rule c.requires.some)
     c.allowed_word-dirs.ensures.most c.offer_jumps.ensures.most c.allowed_word-dirs.ensures.fewest
     c.offer_jumps.ensures.fewest
+
+pub returns-in_err-reserve-clause-goes_on : goal.returns-in_err-reserve-clause-goes_on
+returns-in_err-reserve-clause-goes_on g c =
+    IfOk-from_err c.from_residual.result _ c.from_residual.ensures.0
+
+pub returns-in_err-reserve-clause-one_more : goal.returns-in_err-reserve-clause-one_more
+returns-in_err-reserve-clause-one_more g c =
+    IfOk-from_err c.from_residual.result _ c.from_residual.ensures.0
+
+pub returns-in_err-reserve-clause-same : goal.returns-in_err-reserve-clause-same
+returns-in_err-reserve-clause-same g c =
+    IfOk-from_err c.from_residual.result _ c.from_residual.ensures.0
+
+pub returns-in_err-reserve-clause-counted : goal.returns-in_err-reserve-clause-counted
+returns-in_err-reserve-clause-counted g c =
+    IfOk-from_err c.from_residual.result _ c.from_residual.ensures.0
+
+pub returns-in_err-push-in-Some-clause-goes_on : goal.returns-in_err-push-in-Some-clause-goes_on
+returns-in_err-push-in-Some-clause-goes_on g c =
+    IfOk-from_err c.from_residual-in_err-push-in-Some.result _ c.from_residual-in_err-push-in-Some.ensures.0
+
+pub returns-in_err-push-in-Some-clause-one_more : goal.returns-in_err-push-in-Some-clause-one_more
+returns-in_err-push-in-Some-clause-one_more g c =
+    IfOk-from_err c.from_residual-in_err-push-in-Some.result _ c.from_residual-in_err-push-in-Some.ensures.0
+
+pub returns-in_err-push-in-Some-clause-same : goal.returns-in_err-push-in-Some-clause-same
+returns-in_err-push-in-Some-clause-same g c =
+    IfOk-from_err c.from_residual-in_err-push-in-Some.result _ c.from_residual-in_err-push-in-Some.ensures.0
+
+pub returns-in_err-push-in-Some-clause-counted : goal.returns-in_err-push-in-Some-clause-counted
+returns-in_err-push-in-Some-clause-counted g c =
+    IfOk-from_err c.from_residual-in_err-push-in-Some.result _ c.from_residual-in_err-push-in-Some.ensures.0
+
+pub returns-in_err-reserve-clause-places : goal.returns-in_err-reserve-clause-places
+returns-in_err-reserve-clause-places g c =
+    λ h v. places_kept h (c.requires.reached h v).of.places c.reserve.ensures.shape
+
+pub returns-in_err-push-in-Some-clause-places : goal.returns-in_err-push-in-Some-clause-places
+returns-in_err-push-in-Some-clause-places g c = λ h v.
+    places_kept h (places_kept h (places_kept h (c.requires.reached h v).of.places c.reserve.ensures.shape)
+    c.offer_jumps.ensures.shape) c.take_next.ensures.shape
+
+pub returns-in-None-clause-places : goal.returns-in-None-clause-places
+returns-in-None-clause-places g c = λ h v.
+    places_kept h (places_kept h (places_kept h (c.requires.reached h v).of.places c.reserve.ensures.shape)
+    c.offer_jumps.ensures.shape) c.take_next.ensures.shape
+
+pub returns-in_ok-push-in-Some-clause-places : goal.returns-in_ok-push-in-Some-clause-places
+returns-in_ok-push-in-Some-clause-places g c = λ h v.
+    places_kept h (places_kept h (places_kept h (c.requires.reached h v).of.places c.reserve.ensures.shape)
+    c.offer_jumps.ensures.shape) c.take_next.ensures.shape
+
+pub returns-in_ok-push-in-Some-clause-one_more : goal.returns-in_ok-push-in-Some-clause-one_more
+returns-in_ok-push-in-Some-clause-one_more g c =
+    ap (λ (ns : List ℕ). length ns) c.in_ok-push-in-Some.ensures.pushed
+    ∙ length-append c.args.taken.now (c.number_at.result ∷ [])

@@ -2,6 +2,8 @@ use Rattle.std.proofs.lemmas.Bool.Decides.{nat_tests}
 use Rattle.std.proofs.lemmas.Grind.{common_steps}
 use Rattle.std.proofs.Common.{◌≡◌, ◌+◌, ◌-◌, ◌<◌, ◌≤◌, ℕ, List, length, subst, arith}
 use Rattle.std.specs.Prelude.{Option, IfSome, IfOk}
+use Rattle.std.proofs.lemmas.Option.{slice_get_within}
+use Rattle.std.proofs.lemmas.Result.{IfOk-from_err}
 use Rattle.std.specs.declared.result.Result.{Result}
 use Rattle.pruning.specs.Source.{MostSteps}
 use Rattle.search_core.specs.Counting.{IsCountedSoFar, IsWithinTaken}
@@ -9,6 +11,7 @@ use Rattle.search_core.specs.Jumping.{GoesOnFrom}
 use Rattle.search_core.specs.Serving.{OnEach}
 use Rattle.best_first.specs.declared.found.Found.{Found}
 use Rattle.search_core.proofs.Counting.{counted_further, within_taken}
+use Rattle.search_core.proofs.Serving.{differs_there, same_there}
 use Rattle.search_core.proofs.Standing.{few_taken}
 use Rattle.search_core.proofs.searching.run.Goals as goal
 
@@ -50,3 +53,75 @@ pub returns-clause-most : goal.returns-clause-most
 returns-clause-most g c =
     all_within (g.J.JumpSource.most c.args.j.now) (g.J.JumpSource.fewest c.args.j.now) c.taking.taken
     c.args.steps.now c.taking.steps c.found.result c.taking.invariant.counted c.found.ensures.taken
+
+pub returns-in_err-taken-clause-run : goal.returns-in_err-taken-clause-run
+returns-in_err-taken-clause-run g c =
+    IfOk-from_err c.from_residual.result _ c.from_residual.ensures.0
+
+pub returns-in_err-taken-clause-most : goal.returns-in_err-taken-clause-most
+returns-in_err-taken-clause-most g c =
+    IfOk-from_err c.from_residual.result _ c.from_residual.ensures.0
+
+pub returns-in_err-taken-clause-fewest : goal.returns-in_err-taken-clause-fewest
+returns-in_err-taken-clause-fewest g c =
+    IfOk-from_err c.from_residual.result _ c.from_residual.ensures.0
+
+pub returns-in_err-begin-clause-run : goal.returns-in_err-begin-clause-run
+returns-in_err-begin-clause-run g c =
+    IfOk-from_err c.from_residual-in_err-begin.result _ c.from_residual-in_err-begin.ensures.0
+
+pub returns-in_err-begin-clause-most : goal.returns-in_err-begin-clause-most
+returns-in_err-begin-clause-most g c =
+    IfOk-from_err c.from_residual-in_err-begin.result _ c.from_residual-in_err-begin.ensures.0
+
+pub returns-in_err-begin-clause-fewest : goal.returns-in_err-begin-clause-fewest
+returns-in_err-begin-clause-fewest g c =
+    IfOk-from_err c.from_residual-in_err-begin.result _ c.from_residual-in_err-begin.ensures.0
+
+pub returns-in_err-next-clause-run : goal.returns-in_err-next-clause-run
+returns-in_err-next-clause-run g c =
+    IfOk-from_err c.from_residual-in_err-next.result _ c.from_residual-in_err-next.ensures.0
+
+pub returns-in_err-next-clause-most : goal.returns-in_err-next-clause-most
+returns-in_err-next-clause-most g c =
+    IfOk-from_err c.from_residual-in_err-next.result _ c.from_residual-in_err-next.ensures.0
+
+pub returns-in_err-next-clause-fewest : goal.returns-in_err-next-clause-fewest
+returns-in_err-next-clause-fewest g c =
+    IfOk-from_err c.from_residual-in_err-next.result _ c.from_residual-in_err-next.ensures.0
+
+pub returns-in_err-begin-clause-places : goal.returns-in_err-begin-clause-places
+returns-in_err-begin-clause-places g c = c.begin.ensures.places
+
+pub returns-in_err-next-clause-places : goal.returns-in_err-next-clause-places
+returns-in_err-next-clause-places g c = c.advance.ensures.places
+
+pub node-requires : goal.node-requires
+node-requires g c =
+    let some = c.requires.some in
+    let searching = (c.taking.invariant.reached some.0 some.1).has.searching in
+    slice_get_within c.taking.space.table.nodes c.taking.at searching.node searching.node_is
+
+pub advance-requires-clause-open_ended : goal.advance-requires-clause-open_ended
+advance-requires-clause-open_ended g c = λ n h.
+    differs_there c.taking.space.table.nodes c.taking.at c.node.result n c.cell.result c.args.ends.to
+    c.node.ensures c.cell.ensures c.ne.ensures h c.taking-test.true
+
+pub found-requires-clause-goal : goal.found-requires-clause-goal
+found-requires-clause-goal g c = λ n h.
+    same_there c.taking.space.table.nodes c.taking.at c.node.result n c.cell.result c.args.ends.to
+    c.node.ensures c.cell.ensures c.ne.ensures h c.taking-test.false
+
+pub returns-in-None-clause-run : goal.returns-in-None-clause-run
+returns-in-None-clause-run g c = λ x v.
+    subst (λ (o : Option ℕ). GoesOnFrom x c.args.ends.from c.args.ends.to c.advance.new.space
+    c.advance.new.taken o) c.in-None.is (c.in_ok-next.ensures.goes_on x v)
+
+pub returns-in-None-clause-places : goal.returns-in-None-clause-places
+returns-in-None-clause-places g c = c.advance.ensures.places
+
+pub returns-clause-run : goal.returns-clause-run
+returns-clause-run g c = c.found.ensures.run
+
+pub returns-clause-places : goal.returns-clause-places
+returns-clause-places g c = λ x v. (c.taking.invariant.reached x v).of.places

@@ -1,7 +1,10 @@
-use Rattle.std.proofs.Common.{arith, rules}
-use Rattle.edit_replay.proofs.Following.{found_by_bits, mended_both, on_bits, on_water}
-use Rattle.edit_replay.specs.Kept.{as_layers}
-use Rattle.edit_replay.specs.Mended.{AreMended}
+use Rattle.std.proofs.Common.{arith, rules, ap, sym, ◌∙◌, subst, refl}
+use Rattle.grid_moves.specs.declared.Ground.TheVariants.{Land, Water}
+use Rattle.edit_replay.proofs.Following.{edited_by, found_by_bits, later_on, mended_both, no_less, on_bits}
+use Rattle.edit_replay.proofs.Following.{on_water, places_stay}
+use Rattle.edit_replay.specs.Kept.{as_layers, engine_of, engine_with}
+use Rattle.edit_replay.specs.Mended.{AreMended, IsEditCounted}
+use Rattle.edit_replay.specs.declared.engine.Engine.{Engine}
 use Rattle.edit_replay.proofs.parts.Parts.set.Goals as goal
 
 pub returns-in-Jumps-Tables-default-clause-counted : goal.returns-in-Jumps-Tables-default-clause-counted
@@ -62,3 +65,67 @@ set-requires-in_default g c = c.requires.inside
 
 pub set-requires-in_default-2 : goal.set-requires-in_default-2
 set-requires-in_default-2 g c = on_water _ _ c.requires.kept.layers c.requires.inside
+
+pub returns-in-Jumps-Tables-default-clause-land : goal.returns-in-Jumps-Tables-default-clause-land
+returns-in-Jumps-Tables-default-clause-land g c =
+    edited_by c.args.self.now.grids.land c.args.c Land c.args.to c.set_and_mend.ensures.grid
+    c.eq-is_land.ensures
+
+pub returns-in-Jumps-Tables-default-clause-water : goal.returns-in-Jumps-Tables-default-clause-water
+returns-in-Jumps-Tables-default-clause-water g c =
+    edited_by c.args.self.now.grids.water c.args.c Water c.args.to
+    c.set_and_mend-in-Jumps-Tables-default.ensures.grid c.eq-is_water.ensures
+
+pub returns-in-Jumps-Tables-default-clause-serves : goal.returns-in-Jumps-Tables-default-clause-serves
+returns-in-Jumps-Tables-default-clause-serves g c =
+    let arm = c.in-Jumps-Tables-default in
+    let kept = rw (arm.is, arm.finder-is) at c.requires.kept.serves in (
+      places_stay c.args.self.now.grids.land c.args.c _ c.set_and_mend.ensures.grid kept.0,
+      (c.set_and_mend.ensures.tables, c.set_and_mend-in-Jumps-Tables-default.ensures.tables),
+    )
+
+pub returns-in-Jumps-Tables-default-clause-engine : goal.returns-in-Jumps-Tables-default-clause-engine
+returns-in-Jumps-Tables-default-clause-engine g c =
+    let arm = c.in-Jumps-Tables-default in sym (ap engine_of arm.is ∙ ap engine_with arm.finder-is)
+
+pub returns-in-Jumps-Tables-default-clause-later : goal.returns-in-Jumps-Tables-default-clause-later
+returns-in-Jumps-Tables-default-clause-later g c =
+    later_on c.args.steps.now c.set_and_mend.new.steps c.set_and_mend-in-Jumps-Tables-default.new.steps
+    c.set_and_mend.ensures.later c.set_and_mend-in-Jumps-Tables-default.ensures.later
+
+pub returns-in-Jumps-Bits-default-clause-land : goal.returns-in-Jumps-Bits-default-clause-land
+returns-in-Jumps-Bits-default-clause-land g c =
+    edited_by c.args.self.now.grids.land c.args.c Land c.args.to c.set.ensures.edited c.eq-is_land.ensures
+
+pub returns-in-Jumps-Bits-default-clause-water : goal.returns-in-Jumps-Bits-default-clause-water
+returns-in-Jumps-Bits-default-clause-water g c =
+    edited_by c.args.self.now.grids.water c.args.c Water c.args.to c.set-in-Jumps-Bits-default.ensures.edited
+    c.eq-is_water.ensures
+
+pub returns-in-Jumps-Bits-default-clause-engine : goal.returns-in-Jumps-Bits-default-clause-engine
+returns-in-Jumps-Bits-default-clause-engine g c =
+    let arm = c.in-Jumps-Bits-default in sym (ap engine_of arm.is ∙ ap engine_with arm.finder-is)
+
+pub returns-in-Jumps-Bits-default-clause-counted : goal.returns-in-Jumps-Bits-default-clause-counted
+returns-in-Jumps-Bits-default-clause-counted g c =
+    let arm = c.in-Jumps-Bits-default in
+    subst (λ (e : Engine). IsEditCounted e (as_layers c.args.self.now.grids) (record {
+      land = c.set.new.self;
+      water = c.set-in-Jumps-Bits-default.new.self;
+    }) c.args.steps.now c.args.steps.now) (sym (ap engine_of arm.is ∙ ap engine_with arm.finder-is)) refl
+
+pub returns-in-Jumps-Bits-default-clause-later : goal.returns-in-Jumps-Bits-default-clause-later
+returns-in-Jumps-Bits-default-clause-later g c = no_less c.args.steps.now
+
+pub returns-in_default-clause-land : goal.returns-in_default-clause-land
+returns-in_default-clause-land g c =
+    edited_by c.args.self.now.grids.land c.args.c Land c.args.to c.set-in_default.ensures.edited
+    c.eq-is_land.ensures
+
+pub returns-in_default-clause-water : goal.returns-in_default-clause-water
+returns-in_default-clause-water g c =
+    edited_by c.args.self.now.grids.water c.args.c Water c.args.to c.set-in_default-2.ensures.edited
+    c.eq-is_water.ensures
+
+pub returns-in_default-clause-later : goal.returns-in_default-clause-later
+returns-in_default-clause-later g c = no_less c.args.steps.now
