@@ -6,12 +6,13 @@ use Rattle.io_edge.specs.Told.{Disk, Held, Inflow, Outflow}
 use Rattle.word_list.specs.Calls.{is_call}
 use Rattle.word_list.specs.Request.{Call}
 use Rattle.word_list.specs.Rule.{IsBadWord}
-use Rattle.jps_run.specs.Ending.{Comes, Gets, HasFailed, HasLines, HasPart, of_file, of_input, of_all}
-use Rattle.jps_run.specs.Ending.{of_taken, none, some, first}
+use Rattle.jps_run.specs.Counting.{RoseAsCalled, RoseForCall}
+use Rattle.jps_run.specs.Ending.{CanHear, Comes, Gets, HasFailed, HasLines, HasPart, InputRose, NamedRose}
+use Rattle.jps_run.specs.Ending.{ending_line, of_file, of_input, of_all, of_taken, none, some, first}
 use Rattle.call_files.specs.FaultLines.{word_line}
 use Rattle.call_files.specs.Files.{HasRefused, FileRose}
 use Rattle.jps_run.specs.Live.{AreHeard, WroteHeard, WrotePending, WroteSomeTaken, WroteLinesTaken}
-use Rattle.jps_run.specs.Calls.{files_of, reads_input}
+use Rattle.jps_run.specs.Calls.{MayHear, files_of, reads_input}
 use Rattle.jps_run.specs.Outcome.{Spell, IsOutput, answered, bad_line, bad_word, bad_text, done}
 use Rattle.line_work.specs.Sending.{IsAll, IsPart, AreLines, Wrote}
 use Rattle.line_work.proofs.Pieces.{nothing}
@@ -21,7 +22,7 @@ module _ (words : List (List ℕ)) (holds : List ℕ → Held) (input : Option (
     (out out_now err err_now : Outflow)
   where
     -- the words are refused
-    pub word-comes : (number status : ℕ) → IsBadWord is_call words number → (status ≡ 2) ⊎ (status ≡ 6)
+    word-comes : (number status : ℕ) → IsBadWord is_call words number → (status ≡ 2) ⊎ (status ≡ 6)
         → (status ≡ 2 → Gets err err_now (word_line number)) → status ≤ 3
         → Comes words holds input out out err err_now status
     word-comes number status bad (inl two) told few = record {
@@ -39,7 +40,7 @@ module _ (words : List (List ℕ)) (holds : List ℕ → Held) (input : Option (
     heard-by call h = retold h h.known.stand
 
     -- the call was done
-    pub call-comes : (call : Call) (status : ℕ) → Spell words call
+    call-comes : (call : Call) (status : ℕ) → Spell words call
         → IsAll (IsOutput call holds) out out_now status
         ⊎ ((status ≡ 0) × WroteHeard call holds out out_now input None) → Gets err err_now []
         → Comes words holds input out out_now err err_now status
@@ -59,7 +60,7 @@ module _ (words : List (List ℕ)) (holds : List ℕ → Held) (input : Option (
     }
 
     -- a text is refused, or what comes in
-    pub text-comes : (call : Call) (line bytes : List ℕ) → Spell words call
+    text-comes : (call : Call) (line bytes : List ℕ) → Spell words call
         → (HasRefused holds (files_of call) line × Wrote out out_now [])
         ⊎ WroteHeard call holds out out_now input (Some line) → bytes ≡ line
         → Gets err err_now bytes → Comes words holds input out out_now err err_now 3
@@ -81,7 +82,7 @@ module _ (words : List (List ℕ)) (holds : List ℕ → Held) (input : Option (
 module _ (words : List (List ℕ)) (disk disk_now : Disk) (input input_now : Inflow) (out out_now : Outflow)
     (call : Call) (spelled : Spell words call) where
   -- a read failed
-  pub read-comes : (FileRose (files_of call) disk disk_now × Wrote out out_now [])
+  read-comes : (FileRose (files_of call) disk disk_now × Wrote out out_now [])
       ⊎ ((reads_input call.request.command ≡ true) × Rose input.faults input_now.faults
       × WrotePending call disk.holds out out_now input.left input_now.left)
       → HasFailed words disk disk_now input input_now out out_now
@@ -89,17 +90,184 @@ module _ (words : List (List ℕ)) (disk disk_now : Disk) (input input_now : Inf
   read-comes (inr f) = of_input (record { call = call; spelled = spelled; reads = f.0; rose = f.1 }) f.2
 
   -- a write failed
-  pub part-comes : IsPart (IsOutput call disk.holds) out out_now
+  part-comes : IsPart (IsOutput call disk.holds) out out_now
       ⊎ WroteSomeTaken call disk.holds out out_now input.left input_now.left
       → HasPart words disk.holds input input_now out out_now
   part-comes (inl p) = of_all call spelled p
   part-comes (inr p) = of_taken call spelled p
 
   -- memory was refused
-  pub memory-comes : Wrote out out_now []
+  memory-comes : Wrote out out_now []
       ⊎ (AreLines (IsOutput call disk.holds) out out_now
       ⊎ WroteLinesTaken call disk.holds out out_now input.left input_now.left)
       → HasLines words disk.holds input input_now out out_now
   memory-comes (inl n) = none n
   memory-comes (inr (inl l)) = some call spelled l
   memory-comes (inr (inr l)) = first call spelled l
+
+-- what is known of a call of `run` that ended with this status
+pub record EndsAs (words : List (List ℕ)) (disk disk_now : Disk) (input input_now : Inflow)
+    (out out_now err err_now : Outflow) (old new status : ℕ) : Type 0 where
+  pub statuses : status ≤ 6
+  pub outcome : status ≤ 3 → Comes words disk.holds input.left out out_now err err_now status
+  pub read : status ≡ 4 → HasFailed words disk disk_now input input_now out out_now
+  pub write : status ≡ 5 → Rose out.faults out_now.faults
+  pub part : status ≡ 5 → HasPart words disk.holds input input_now out out_now
+  pub memory : status ≡ 6 → HasLines words disk.holds input input_now out out_now
+  pub line : 4 ≤ status → Gets err err_now (ending_line status)
+  pub complete : (NamedRose words disk disk_now → ⊥) → (InputRose words input input_now → ⊥)
+      → (Rose out.faults out_now.faults → ⊥) → (status ≤ 3) ⊎ (status ≡ 6)
+  pub unchanged : disk_now.holds ≡ disk.holds
+  pub counted : status ≤ 1 → RoseAsCalled words disk.holds input.left old new
+  pub input_stays : (CanHear words disk.holds → ⊥) → input_now.left ≡ input.left
+
+-- the words were refused
+pub word-ends : (words : List (List ℕ)) (disk : Disk) (input : Inflow) (out err err_now : Outflow)
+    (steps number status : ℕ) → IsBadWord is_call words number → (status ≡ 2) ⊎ (status ≡ 6)
+    → (status ≡ 2 → Gets err err_now (word_line number)) → (status ≡ 6 → Gets err err_now (ending_line 6))
+    → EndsAs words disk disk input input out out err err_now steps steps status
+word-ends words disk input out err err_now steps number status bad (inl two) told memory = record {
+  statuses = omega arith;
+  outcome = word-comes words disk.holds input.left out out err err_now number status bad (inl two) told;
+  read = λ e. absurd (omega arith);
+  write = λ e. absurd (omega arith);
+  part = λ e. absurd (omega arith);
+  memory = λ e. absurd (omega arith);
+  line = λ e. absurd (omega arith);
+  complete = λ named read wrote. inl (omega arith);
+  unchanged = refl;
+  counted = λ few. absurd (omega arith);
+  input_stays = λ not. refl;
+}
+word-ends words disk input out err err_now steps number status bad (inr six) told memory = record {
+  statuses = omega arith;
+  outcome = λ few. absurd (omega arith);
+  read = λ e. absurd (omega arith);
+  write = λ e. absurd (omega arith);
+  part = λ e. absurd (omega arith);
+  memory = λ e. none (nothing out.written);
+  line = λ e. subst (λ n. Gets err err_now (ending_line n)) (sym six) (memory six);
+  complete = λ named read wrote. inr six;
+  unchanged = refl;
+  counted = λ few. absurd (omega arith);
+  input_stays = λ not. refl;
+}
+
+module _ (words : List (List ℕ)) (disk disk_now : Disk) (input input_now : Inflow)
+    (out out_now err err_now : Outflow) (old new : ℕ) (call : Call) (spelled : Spell words call)
+    (unchanged : disk_now.holds ≡ disk.holds)
+    (stays : (MayHear call disk.holds → ⊥) → input_now.left ≡ input.left) where
+  stays-so : (CanHear words disk.holds → ⊥) → input_now.left ≡ input.left
+  stays-so not = stays (λ may. not (record { call = call; spelled = spelled; may = may }))
+
+  -- the call was done
+  pub done-ends : (status : ℕ) → (status ≤ 1) × (IsAll (IsOutput call disk.holds) out out_now status
+      ⊎ ((status ≡ 0) × WroteHeard call disk.holds out out_now input.left None)) → Gets err err_now []
+      → RoseForCall call disk.holds input.left old new
+      → EndsAs words disk disk_now input input_now out out_now err err_now old new status
+  done-ends status served told rose = let small : status ≤ 1 = served.0 in record {
+    statuses = omega arith;
+    outcome = λ few. call-comes words disk.holds input.left out out_now err err_now call status spelled
+        served.1 told;
+    read = λ e. absurd (omega arith);
+    write = λ e. absurd (omega arith);
+    part = λ e. absurd (omega arith);
+    memory = λ e. absurd (omega arith);
+    line = λ e. absurd (omega arith);
+    complete = λ named read wrote. inl (omega arith);
+    unchanged = unchanged;
+    counted = λ few. record { call = call; spelled = spelled; counted = rose };
+    input_stays = stays-so;
+  }
+
+  -- a text was refused, or what came in
+  pub text-ends : (line bytes : List ℕ) → (HasRefused disk.holds (files_of call) line × Wrote out out_now [])
+      ⊎ WroteHeard call disk.holds out out_now input.left (Some line) → bytes ≡ line → Gets err err_now bytes
+      → EndsAs words disk disk_now input input_now out out_now err err_now old new 3
+  text-ends line bytes served e told = record {
+    statuses = omega arith;
+    outcome = λ few. text-comes words disk.holds input.left out out_now err err_now call line bytes spelled
+        served e told;
+    read = λ e. absurd (omega arith);
+    write = λ e. absurd (omega arith);
+    part = λ e. absurd (omega arith);
+    memory = λ e. absurd (omega arith);
+    line = λ e. absurd (omega arith);
+    complete = λ named read wrote. inl (omega arith);
+    unchanged = unchanged;
+    counted = λ few. absurd (omega arith);
+    input_stays = stays-so;
+  }
+
+  one-rose : (FileRose (files_of call) disk disk_now × Wrote out out_now [])
+      ⊎ ((reads_input call.request.command ≡ true) × Rose input.faults input_now.faults
+      × WrotePending call disk.holds out out_now input.left input_now.left)
+      → (NamedRose words disk disk_now → ⊥) → (InputRose words input input_now → ⊥) → ⊥
+  one-rose (inl f) named heard = named (record { call = call; spelled = spelled; rose = f.0 })
+  one-rose (inr f) named heard =
+      heard (record { call = call; spelled = spelled; reads = f.0; rose = f.1 })
+
+  -- a read failed
+  pub read-ends : (FileRose (files_of call) disk disk_now × Wrote out out_now [])
+      ⊎ ((reads_input call.request.command ≡ true) × Rose input.faults input_now.faults
+      × WrotePending call disk.holds out out_now input.left input_now.left) → Gets err err_now (ending_line 4)
+      → EndsAs words disk disk_now input input_now out out_now err err_now old new 4
+  read-ends served told = record {
+    statuses = omega arith;
+    outcome = λ few. absurd (omega arith);
+    read = λ e. read-comes words disk disk_now input input_now out out_now call spelled served;
+    write = λ e. absurd (omega arith);
+    part = λ e. absurd (omega arith);
+    memory = λ e. absurd (omega arith);
+    line = λ e. told;
+    complete = λ named heard wrote. absurd (one-rose served named heard);
+    unchanged = unchanged;
+    counted = λ few. absurd (omega arith);
+    input_stays = stays-so;
+  }
+
+  -- a write failed
+  pub write-ends : Rose out.faults out_now.faults × (IsPart (IsOutput call disk.holds) out out_now
+      ⊎ WroteSomeTaken call disk.holds out out_now input.left input_now.left) → Gets err err_now (ending_line 5)
+      → EndsAs words disk disk_now input input_now out out_now err err_now old new 5
+  write-ends served told = record {
+    statuses = omega arith;
+    outcome = λ few. absurd (omega arith);
+    read = λ e. absurd (omega arith);
+    write = λ e. served.0;
+    part = λ e. part-comes words disk disk_now input input_now out out_now call spelled served.1;
+    memory = λ e. absurd (omega arith);
+    line = λ e. told;
+    complete = λ named read wrote. absurd (wrote served.0);
+    unchanged = unchanged;
+    counted = λ few. absurd (omega arith);
+    input_stays = stays-so;
+  }
+
+  -- memory was refused
+  starved : Wrote out out_now [] ⊎ (AreLines (IsOutput call disk.holds) out out_now
+      ⊎ WroteLinesTaken call disk.holds out out_now input.left input_now.left)
+      → Gets err err_now (ending_line 6)
+      → EndsAs words disk disk_now input input_now out out_now err err_now old new 6
+  starved served told = record {
+    statuses = omega arith;
+    outcome = λ few. absurd (omega arith);
+    read = λ e. absurd (omega arith);
+    write = λ e. absurd (omega arith);
+    part = λ e. absurd (omega arith);
+    memory = λ e. memory-comes words disk disk_now input input_now out out_now call spelled served;
+    line = λ e. told;
+    complete = λ named read wrote. inr refl;
+    unchanged = unchanged;
+    counted = λ few. absurd (omega arith);
+    input_stays = stays-so;
+  }
+
+  pub memory-ends : (status : ℕ) → status ≡ 6 → Wrote out out_now []
+      ⊎ (AreLines (IsOutput call disk.holds) out out_now
+      ⊎ WroteLinesTaken call disk.holds out out_now input.left input_now.left)
+      → Gets err err_now (ending_line 6)
+      → EndsAs words disk disk_now input input_now out out_now err err_now old new status
+  memory-ends status six served told =
+      subst (λ n. EndsAs words disk disk_now input input_now out out_now err err_now old new n) (sym six)
+      (starved served told)

@@ -99,6 +99,13 @@ ruling_lines-append number (r ∷ some) others =
     ∙ ap (λ n. ruling_lines (number + 1) some ++ ruling_lines n others)
     (let e : number + 1 + length some ≡ number + suc (length some) = omega arith in e))
 
+-- a walk is left, and room for its row
+pub one-left : (rows n many : ℕ) → rows + (n + 1) ≤ many → rows < many
+one-left rows n many left = omega arith
+
+pub one-fewer : (rows n many : ℕ) → rows + (n + 1) < many → rows + 1 < many
+one-fewer rows n many few = omega arith
+
 -- one row more leaves room for one less
 pub goes-on : {T E : Type 0} (result : Result T E) (job now : Judge) (r : Ruling)
     (room : HasRoomForOne (CanGoOn job)) → now.walks ≡ job.walks

@@ -1,5 +1,6 @@
 pub mod SessionReply
 pub mod Replying
+pub mod Answerers
 pub mod Existing
 pub mod Loading
 pub mod Solving
@@ -14,6 +15,7 @@ pub mod HeardCounts
 pub mod Tallies
 pub mod ScenRows
 pub mod Judged
+pub mod Counted
 pub mod Querying
 pub mod Performing
 pub mod Opening

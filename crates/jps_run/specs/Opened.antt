@@ -1,6 +1,6 @@
 -- What a call is opened as: the work that is left to be done once its files are read. No public clause cites
 -- this module.
-use Rattle.std.specs.Prelude.{◌≡◌, ℕ, ◌≤◌, ◌⊎◌, true, false, List, [], Result}
+use Rattle.std.specs.Prelude.{◌≡◌, ℕ, ◌≤◌, ◌⊎◌, true, false, List, [], Result, Ok, Err}
 use Rattle.io_edge.specs.Told.{Disk, Held}
 use Rattle.word_list.specs.Request.{Call}
 use Rattle.call_files.specs.Files.{AreAccepted}
@@ -56,3 +56,8 @@ OpensListener call disk disk_now result =
 abbrev pub Opens : Call → Disk → Disk → Result Opened Stop → Type 0
 Opens call disk disk_now result =
     Ends (IsOpenedAs call disk.holds) (open_stops disk disk_now (files_of call)) result
+
+-- the work that was opened, or why that stopped, as what a call is opened as
+abbrev pub opened_as : Result Work Stop → Result Opened Stop
+opened_as (Ok work) = Ok (opened.Work work)
+opened_as (Err stop) = Err stop

@@ -3,7 +3,7 @@
 ghost use Rattle.std.specs.Prelude.{◌≡◌, map, string_bytes};
 ghost use Rattle.word_list.specs.Kinds.{number_at};
 ghost use Rattle.word_list.specs.Request.{IsSound, called};
-ghost use Rattle.jps_run.specs.Opened.{Opens};
+ghost use Rattle.jps_run.specs.Opened.{Opens, opened_as};
 
 mod boxes;
 mod check;
@@ -69,25 +69,32 @@ pub(crate) fn open<F: Files>(
     ensures unchanged { (F.disk files.new).holds ≡ (F.disk files.old).holds }
 {
     match request.command {
-        Command::Query => Ok(Opened::Work(query(alloc, request, settings, files)?)),
-        Command::Solve => Ok(Opened::Work(solve(alloc, request, settings, files)?)),
-        Command::Scen => Ok(Opened::Work(scen(alloc, request, settings, files)?)),
-        Command::Judge => Ok(Opened::Work(judge(alloc, request, settings, files)?)),
-        Command::Lengths => Ok(Opened::Work(lengths(alloc, request, settings, files)?)),
-        Command::Problems => Ok(Opened::Work(problems(alloc, request, settings, files)?)),
-        Command::Prove => Ok(Opened::Work(prove(alloc, request, settings, files)?)),
-        Command::Check => Ok(Opened::Work(check(alloc, request, settings, files)?)),
+        Command::Query => as_work(query(alloc, request, settings, files)),
+        Command::Solve => as_work(solve(alloc, request, settings, files)),
+        Command::Scen => as_work(scen(alloc, request, settings, files)),
+        Command::Judge => as_work(judge(alloc, request, settings, files)),
+        Command::Lengths => as_work(lengths(alloc, request, settings, files)),
+        Command::Problems => as_work(problems(alloc, request, settings, files)),
+        Command::Prove => as_work(prove(alloc, request, settings, files)),
+        Command::Check => as_work(check(alloc, request, settings, files)),
         Command::Make => Ok(Opened::Work(make(alloc, request, settings)?)),
         Command::Drill => Ok(Opened::Work(drill(alloc, request, settings)?)),
-        Command::Draw => Ok(Opened::Work(draw(alloc, request, settings, files)?)),
-        Command::Costs => Ok(Opened::Work(costs(alloc, request, settings, files)?)),
-        Command::Tables => Ok(Opened::Work(tables(alloc, request, settings, files)?)),
-        Command::Boxes => Ok(Opened::Work(boxes(alloc, request, settings, files)?)),
-        Command::Moves => Ok(Opened::Work(moves(alloc, request, settings, files)?)),
+        Command::Draw => as_work(draw(alloc, request, settings, files)),
+        Command::Costs => as_work(costs(alloc, request, settings, files)),
+        Command::Tables => as_work(tables(alloc, request, settings, files)),
+        Command::Boxes => as_work(boxes(alloc, request, settings, files)),
+        Command::Moves => as_work(moves(alloc, request, settings, files)),
         Command::Live => Ok(Opened::Listener(live(alloc, request, settings, files)?)),
         Command::Help => Ok(Opened::Work(Work::Say(help_text()))),
         Command::Version => Ok(Opened::Work(Work::Say(version_text()))),
     }
+}
+
+// What a call is opened as, where that is work.
+fn as_work(work: Result<Work, Stop>) -> Result<Opened, Stop>
+    ensures { result ≡ opened_as work }
+{
+    Ok(Opened::Work(work?))
 }
 
 /// The ends of a query that the words tell from the second one on.

@@ -1,4 +1,5 @@
-use Rattle.std.proofs.Common.{◌≡◌, ◌≤◌, ◌^◌, refl, sym, ap, ◌∙◌, subst, List, [], ◌∷◌, length, arith}
+use mir.Syntax.{w32}
+use Rattle.std.proofs.Common.{◌≡◌, ◌≤◌, ◌^◌, ℕ, Fits, refl, sym, ap, ◌∙◌, subst, List, [], ◌∷◌, length, arith}
 use Rattle.std.specs.Prelude.{Result}
 use Rattle.scen_text.specs.declared.entry.Entry.{Entry}
 use Rattle.scen_text.specs.declared.fault.ScenFault.{ScenFault}
@@ -10,14 +11,15 @@ use Rattle.call_files.proofs.Opening.{both-accepted, fell-on, next-file, none-fe
 use Rattle.call_files.proofs.Opening.{third-accepted}
 use Rattle.jps_run.proofs.replies.case.read_case.Goals as goal
 
+fits_count : (n many : ℕ) → n ≡ many → many ≤ 2 ^ 26 → Fits w32 n
+fits_count n many e few = omega arith
+
 pub overflow_cast-count : goal.overflow_cast-count
 overflow_cast-count g c =
     let r = c.in_ok-costs.ensures.read [] tt in
-    let few : length c.in_ok-entries.entries.items ≤ 2 ^ 26 =
-    (c.in_ok-entries.ensures.read (r.text ∷ []) tt).spelled.2 in
-    let many : c.len.result ≡ length c.in_ok-entries.entries.items =
-    c.len.ensures ∙ c.in_ok-entries.entries.ok.0 in
-    omega arith
+    fits_count c.len.result (length c.in_ok-entries.entries.items)
+    (c.len.ensures ∙ c.in_ok-entries.entries.ok.0)
+    (c.in_ok-entries.ensures.read (r.text ∷ []) tt).spelled.2
 
 pub returns-in_err-costs-clause-read : goal.returns-in_err-costs-clause-read
 returns-in_err-costs-clause-read g c =
@@ -84,3 +86,18 @@ returns-clause-read g c =
       walks = subst (λ n. SpellsWalks n w.text c.in_ok-walks.walks)
           (c.len.ensures ∙ c.in_ok-entries.entries.ok.0) w.spelled;
     }
+
+pub returns-in_err-costs-clause-unchanged : goal.returns-in_err-costs-clause-unchanged
+returns-in_err-costs-clause-unchanged g c = c.in_err-costs.ensures.unchanged
+
+pub returns-in_err-entries-clause-unchanged : goal.returns-in_err-entries-clause-unchanged
+returns-in_err-entries-clause-unchanged g c =
+    c.in_err-entries.ensures.unchanged ∙ c.in_ok-costs.ensures.unchanged
+
+pub returns-in_err-walks-clause-unchanged : goal.returns-in_err-walks-clause-unchanged
+returns-in_err-walks-clause-unchanged g c =
+    c.in_err-walks.ensures.unchanged ∙ c.in_ok-entries.ensures.unchanged ∙ c.in_ok-costs.ensures.unchanged
+
+pub returns-clause-unchanged : goal.returns-clause-unchanged
+returns-clause-unchanged g c =
+    c.in_ok-walks.ensures.unchanged ∙ c.in_ok-entries.ensures.unchanged ∙ c.in_ok-costs.ensures.unchanged

@@ -1,8 +1,8 @@
-use Rattle.std.proofs.Common.{refl, [], ◌∷◌}
+use Rattle.std.proofs.Common.{◌∙◌, refl, [], ◌∷◌}
 use Rattle.map_text.specs.Faults.{plain}
 use Rattle.call_files.specs.Files.{file_of}
 use Rattle.call_files.specs.declared.kind.Kind.TheVariants as kinds
-use Rattle.call_files.proofs.Opening.{both-accepted, next-file, none-fell, reading-stops}
+use Rattle.call_files.proofs.Opening.{both-accepted, fell-on, next-file, none-fell, reading-stops}
 use Rattle.jps_run.proofs.replies.sessions.open_loaded.Goals as goal
 
 pub returns-in_err-map-clause-read : goal.returns-in_err-map-clause-read
@@ -45,3 +45,29 @@ returns-clause-read g c =
           r.accepted c.in_ok-map.ensures.unchanged s.accepted;
       is = record { map = plain c.in_ok-map.map; spelled = r.spelled.0; is = c.in_ok-session.ensures };
     }
+
+pub returns-in_err-map-clause-unchanged : goal.returns-in_err-map-clause-unchanged
+returns-in_err-map-clause-unchanged g c = c.in_err-map.ensures.unchanged
+
+pub returns-in_err-map-clause-later : goal.returns-in_err-map-clause-later
+returns-in_err-map-clause-later g c = c.in_err-map.ensures.later
+
+pub returns-in_err-tables-clause-unchanged : goal.returns-in_err-tables-clause-unchanged
+returns-in_err-tables-clause-unchanged g c =
+    c.in_err-tables.ensures.unchanged ∙ c.in_ok-map.ensures.unchanged
+
+pub returns-in_err-tables-clause-later : goal.returns-in_err-tables-clause-later
+returns-in_err-tables-clause-later g c = fell-on c.in_ok-map.ensures.later c.in_err-tables.ensures.later
+
+pub returns-in_err-session-clause-unchanged : goal.returns-in_err-session-clause-unchanged
+returns-in_err-session-clause-unchanged g c =
+    c.in_ok-tables.ensures.unchanged ∙ c.in_ok-map.ensures.unchanged
+
+pub returns-in_err-session-clause-later : goal.returns-in_err-session-clause-later
+returns-in_err-session-clause-later g c = fell-on c.in_ok-map.ensures.later c.in_ok-tables.ensures.later
+
+pub returns-clause-unchanged : goal.returns-clause-unchanged
+returns-clause-unchanged g c = c.in_ok-tables.ensures.unchanged ∙ c.in_ok-map.ensures.unchanged
+
+pub returns-clause-later : goal.returns-clause-later
+returns-clause-later g c = fell-on c.in_ok-map.ensures.later c.in_ok-tables.ensures.later

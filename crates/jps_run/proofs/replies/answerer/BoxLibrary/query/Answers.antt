@@ -1,0 +1,29 @@
+use Rattle.std.proofs.Common.{refl}
+use Rattle.grid_moves.specs.Layers.{query_grid}
+use Rattle.word_list.specs.declared.request.SmallEngine.TheVariants.{Boxes}
+use Rattle.jps_run.specs.Who.{by_boxes}
+use Rattle.jps_run.proofs.Answerers.{one-between}
+use Rattle.jps_run.proofs.Replying.{result-on-map, unsearched-small}
+use Rattle.jps_run.proofs.replies.answerer.BoxLibrary.query.Goals as goal
+
+pub search-requires : goal.search-requires
+search-requires c = record {
+  land = c.requires.ready.1;
+  water = c.requires.ready.2;
+  one = one-between c.args.self.now.layers _ _ c.in-Ok.both.from c.in-Ok.both.to c.in-Ok.ensures.from
+      c.in-Ok.ensures.to c.in-Ok.ensures.one;
+}
+
+pub returns-in-Ok : goal.returns-in-Ok
+returns-in-Ok c = record {
+  reply = result-on-map c.search.result c.args.self.now.layers by_boxes
+      (query_grid c.args.self.now.layers c.in-Ok.both.from) _ _ c.in-Ok.both.from c.in-Ok.both.to
+      c.in-Ok.ensures.from c.in-Ok.ensures.to refl c.in-Ok.ensures.free c.search.ensures.right
+      c.search.ensures.run;
+}
+
+pub returns-in-Err : goal.returns-in-Err
+returns-in-Err c = record {
+  reply = rw c.unsearched.ensures (unsearched-small Boxes c.args.self.now.layers _ _ c.in-Err.why
+      c.in-Err.ensures);
+}
