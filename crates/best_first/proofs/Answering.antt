@@ -36,8 +36,8 @@ module _ (width height : ℕ) (goal : Cell) (link : Links) (links : AreLinks wid
 
   -- what a run answers, where it took the goal or not
   told : List (Taken State) → Bool → Found
-  told run true = record { walk = walk_told run; taken = numbers_of width run }
-  told run false = record { walk = None; taken = numbers_of width run }
+  told run true = record { walk = walk_told run; taken = numbers_of width link run }
+  told run false = record { walk = None; taken = numbers_of width link run }
 
   -- an ended run whose answer this is
   record EndsWith (f : Found) : Type 0 where
@@ -124,7 +124,7 @@ module _ (width height : ℕ) (goal : Cell) (link : Links) (links : AreLinks wid
         points = shown (map (λ u. u.cell) (way_to (search_rule width goal link) (x ∷ earlier) x.state));
         cost = x.cost;
       });
-      taken = numbers_of width (x ∷ earlier);
+      taken = numbers_of width link (x ∷ earlier);
     },
     record {
       earlier = earlier;
@@ -138,7 +138,7 @@ module _ (width height : ℕ) (goal : Cell) (link : Links) (links : AreLinks wid
   )
   by_end (x ∷ earlier) is (inl met) false h = absurd (cc)
   by_end (x ∷ earlier) is (inr none) false h = (
-    record { walk = None; taken = numbers_of width (x ∷ earlier) },
+    record { walk = None; taken = numbers_of width link (x ∷ earlier) },
     record { run = x ∷ earlier; is_run = is; no_goal = h; none_waits = none; numbered = refl },
   )
 

@@ -69,8 +69,8 @@ module _ (width height : ℕ) (goal : Cell) (link : Links) (links : AreLinks wid
       grind (arith, last_or_before y n k, among-append, in_map n x y a h)
 
   covered : IsCovered (search_rule width goal link) (states_of_map width height)
-  covered u v c e =
-      let on = links.lands u v c e in in_map height v.cell.x v.cell.y v.arrival on.0 on.1
+  covered p u v c e =
+      let on = links.lands p u v c e in in_map height v.cell.x v.cell.y v.arrival on.0 on.1
 
   -- the run from a cell ends
   pub has_ended_run : (start : Cell) → HasEndedRun (search_rule width goal link) (start_at start)

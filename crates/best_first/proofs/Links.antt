@@ -21,7 +21,7 @@ estimate_triangle u v goal = grind (arith, octile_triangle)
 pub consistent : (width height : ℕ) (goal : Cell) (link : Links) → AreLinks width height link
     → IsConsistent (search_rule width goal link)
 consistent width height goal link a = record {
-  falls = λ u v c e. rw (a.priced u v c e) (estimate_triangle u.cell v.cell goal);
+  falls = λ p u v c e. rw (a.priced p u v c e) (estimate_triangle u.cell v.cell goal);
   nothing = λ s e. rw (is_same-cell s.cell goal e) (estimate_nothing goal);
   one = is_same_state-state;
   itself = is_same_state-itself;

@@ -22,26 +22,50 @@ use Rattle.best_first.proofs.Bounds.{few_taken}
 use Rattle.best_first.proofs.Backing.{back_of, back_is_one}
 
 -- one state more is one number more
-numbers-next : (width : ℕ) (x : Taken State) (run : List (Taken State))
-    → numbers_of width (x ∷ run) ≡ numbers_of width run ++ state_number width x.state ∷ []
-numbers-next width x run =
-    reverse-append (state_number width x.state ∷ []) (map (λ u. state_number width u.state) run)
+numbers-next : (width : ℕ) (link : Links) (x : Taken State) (run : List (Taken State))
+    → numbers_of width link (x ∷ run)
+    ≡ numbers_of width link run ++ state_number width (link.arrived x.parent x.state) ∷ []
+numbers-next width link x run = reverse-append (state_number width (link.arrived x.parent x.state) ∷ [])
+    (map (λ u. state_number width (link.arrived u.parent u.state)) run)
+
+-- a number is that of the state of a node, told by its place and with how it was come to, whatever from
+abbrev pub IsShown : Layout → ℕ → Links → Node → ℕ → Type 0
+IsShown layout width link node number =
+    (p : State) → link.led p (state_told node.place) ≡ true
+    → number ≡ state_number width (link.arrived p (state_of layout node))
 
 pub reverse-twice : {X : Type 0} (xs : List X) → reverse (reverse xs) ≡ xs
 reverse-twice [] = refl
 reverse-twice (x ∷ xs) = ap reverse (reverse-append (x ∷ []) xs) ∙ reverse-append (reverse xs) (x ∷ [])
     ∙ ap (λ (ys : List _). x ∷ ys) (reverse-twice xs)
 
+-- what stands in the place of the last state's node was led there from the state's parent
+pub last_led : {layout : Layout} {width : ℕ} {goal : Cell} {link : Links} {start : Cell} {x : Taken State}
+    {earlier : List (Taken State)} {at : ℕ} {best : Offers} {k : Table}
+    (i : IsSearching layout width goal link start x earlier at best k)
+    → link.led x.parent (state_told i.node.place) ≡ true
+last_led {link = link} {x = x} {earlier = earlier} {at = at} i =
+    let o = i.mirrors.in_order at i.node i.node_is in
+    let from = (o.taken_by x (here earlier) (sym i.state)).1 in
+    ap (λ (s : State). link.led s (state_told i.node.place)) from ∙ o.led
+
+-- where states are printed as they are, a number is that of the node's state
+pub shown_plainly : (layout : Layout) (width : ℕ) (link : Links) (node : Node) (number : ℕ)
+    → ((p s : State) → link.arrived p s ≡ s) → number ≡ state_number width (state_of layout node)
+    → IsShown layout width link node number
+shown_plainly layout width link node number same e p l =
+    e ∙ ap (λ (s : State). state_number width s) (sym (same p (state_of layout node)))
+
 module _ {width height : ℕ} {start goal : Cell} {link : Links}
     (fit : IsSearch width height start goal link) where
   -- at the start
-  pub has_begun : (layout : Layout) → HasTaken layout width goal link start 0 (begun goal start)
-      (state_number width (start_at start) ∷ [])
-  has_begun layout = record {
+  pub has_begun : (layout : Layout) → link.arrived (start_at start) (start_at start) ≡ start_at start
+      → HasTaken layout width goal link start 0 (begun goal start) (state_number width (start_at start) ∷ [])
+  has_begun layout e = record {
     last = at_start start;
     earlier = [];
     searching = started layout fit;
-    numbered = refl;
+    numbered = ap (λ (s : State). state_number width s ∷ []) (sym e);
   }
 
 module _ {layout : Layout} {width height : ℕ} {start goal : Cell} {link : Links}
@@ -49,21 +73,24 @@ module _ {layout : Layout} {width height : ℕ} {start goal : Cell} {link : Link
   -- after its offers, the next state
   pub next_taken : HasOffered layout width goal link start at k taken
       → (id : ℕ) (node : Node) → IsFirstNode k id → slice_get k.nodes id ≡ Some node
-      → HasTaken layout width goal link start id (closed_at id k)
-      (taken ++ state_number width (state_of layout node) ∷ [])
-  next_taken h id node f read =
+      → (number : ℕ) → IsShown layout width link node number
+      → HasTaken layout width goal link start id (closed_at id k) (taken ++ number ∷ [])
+  next_taken h id node f read number shown =
       let on = going_on fit h.searching h.open_ended h.all_made id f in
       let one : node ≡ on.1.node = some_node node on.1.node (sym read ∙ on.1.node_is) in
       let state : state_of layout node ≡ on.0.state =
       ap (λ (x : Node). state_of layout x) one ∙ on.1.state in
+      let led : link.led on.0.parent (state_told node.place) ≡ true =
+      ap (λ (x : Node). link.led on.0.parent (state_told x.place)) one ∙ last_led on.1 in
       record {
         last = on.0;
         earlier = h.last ∷ h.earlier;
         searching = on.1;
         numbered =
-            ap (λ (ns : List ℕ). ns ++ state_number width (state_of layout node) ∷ []) h.numbered
-            ∙ ap (λ (s : State). numbers_of width (h.last ∷ h.earlier) ++ state_number width s ∷ []) state
-            ∙ sym (numbers-next width on.0 (h.last ∷ h.earlier));
+            ap (λ (ns : List ℕ). ns ++ number ∷ []) h.numbered
+            ∙ ap (λ (n : ℕ). numbers_of width link (h.last ∷ h.earlier) ++ n ∷ [])
+            (shown on.0.parent led ∙ ap (λ (s : State). state_number width (link.arrived on.0.parent s)) state)
+            ∙ sym (numbers-next width link on.0 (h.last ∷ h.earlier));
       }
 
   -- or none waits
@@ -79,13 +106,14 @@ module _ {layout : Layout} {width height : ℕ} {start goal : Cell} {link : Link
       (subst (λ n. n ≤ height * width * 9) (sym (length-numbers (h.last ∷ h.earlier)))
       (few_taken fit.posed (h.last ∷ h.earlier) h.searching.run))
     where
-      length-map : (run : List (Taken State)) → length (map (λ u. state_number width u.state) run)
-          ≡ length run
+      length-map : (run : List (Taken State))
+          → length (map (λ u. state_number width (link.arrived u.parent u.state)) run) ≡ length run
       length-map [] = refl
       length-map (x ∷ run) = ap (λ n. suc n) (length-map run)
 
-      length-numbers : (run : List (Taken State)) → length (numbers_of width run) ≡ length run
-      length-numbers run = length-reverse (map (λ u. state_number width u.state) run) ∙ length-map run
+      length-numbers : (run : List (Taken State)) → length (numbers_of width link run) ≡ length run
+      length-numbers run = length-reverse (map (λ u. state_number width (link.arrived u.parent u.state)) run)
+          ∙ length-map run
 
   module _ (h : HasTaken layout width goal link start at k taken) where
     abbrev cells : List Cell
@@ -113,13 +141,3 @@ module _ {layout : Layout} {width height : ℕ} {start goal : Cell} {link : Link
     way_is points cost w =
         let one = back_is_one goal k.nodes at (reverse points) (reverse cells) cost h.last.cost w last_back in
         (sym (reverse-twice points) ∙ ap reverse one.0 ∙ reverse-twice cells, one.1)
-
--- what stands in the place of the last state's node was led there from the state's parent
-pub last_led : {layout : Layout} {width : ℕ} {goal : Cell} {link : Links} {start : Cell} {x : Taken State}
-    {earlier : List (Taken State)} {at : ℕ} {best : Offers} {k : Table}
-    (i : IsSearching layout width goal link start x earlier at best k)
-    → link.led x.parent (state_told i.node.place) ≡ true
-last_led {link = link} {x = x} {earlier = earlier} {at = at} i =
-    let o = i.mirrors.in_order at i.node i.node_is in
-    let from = (o.taken_by x (here earlier) (sym i.state)).1 in
-    ap (λ (s : State). link.led s (state_told i.node.place)) from ∙ o.led

@@ -58,7 +58,7 @@ module _ {width height : ℕ} {start goal : Cell} {link : Links}
   run_on (x ∷ y ∷ earlier) is u (here z) =
       let from = least_offer-from (search_rule width goal link) (y ∷ earlier) x.state
       (record { cost = x.cost; from = x.parent }) is.2.offered in
-      posed.links.lands from.by.state x.state from.offered.step from.offered.linked
+      posed.links.lands from.by.parent from.by.state x.state from.offered.step from.offered.linked
   run_on (x ∷ y ∷ earlier) is u (there z e m) = run_on (y ∷ earlier) is.0 u m
 
   -- and the start is one of them
@@ -79,7 +79,7 @@ module _ {width height : ℕ} {start goal : Cell} {link : Links}
 -- the offer is one over a link of the taken state, whose node has this number
 pub record IsOver (layout : Layout) (link : Links) (x : Taken State) (at : ℕ) (o : Way)
     (c : Cost) : Type 0 where
-  pub linked : link.step x.state (state_in layout o.to) ≡ Some c
+  pub linked : link.step x.parent x.state (state_in layout o.to) ≡ Some c
   pub ranked : o.rank ≡ rank_of (add_costs x.cost c)
   pub parent : o.parent ≡ at
   pub led : link.led x.state o.to ≡ true
@@ -168,7 +168,7 @@ module _ {width height : ℕ} {start goal : Cell} {link : Links}
       total = add_costs x.cost c
 
       lands : LiesOn width height to.cell
-      lands = fit.posed.links.lands x.state to c over.linked
+      lands = fit.posed.links.lands x.parent x.state to c over.linked
 
       -- an offer over a link keeps the run
       fits : IsFitting layout width goal link run k o total i.node
@@ -178,7 +178,7 @@ module _ {width height : ℕ} {start goal : Cell} {link : Links}
         ranked = over.ranked;
         short = sum_short to.cell total lands
             (let f = fit.few run x i.run (here earlier) in
-            let b : c.a + c.b ≤ 4096 = rw (fit.posed.links.priced x.state to c over.linked)
+            let b : c.a + c.b ≤ 4096 = rw (fit.posed.links.priced x.parent x.state to c over.linked)
             (short_link width height x.state.cell to.cell fit.posed.narrow fit.posed.low
             (run_on fit.posed run i.run x (here earlier)) lands) in
             omega arith);
@@ -192,7 +192,7 @@ module _ {width height : ℕ} {start goal : Cell} {link : Links}
           subst (λ (a : ℕ). a ≤ (node_for goal o).key) (sym last_key)
           (subst (λ (b : ℕ). rank_of (sum_at rule x.state x.cost) ≤ b) (sym (new_key i.mirrors fits))
           (most_ranks (sum_at rule x.state x.cost) (sum_at rule to total)
-          (link_rises rule (fair fit.posed) x.state to x.cost c over.linked) last_short fits.short))
+          (link_rises rule (fair fit.posed) x.parent x.state to x.cost c over.linked) last_short fits.short))
 
       below_new : (id : ℕ) (n : Node) → slice_get k.nodes id ≡ Some n
           → is_taken rule run (state_of layout n) ≡ true → n.key ≤ (node_for goal o).key
@@ -261,7 +261,7 @@ module _ {width height : ℕ} {start goal : Cell} {link : Links}
       )
 
       -- no state is left
-      pub ending : NoneOpen k → IsExhausted width goal link start (numbers_of width run)
+      pub ending : NoneOpen k → IsExhausted width goal link start (numbers_of width link run)
       ending shut = record {
         run = run;
         is_run = i.run;

@@ -28,9 +28,9 @@ lesser-none o = grind (arith, nat_tests, common_steps)
 module _ (width : ℕ) (goal : Cell) (link : Links) (y : Taken State) where
   -- each of the ways is a link of the taken state
   abbrev pub AreOfLinks : List Onward → Type 0
-  AreOfLinks ways = (w : Onward) → IsAmong w ways → link.step y.state w.to ≡ Some w.cost
+  AreOfLinks ways = (w : Onward) → IsAmong w ways → link.step y.parent y.state w.to ≡ Some w.cost
 
-  module _ (s : State) (c : Cost) (linked : link.step y.state s ≡ Some c) where
+  module _ (s : State) (c : Cost) (linked : link.step y.parent y.state s ≡ Some c) where
     abbrev made : Option (Offer State)
     made = Some (record { cost = add_costs y.cost c; from = y.state })
 
@@ -42,7 +42,7 @@ module _ (width : ℕ) (goal : Cell) (link : Links) (y : Taken State) where
     again b = grind (arith, nat_tests, common_steps, itself)
 
     -- over one of its links
-    one_over : (best : Offers) (w : Onward) → link.step y.state w.to ≡ Some w.cost
+    one_over : (best : Offers) (w : Onward) → link.step y.parent y.state w.to ≡ Some w.cost
         → ((w ≡ record { to = s; cost = c }) × (with_onward y best w s ≡ lesser (best s) made))
         ⊎ (with_onward y best w s ≡ best s)
     one_over best w l = grind (arith, nat_tests, common_steps, same_or_not, is_same_state-state, same_Some)
@@ -85,7 +85,7 @@ module _ (width : ℕ) (goal : Cell) (link : Links) (y : Taken State) where
     ]
 
   -- where no link leads nothing is offered
-  none_made : (s : State) → link.step y.state s ≡ None → (ways : List Onward) (best : Offers)
+  none_made : (s : State) → link.step y.parent y.state s ≡ None → (ways : List Onward) (best : Offers)
       → AreOfLinks ways
       → with_all y best ways s ≡ best s
   none_made s n [] best l = refl
@@ -94,7 +94,7 @@ module _ (width : ℕ) (goal : Cell) (link : Links) (y : Taken State) where
       ∙ elim (same_or_not (is_same_state w.to s)) [
         | inl t ↦ absurd (let one : w.to ≡ s = is_same_state-state w.to s t in
             let e : Some w.cost ≡ None =
-            sym (l w (first ways)) ∙ ap (λ (u : State). link.step y.state u) one ∙ n in cc)
+            sym (l w (first ways)) ∙ ap (λ (u : State). link.step y.parent y.state u) one ∙ n in cc)
         | inr f ↦ rw f refl
       ]
 
@@ -102,7 +102,7 @@ module _ (width : ℕ) (goal : Cell) (link : Links) (y : Taken State) where
   abbrev pub AreEnough : List (Taken State) → List Onward → Type 0
   AreEnough earlier ways =
       (v : State) (c : Cost) → is_taken (search_rule width goal link) (y ∷ earlier) v ≡ false
-      → link.step y.state v ≡ Some c → IsAmong (record { to = v; cost = c }) ways
+      → link.step y.parent y.state v ≡ Some c → IsAmong (record { to = v; cost = c }) ways
       ⊎ (least_offer (search_rule width goal link) (y ∷ earlier) v
       ≡ least_offer (search_rule width goal link) earlier v)
 

@@ -22,7 +22,7 @@ module _ (width : ℕ) (goal : Cell) (link : Links) (shown : List Cell → List 
     pub priced : cost ≡ last.cost
     pub along : points ≡ shown
         (map (λ u. u.cell) (way_to (search_rule width goal link) (last ∷ earlier) last.state))
-    pub numbered : taken ≡ numbers_of width (last ∷ earlier)
+    pub numbered : taken ≡ numbers_of width link (last ∷ earlier)
 
   -- the answer and the taken states are those of the run
   abbrev pub IsAnswer : Found → Type 0

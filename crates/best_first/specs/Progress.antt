@@ -11,8 +11,8 @@ use Rattle.best_first.specs.Table.{Table}
 use Rattle.best_first.specs.Mirror.{Offers, IsSearching}
 
 -- the printed numbers of the taken states, in the order in which they were taken
-abbrev pub numbers_of : ℕ → List (Taken State) → List ℕ
-numbers_of width run = reverse (map (λ u. state_number width u.state) run)
+abbrev pub numbers_of : ℕ → Links → List (Taken State) → List ℕ
+numbers_of width link run = reverse (map (λ u. state_number width (link.arrived u.parent u.state)) run)
 
 module _ (width : ℕ) (goal : Cell) (link : Links) (start : Cell) where
   -- the run took states of these numbers and ends, as none waits and no goal was taken
@@ -21,7 +21,7 @@ module _ (width : ℕ) (goal : Cell) (link : Links) (start : Cell) where
     pub is_run : IsRun (search_rule width goal link) (start_at start) run
     pub no_goal : has_goal (search_rule width goal link) run ≡ false
     pub none_waits : NoneWaits (search_rule width goal link) run
-    pub numbered : taken ≡ numbers_of width run
+    pub numbered : taken ≡ numbers_of width link run
 
 module _ (layout : Layout) (width : ℕ) (goal : Cell) (link : Links) (start : Cell) where
   -- the search has taken states of these numbers, the last one with the node of this number
@@ -30,7 +30,7 @@ module _ (layout : Layout) (width : ℕ) (goal : Cell) (link : Links) (start : C
     pub earlier : List (Taken State)
     pub searching : IsSearching layout width goal link start last earlier at
         (least_offer (search_rule width goal link) earlier) k
-    pub numbered : taken ≡ numbers_of width (last ∷ earlier)
+    pub numbered : taken ≡ numbers_of width link (last ∷ earlier)
 
   -- the search has made the offers of the last state too, which is no goal
   pub record HasOffered (at : ℕ) (k : Table) (taken : List ℕ) : Type 0 where
@@ -41,4 +41,4 @@ module _ (layout : Layout) (width : ℕ) (goal : Cell) (link : Links) (start : C
     pub open_ended : is_same last.state.cell goal ≡ false
     pub all_made : (s : State) → is_taken (search_rule width goal link) (last ∷ earlier) s ≡ false
         → best s ≡ least_offer (search_rule width goal link) (last ∷ earlier) s
-    pub numbered : taken ≡ numbers_of width (last ∷ earlier)
+    pub numbered : taken ≡ numbers_of width link (last ∷ earlier)

@@ -10,11 +10,14 @@ use Rattle.best_first.specs.State.{is_same_state, state_number, start_at}
 
 -- the links of a search, and what its nodes tell of their parents
 pub record Links : Type 0 where
-  -- what it costs to go on from the first state to the second, where the search may
-  pub step : State → State → Option Cost
+  -- what it costs to go on from the second state to the third, where the search may, if it came to the second
+  -- from the first
+  pub step : State → State → State → Option Cost
   -- whether what stands in a node's place, the second, may stand there for a link from the first state: where
   -- a cell has one state, the arrival in a place is no part of the state, and may tell of the parent
   pub led : State → State → Bool
+  -- the second state, with how it was come to from the first: as this it is printed
+  pub arrived : State → State → State
 
 -- the rule of a search for a goal, on a map of this width, over these links
 abbrev pub search_rule : ℕ → Cell → Links → Rule State
@@ -29,10 +32,10 @@ search_rule width goal link = record {
 -- links on a map of these sides: each leads to another cell of the map, and costs the octile distance; a
 -- start may stand in its own place
 pub record AreLinks (width height : ℕ) (link : Links) : Type 0 where
-  pub lands : (u v : State) (c : Cost) → link.step u v ≡ Some c → (v.cell.x < width) × (v.cell.y < height)
-  pub moves : (u v : State) (c : Cost) → link.step u v ≡ Some c → is_same u.cell v.cell ≡ false
+  pub lands : (p u v : State) (c : Cost) → link.step p u v ≡ Some c → (v.cell.x < width) × (v.cell.y < height)
+  pub moves : (p u v : State) (c : Cost) → link.step p u v ≡ Some c → is_same u.cell v.cell ≡ false
   pub starts : (c : Cell) → link.led (start_at c) (start_at c) ≡ true
-  pub priced : (u v : State) (c : Cost) → link.step u v ≡ Some c → c ≡ estimate u.cell v.cell
+  pub priced : (p u v : State) (c : Cost) → link.step p u v ≡ Some c → c ≡ estimate u.cell v.cell
 
 -- no state is taken at a cost of more than 2^28 moves
 abbrev pub HasFewMoves : Rule State → State → Type 0

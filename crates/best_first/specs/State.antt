@@ -1,9 +1,9 @@
 -- States of a search: a cell and how it was come to.
-use Rattle.std.specs.Prelude.{◌≡◌, ℕ, ◌+◌, ◌*◌, ◌/◌, ◌%◌, Bool, nat_eq, ◌&&◌, refl, Option, Some, None}
-use Rattle.std.specs.Prelude.{slice_get}
+use Rattle.std.specs.Prelude.{◌≡◌, ℕ, ◌+◌, ◌*◌, ◌/◌, ◌%◌, Bool, nat_eq, nat_lt, ◌&&◌, refl, Option}
+use Rattle.std.specs.Prelude.{Some, None, if◌then◌else◌, slice_get}
 use Rattle.grid_moves.specs.declared.Cell.{Cell}
 use Rattle.grid_moves.specs.declared.Dir.{Dir}
-use Rattle.grid_moves.specs.declared.Dir.TheVariants.{S}
+use Rattle.grid_moves.specs.declared.Dir.TheVariants.{N, NE, E, SE, S, SW, W, NW}
 use Rattle.grid_moves.specs.Grid.{cell_number}
 use Rattle.grid_moves.specs.Move.{is_same, all_dirs, dir_number}
 use Rattle.best_first.specs.declared.state.State.{State}
@@ -36,6 +36,23 @@ start_at c = record { cell = c; arrival = None }
 abbrev pub state_in : Layout → State → State
 state_in ByCell s = start_at s.cell
 state_in ByArrival s = s
+
+-- the direction in which the second cell lies from the first, where it lies straight or diagonally from it
+abbrev pub heading : Cell → Cell → Option Dir
+heading u v =
+    if nat_lt u.x v.x
+    then Some (if nat_lt v.y u.y then NE else if nat_lt u.y v.y then SE else E)
+    else if nat_lt v.x u.x
+    then Some (if nat_lt v.y u.y then NW else if nat_lt u.y v.y then SW else W)
+    else if nat_lt v.y u.y then Some N
+    else if nat_lt u.y v.y then Some S
+    else None
+
+-- the second state, with how it was come to from the first: where a cell has one state, that is told by where
+-- it lies from there
+abbrev pub arrived_in : Layout → State → State → State
+arrived_in ByCell p s = record { cell = s.cell; arrival = heading p.cell s.cell }
+arrived_in ByArrival p s = s
 
 -- row, column and arrival in one number, ordered as the numbers of states are
 unfoldable pub place_of : State → Place

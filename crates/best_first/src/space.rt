@@ -1,6 +1,6 @@
 //! The memory of a search: its nodes, and an index from states to nodes.
 
-ghost use Rattle.std.specs.Prelude.{◌≡◌, ℕ, suc, ◌+◌, ◌-◌, ◌*◌, ◌<◌, ◌≤◌, ◌^◌, [], ◌∷◌, ◌++◌, length, true, false, Some, None, OnOk, OnErr, IfOk, IfNone, IfSome, vec_len, vec_capacity, slice_get, slice_set};
+ghost use Rattle.std.specs.Prelude.{◌≡◌, ℕ, suc, ◌+◌, ◌-◌, ◌*◌, ◌<◌, ◌≤◌, ◌^◌, [], ◌∷◌, ◌++◌, length, true, false, Some, None, OnOk, OnErr, IsOk, IfOk, IfNone, IfSome, vec_len, vec_capacity, slice_get, slice_set};
 ghost use Rattle.best_first.specs.Index.{entry_for, cell_of_node, AreBlank, AreReset, AreLed, IsExact};
 ghost use Rattle.best_first.specs.Node.{state_of, ranks_before};
 ghost use Rattle.best_first.specs.Space.{SpaceData, IsPlaced, KeepsShape, HasRoomFor, HasRoom, layout_by};
@@ -235,12 +235,13 @@ impl Space {
         *self.pool.node(id)
     }
 
-    /// Makes room for eight offers, so that they need no memory.
+    /// Makes room for eight offers, so that they need no memory. It fails only where there was no such room.
     #[inline(always)]
     pub fn reserve(&mut self) -> Result<(), NoMemory>
         ensures room { OnOk result (8 ≤ self.new.spare) }
         ensures shape { KeepsShape self.old self.new }
         ensures table { self.new.table ≡ self.old.table }
+        ensures succeeds { 8 ≤ self.old.spare → IsOk result }
     {
         if self.pool.len() + 8 <= self.room {
             return Ok(());

@@ -198,7 +198,7 @@ module _ {S : Type 0} (r : Rule S) where
       waits_inside : (run : List (Taken S)) (s : S) (o : Offer S) → Waits r run s o → is_one_of r all s ≡ true
       waits_inside run s o w =
           let from = least_offer-from r run s o w.offered in
-          covered from.by.state s from.offered.step from.offered.linked
+          covered from.by.parent from.by.state s from.offered.step from.offered.linked
 
       -- where none of them waits, none waits
       none_left : (run : List (Taken S))

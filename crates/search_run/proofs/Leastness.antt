@@ -45,7 +45,7 @@ SumsRise {S} r run = (u : Taken S) (s : S) (o : Offer S) → IsIn u run → Wait
 -- over each link from a taken state that is no goal, a state is known at the cost of that way
 abbrev pub IsRelaxed : {S : Type 0} → Rule S → List (Taken S) → Type 0
 IsRelaxed {S} r run = (u : Taken S) (v : S) (c : Cost) → IsIn u run → r.is_goal u.state ≡ false
-    → r.link u.state v ≡ Some c → IsKnown r run v (add_costs u.cost c)
+    → r.link u.parent u.state v ≡ Some c → IsKnown r run v (add_costs u.cost c)
 
 pub or_false : (a b : Bool) → (a || b) ≡ false → (a ≡ false) × (b ≡ false)
 or_false true b e = absurd (cc)
@@ -110,11 +110,11 @@ module _ {S : Type 0} (r : Rule S) (fit : IsConsistent r) where
       no_goal earlier u (or_false (r.is_goal x.state) (has_goal r earlier) g).1 m
 
   -- a link never lowers the sum
-  pub link_rises : (u v : S) (b c : Cost) → r.link u v ≡ Some c
+  pub link_rises : (p u v : S) (b c : Cost) → r.link p u v ≡ Some c
       → Most (sum_at r u b) (sum_at r v (add_costs b c))
-  link_rises u v b c l =
+  link_rises p u v b c l =
       Most-then (Most-add_left b (r.estimate u) (add_costs c (r.estimate v))
-      (record { is = fit.falls u v c l }))
+      (record { is = fit.falls p u v c l }))
       (Most-same (sym (add_costs-assoc b c (r.estimate v))))
 
   module _ (earlier : List (Taken S)) (x : Taken S) where
@@ -136,7 +136,7 @@ module _ {S : Type 0} (r : Rule S) (fit : IsConsistent r) where
 
     -- what waits after x was taken waited before, or x offers it
     waited : (s : S) (o : Offer S) → Waits r (x ∷ earlier) s o
-        → Waits r earlier s o ⊎ ((c : Cost) × (r.link x.state s ≡ Some c) × (o.cost ≡ add_costs x.cost c))
+        → Waits r earlier s o ⊎ ((c : Cost) × (r.link x.parent x.state s ≡ Some c) × (o.cost ≡ add_costs x.cost c))
     waited s o w = elim (lesser-one (least_offer r earlier s) (offer r x s) o w.offered) [
       | inl e ↦ inl (record {
         untaken = (or_false (r.is_same x.state s) (is_taken r earlier s) w.untaken).1;
@@ -151,7 +151,7 @@ module _ {S : Type 0} (r : Rule S) (fit : IsConsistent r) where
     x_below n s o w = elim (waited s o w) [
       | inl before ↦ n.first s o before
       | inr new ↦ subst (λ (t : Cost). Most (sum_at r x.state x.cost) (sum_at r s t)) (sym new.2)
-          (link_rises x.state s x.cost new.0 new.1)
+          (link_rises x.parent x.state s x.cost new.0 new.1)
     ]
 
     rise_on : IsTakenNext → SumsRise r (x ∷ earlier)
@@ -188,7 +188,7 @@ module _ {S : Type 0} (r : Rule S) (fit : IsConsistent r) where
             })
 
     -- over a link from x itself
-    known_from : IsTakenNext → (v : S) (c : Cost) → r.is_goal x.state ≡ false → r.link x.state v ≡ Some c
+    known_from : IsTakenNext → (v : S) (c : Cost) → r.is_goal x.state ≡ false → r.link x.parent x.state v ≡ Some c
         → IsKnown r (x ∷ earlier) v (add_costs x.cost c)
     known_from n v c g l = by_test (is_taken r (x ∷ earlier) v) refl
       where
@@ -196,7 +196,7 @@ module _ {S : Type 0} (r : Rule S) (fit : IsConsistent r) where
         taken_at u (here e) i = Most-more x.cost c
         taken_at u (there z e m) i =
             let sums : Most (sum_at r u.state u.cost) (sum_at r v (add_costs x.cost c)) =
-            Most-then (n.rises u m) (link_rises x.state v x.cost c l) in
+            Most-then (n.rises u m) (link_rises x.parent x.state v x.cost c l) in
             Most-cancel_right (r.estimate v) u.cost (add_costs x.cost c)
             (subst (λ (s : S). Most (sum_at r s u.cost) (sum_at r v (add_costs x.cost c))) i sums)
 
@@ -259,7 +259,7 @@ module _ {S : Type 0} (r : Rule S) (fit : IsConsistent r) where
   pub estimate_along : (s t : S) (d : Cost) → Chain r s t d → Most (r.estimate s) (add_costs d (r.estimate t))
   estimate_along s t d (stays z) = Most-same (sym (add_costs-no_cost_left (r.estimate s)))
   estimate_along s t d (goes_on z v w b c l rest) =
-      Most-then (record { is = fit.falls s v b l })
+      Most-then (record { is = fit.falls s s v b (l s) })
       (Most-then (Most-add_left b (r.estimate v) (add_costs c (r.estimate t)) (estimate_along v t c rest))
       (Most-same (sym (add_costs-assoc b c (r.estimate t)))))
 
@@ -287,7 +287,8 @@ module _ {S : Type 0} (r : Rule S) (fit : IsConsistent r) where
       absurd (let y : is_taken r run v ≡ true = ap (λ (s : S). is_taken r run s) (sym k.is)
       ∙ is_taken-member run k.by k.member in cc)
   none_below run rel none v t bound d (inl k) (goes_on z w u b c l rest) n =
-      let link : r.link k.by.state w ≡ Some b = ap (λ (s : S). r.link s w) k.is ∙ l in
+      let link : r.link k.by.parent k.by.state w ≡ Some b =
+      ap (λ (s : S). r.link k.by.parent s w) k.is ∙ l k.by.parent in
       let next = none_below run rel none w t (add_costs k.by.cost b) c
       (rel k.by w b k.member (no_goal run k.by none k.member) link) rest n in
       record {
@@ -411,8 +412,8 @@ module _ {S : Type 0} (r : Rule S) (fit : IsConsistent r) where
   -- taken states never have a greater sum than later ones, and a link never lowers it: so no offer of the
   -- last taken state betters a taken one
   pub taken_not_bettered : (start : S) (x : Taken S) (earlier : List (Taken S)) (u : Taken S) (c : Cost)
-      → IsRun r start (x ∷ earlier) → IsIn u (x ∷ earlier) → r.link x.state u.state ≡ Some c
+      → IsRun r start (x ∷ earlier) → IsIn u (x ∷ earlier) → r.link x.parent x.state u.state ≡ Some c
       → Most u.cost (add_costs x.cost c)
   taken_not_bettered start x earlier u c is m l =
       Most-cancel_right (r.estimate u.state) u.cost (add_costs x.cost c)
-      (Most-then (below_last start x earlier u is m) (link_rises x.state u.state x.cost c l))
+      (Most-then (below_last start x earlier u is m) (link_rises x.parent x.state u.state x.cost c l))

@@ -43,7 +43,7 @@ lesser-one (Some e) (Some l) o h = by_test (is_less l.cost e.cost) h
 -- an offer is made over a link
 pub record IsOffered {S : Type 0} (r : Rule S) (u : Taken S) (s : S) (o : Offer S) : Type 0 where
   pub step : Cost
-  pub linked : r.link u.state s ≡ Some step
+  pub linked : r.link u.parent u.state s ≡ Some step
   pub open_ended : r.is_goal u.state ≡ false
   pub total : o.cost ≡ add_costs u.cost step
   pub source : o.from ≡ u.state
@@ -60,7 +60,7 @@ pub offer-made : {S : Type 0} (r : Rule S) (u : Taken S) (s : S) (o : Offer S) �
     → IsOffered r u s o
 offer-made {S} r u s o h = by_goal (r.is_goal u.state) refl h
   where
-    by_link : (l : Option Cost) → r.link u.state s ≡ l → r.is_goal u.state ≡ false → offer_by u l ≡ Some o
+    by_link : (l : Option Cost) → r.link u.parent u.state s ≡ l → r.is_goal u.state ≡ false → offer_by u l ≡ Some o
         → IsOffered r u s o
     by_link None e g h = absurd (cc)
     by_link (Some c) e g h = record {
@@ -76,10 +76,10 @@ offer-made {S} r u s o h = by_goal (r.is_goal u.state) refl h
     }
 
     by_goal : (b : Bool) → r.is_goal u.state ≡ b
-        → (if b then None else offer_by u (r.link u.state s)) ≡ Some o → IsOffered r u s o
+        → (if b then None else offer_by u (r.link u.parent u.state s)) ≡ Some o → IsOffered r u s o
     by_goal true g h = absurd (cc)
-    by_goal false g h = by_link (r.link u.state s) refl g h
+    by_goal false g h = by_link (r.link u.parent u.state s) refl g h
 
 pub offer-over : {S : Type 0} (r : Rule S) (u : Taken S) (s : S) (c : Cost) → r.is_goal u.state ≡ false
-    → r.link u.state s ≡ Some c → offer r u s ≡ Some (record { cost = add_costs u.cost c; from = u.state })
+    → r.link u.parent u.state s ≡ Some c → offer r u s ≡ Some (record { cost = add_costs u.cost c; from = u.state })
 offer-over r u s c g l = rw (g, l) refl

@@ -24,14 +24,15 @@ module _ {S : Type 0} (r : Rule S) where
     pub total : x.cost ≡ add_costs by.cost b
 
   pub parent_of : (start : S) (x y : Taken S) (earlier : List (Taken S)) (b : Cost)
-      → IsRun r start (x ∷ y ∷ earlier) → r.link x.parent x.state ≡ Some b → HasParent (y ∷ earlier) x b
+      → IsRun r start (x ∷ y ∷ earlier) → ((p : S) → r.link p x.parent x.state ≡ Some b)
+      → HasParent (y ∷ earlier) x b
   unfolding cost_in
   parent_of start x y earlier b is l =
       let f = least_offer-from r (y ∷ earlier) x.state (record { cost = x.cost; from = x.parent })
       is.2.offered in
       let at_parent : f.by.state ≡ x.parent = sym f.offered.source in
       let same : Some f.offered.step ≡ Some b =
-      sym f.offered.linked ∙ ap (λ (s : S). r.link s x.state) at_parent ∙ l in
+      sym f.offered.linked ∙ ap (λ (s : S). r.link f.by.parent s x.state) at_parent ∙ l f.by.parent in
       record {
         by = f.by;
         member = f.member;
@@ -43,7 +44,7 @@ module _ {S : Type 0} (r : Rule S) where
 
   -- the least offer is at most each that is made
   pub least_offer-most : (run : List (Taken S)) (p : Taken S) (v : S) (c : Cost) → IsIn p run
-      → r.is_goal p.state ≡ false → r.link p.state v ≡ Some c
+      → r.is_goal p.state ≡ false → r.link p.parent p.state v ≡ Some c
       → (o : Offer S) × (least_offer r run v ≡ Some o) × Most o.cost (add_costs p.cost c)
   least_offer-most [] p v c m g l = elim m [ ]
   least_offer-most (x ∷ earlier) p v c (here e) g l =
@@ -56,7 +57,7 @@ module _ {S : Type 0} (r : Rule S) where
 
   -- an offer that is not below an earlier one changes nothing
   pub later_offer : (earlier : List (Taken S)) (x p : Taken S) (v : S) (c d : Cost) → IsIn p earlier
-      → r.is_goal p.state ≡ false → r.link p.state v ≡ Some c → r.link x.state v ≡ Some d
+      → r.is_goal p.state ≡ false → r.link p.parent p.state v ≡ Some c → r.link x.parent x.state v ≡ Some d
       → Most (add_costs p.cost c) (add_costs x.cost d) → least_offer r (x ∷ earlier) v
       ≡ least_offer r earlier v
   later_offer earlier x p v c d m g lp lx most =
@@ -81,12 +82,12 @@ module _ {S : Type 0} (r : Rule S) where
 
   -- so the parent's offers stand
   pub parent_offers : (start : S) (x y : Taken S) (earlier : List (Taken S)) (v : S) (b c d : Cost)
-      → IsRun r start (x ∷ y ∷ earlier) → r.link x.parent x.state ≡ Some b → r.link x.parent v ≡ Some c
-      → r.link x.state v ≡ Some d → IsAtMost c (add_costs b d)
+      → IsRun r start (x ∷ y ∷ earlier) → ((p : S) → r.link p x.parent x.state ≡ Some b)
+      → ((p : S) → r.link p x.parent v ≡ Some c) → r.link x.parent x.state v ≡ Some d → IsAtMost c (add_costs b d)
       → least_offer r (x ∷ y ∷ earlier) v ≡ least_offer r (y ∷ earlier) v
   parent_offers start x y earlier v b c d is lb lc ld most =
       let p = parent_of start x y earlier b is lb in
-      later_offer (y ∷ earlier) x p.by v c d p.member p.open_ended (ap (λ (s : S). r.link s v) p.state ∙ lc)
+      later_offer (y ∷ earlier) x p.by v c d p.member p.open_ended (ap (λ (s : S). r.link p.by.parent s v) p.state ∙ lc p.by.parent)
       ld (Most-then (Most-add_left p.by.cost c (add_costs b d) (record { is = most }))
       (Most-then (Most-same (sym (add_costs-assoc p.by.cost b d)))
       (Most-same (ap (λ (z : Cost). add_costs z d) (sym p.total)))))

@@ -20,4 +20,4 @@ is_one_of r (v ∷ rest) s = r.is_same v s || is_one_of r rest s
 
 -- each state that a link leads to is one of these
 abbrev pub IsCovered : {S : Type 0} → Rule S → List S → Type 0
-IsCovered {S} r all = (u v : S) (c : Cost) → r.link u v ≡ Some c → is_one_of r all v ≡ true
+IsCovered {S} r all = (p u v : S) (c : Cost) → r.link p u v ≡ Some c → is_one_of r all v ≡ true

@@ -9,7 +9,7 @@ use Rattle.search_run.specs.Chain.{Chain, IsConsistent}
 
 -- numbers tell apart the states that links lead to
 pub record NumbersTellStates {S : Type 0} (r : Rule S) : Type 0 where
-  pub apart : (u v s t : S) (c d : Cost) → r.link u s ≡ Some c → r.link v t ≡ Some d
+  pub apart : (p q u v s t : S) (c d : Cost) → r.link p u s ≡ Some c → r.link q v t ≡ Some d
       → r.number s ≡ r.number t → s ≡ t
 
 -- no chain to a goal undercuts the cost at which a goal was taken
@@ -43,7 +43,7 @@ abbrev pub TakenAreNotBettered : Type 0 → Type 0
 TakenAreNotBettered S =
     (r : Rule S) → IsConsistent r → (start : S) (x : Taken S) (earlier : List (Taken S)) (u : Taken S)
     (c : Cost)
-    → IsRun r start (x ∷ earlier) → IsIn u (x ∷ earlier) → r.link x.state u.state ≡ Some c
+    → IsRun r start (x ∷ earlier) → IsIn u (x ∷ earlier) → r.link x.parent x.state u.state ≡ Some c
     → IsAtMost u.cost (add_costs x.cost c)
 
 -- what the parent of the last taken state leads to at no greater cost than the way over that state, the
@@ -51,8 +51,8 @@ TakenAreNotBettered S =
 abbrev pub ParentsOffersStand : Type 0 → Type 0
 ParentsOffersStand S =
     (r : Rule S) (start : S) (x y : Taken S) (earlier : List (Taken S)) (v : S) (b c d : Cost)
-    → IsRun r start (x ∷ y ∷ earlier) → r.link x.parent x.state ≡ Some b → r.link x.parent v ≡ Some c
-    → r.link x.state v ≡ Some d → IsAtMost c (add_costs b d)
+    → IsRun r start (x ∷ y ∷ earlier) → ((p : S) → r.link p x.parent x.state ≡ Some b)
+    → ((p : S) → r.link p x.parent v ≡ Some c) → r.link x.parent x.state v ≡ Some d → IsAtMost c (add_costs b d)
     → least_offer r (x ∷ y ∷ earlier) v ≡ least_offer r (y ∷ earlier) v
 
 -- two runs of one rule from one start that have ended are equal

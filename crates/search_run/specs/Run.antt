@@ -1,7 +1,7 @@
 -- The run of a best-first search, as a list of taken states and no more: no open list, no index.
 -- A* after Hart, Nilsson and Raphael (1968); the order of ties is this project's.
-use Rattle.std.specs.Prelude.{◌≡◌, ℕ, Bool, true, false, nat_lt, nat_eq, ◌&&◌, ◌||◌, List, [], ◌∷◌, ◌++◌}
-use Rattle.std.specs.Prelude.{Option, Some, None, if◌then◌else◌, ◌⊎◌}
+use Rattle.std.specs.Prelude.{◌≡◌, ℕ, Bool, false, nat_lt, nat_eq, ◌&&◌, ◌||◌, List, [], ◌∷◌, ◌++◌}
+use Rattle.std.specs.Prelude.{Option, Some, None, if◌then◌else◌}
 use Rattle.root2_cost.specs.declared.Cost.{Cost}
 use Rattle.root2_cost.specs.Order.{is_less}
 use Rattle.root2_cost.specs.Sums.{add_costs, no_cost}
@@ -16,8 +16,9 @@ pub record Rule (S : Type 0) : Type 0 where
   pub estimate : S → Cost
   -- whether the search ends at this state
   pub is_goal : S → Bool
-  -- what it costs to go on from the first state to the second, where the search may
-  pub link : S → S → Option Cost
+  -- what it costs to go on from the second state to the third, where the search may, if it came to the second
+  -- from the first; the start has itself there
+  pub link : S → S → S → Option Cost
 
 -- a state that was taken, its cost, and the state that it was reached from; the start has itself there
 pub record Taken (S : Type 0) : Type 0 where
@@ -37,7 +38,7 @@ offer_by u (Some c) = Some (record { cost = add_costs u.cost c; from = u.state }
 
 -- what a taken state offers to a state; a goal offers nothing
 abbrev pub offer : {S : Type 0} → Rule S → Taken S → S → Option (Offer S)
-offer r u s = if r.is_goal u.state then None else offer_by u (r.link u.state s)
+offer r u s = if r.is_goal u.state then None else offer_by u (r.link u.parent u.state s)
 
 -- the lesser offer; the earlier one where they are equal
 abbrev pub lesser : {S : Type 0} → Option (Offer S) → Option (Offer S) → Option (Offer S)
