@@ -14,7 +14,7 @@ use Rattle.best_first.specs.declared.state.State.{State}
 use Rattle.best_first.specs.State.{start_at}
 use Rattle.best_first.specs.Rule.{AreLinks}
 use Rattle.best_first.proofs.Links.{consistent}
-use Rattle.plain_search.specs.Rule.{plain_links, is_led}
+use Rattle.plain_search.specs.Rule.{plain_step, is_led}
 use Rattle.plain_search.proofs.Dropping.{LeadsTo, leads}
 use Rattle.plain_search.proofs.Moving.{IsLinked}
 use Rattle.plain_search.proofs.Offering.{open_linked, led_ahead}
@@ -43,31 +43,31 @@ module _ (g : GridData) (b : BoxTeller) (t : Cell) where
   one_toward u v d h = by_list u v d h all_dirs (in_all d)
 
   -- a link is one of the plain engine, toward the goal
-  pub plain_step : (u v : State) (c : Cost) → boxed_step g b t u v ≡ Some c
-      → (plain_links g).step u v ≡ Some c
-  plain_step u v c e =
-      (if_some (is_toward_by b t u.cell v.cell all_dirs) ((plain_links g).step u v) c e).1
+  pub step_plain : (u v : State) (c : Cost) → boxed_step g b t u v ≡ Some c
+      → plain_step g u v ≡ Some c
+  step_plain u v c e =
+      (if_some (is_toward_by b t u.cell v.cell all_dirs) (plain_step g u v) c e).1
 
   pub step_toward : (u v : State) (c : Cost) → boxed_step g b t u v ≡ Some c
       → is_toward_by b t u.cell v.cell all_dirs ≡ true
   step_toward u v c e =
-      (if_some (is_toward_by b t u.cell v.cell all_dirs) ((plain_links g).step u v) c e).0
+      (if_some (is_toward_by b t u.cell v.cell all_dirs) (plain_step g u v) c e).0
 
   pub boxed_move : (u v : State) (c : Cost) → boxed_step g b t u v ≡ Some c → IsMove g u v c
-  boxed_move u v c e = link_move g u v c (plain_step u v c e)
+  boxed_move u v c e = link_move g u v c (step_plain u v c e)
 
   pub boxed_are_links : AreLinks g.width g.height (boxed_links g b t)
   boxed_are_links =
       let p = plain_are_links g in
       record {
-        lands = λ u v c e. p.lands u v c (plain_step u v c e);
-        moves = λ u v c e. p.moves u v c (plain_step u v c e);
+        lands = λ q u v c e. p.lands q u v c (step_plain u v c e);
+        moves = λ q u v c e. p.moves q u v c (step_plain u v c e);
         starts = p.starts;
-        priced = λ u v c e. p.priced u v c (plain_step u v c e);
+        priced = λ q u v c e. p.priced q u v c (step_plain u v c e);
       }
 
   pub boxed_are_moves : AreMoves g (boxed_links g b t)
-  boxed_are_moves = record { links = boxed_are_links; moves = boxed_move }
+  boxed_are_moves = record { links = boxed_are_links; moves = λ p. boxed_move }
 
   -- the octile estimate is fit for the rule
   pub boxed_consistent : IsConsistent (boxed_rule g b t)
@@ -89,14 +89,14 @@ module _ (g : GridData) (b : BoxTeller) (t : Cell) where
       let plain = open_linked g c d v w.leads in
       let by : is_toward_by b t c v all_dirs ≡ true =
       one_toward c v d (and_from (is_toward t (b c d)) (is_led c v (Some d)) w.held plain.led) in
-      record { step = rw by plain.step; led = plain.led }
+      record { step = λ p. rw by (plain.step p); led = plain.led }
 
   -- and so is each move with a box that holds the goal
   pub held_link : (c : Cell) (d : Dir) (v : Cell) → legal_ahead g c d ≡ Some v → is_toward t (b c d) ≡ true
       → boxed_step g b t (start_at c) (start_at v) ≡ Some (move_cost c v)
   held_link c d v e h =
       let l = leads g c d v e in
-      (toward_linked c d v (record { leads = l; held = h })).step
+      (toward_linked c d v (record { leads = l; held = h })).step (start_at c)
       ∙ ap (λ (k : Cost). Some k) (sym (cost_there d c v l.ahead_is))
 
   -- what leads toward the goal in some direction
@@ -117,4 +117,10 @@ pub boxed_asked : (g : GridData) (b : BoxTeller) (s t : Cell) → IsGrid g → i
     → is_free g t ≡ true
     → IsAsked g s t (boxed_links g b t)
 boxed_asked g b s t whole from to =
-    record { are = boxed_are_moves g b t; whole = whole; from = from; to = free_near g t to }
+    record {
+      are = boxed_are_moves g b t;
+      whole = whole;
+      from = from;
+      to = free_near g t to;
+      printed = λ p u. refl;
+    }

@@ -73,19 +73,19 @@ module _ {g : GridData} (b : BoxTeller) {s t : Cell} (asked : IsAsked g s t (box
 
 -- each of these ways is a link
 pub are_links : (g : GridData) (b : BoxTeller) (t c : Cell) (u : State) → u ≡ start_at c → (dirs : List Dir)
-    (w : Onward) → IsAmong w (ways_over g b t c dirs) → (boxed_links g b t).step u w.to ≡ Some w.cost
+    (w : Onward) → IsAmong w (ways_over g b t c dirs) → boxed_step g b t u w.to ≡ Some w.cost
 are_links g b t c u at_c [] w m = elim m [ ]
 are_links g b t c u at_c (d ∷ dirs) w m =
     by_move (λ q. are_links g b t c u at_c dirs w q) (toward g b t c d) refl m
   where
-    by_move : (IsAmong w (ways_over g b t c dirs) → (boxed_links g b t).step u w.to ≡ Some w.cost)
+    by_move : (IsAmong w (ways_over g b t c dirs) → boxed_step g b t u w.to ≡ Some w.cost)
         → (o : Option Cell) → toward g b t c d ≡ o → IsAmong w (with_way d o (ways_over g b t c dirs))
-        → (boxed_links g b t).step u w.to ≡ Some w.cost
+        → boxed_step g b t u w.to ≡ Some w.cost
     by_move again None h q = again q
     by_move again (Some v) h q =
-        of_among (λ (o : Onward). (boxed_links g b t).step u o.to ≡ Some o.cost)
-        (ap (λ (z : State). (boxed_links g b t).step z (start_at v)) at_c
-        ∙ (toward_linked g b t c d v (toward_is g b t c d v h)).step) again q
+        of_among (λ (o : Onward). boxed_step g b t u o.to ≡ Some o.cost)
+        (ap (λ (z : State). boxed_step g b t z (start_at v)) at_c
+        ∙ (toward_linked g b t c d v (toward_is g b t c d v h)).step u) again q
 
 -- what leads toward the goal is among the ways
 module _ (g : GridData) (b : BoxTeller) (t c v : Cell) where

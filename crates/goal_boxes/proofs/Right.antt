@@ -48,7 +48,7 @@ least_chain g b t boxes u (v ∷ cells) w =
     let held : is_toward t (b u d.0) ≡ true =
     box_holds g u t d.0 (b u d.0) (boxes.boxes u (legal_is g u v parts.0).source d.0) begins in
     goes_on (start_at u) (start_at v) (start_at (last_of v cells)) (move_cost u v) (cost_of (v ∷ cells))
-    (held_link g b t u d.0 v d.1 held) (least_chain g b t boxes v cells (least_rest g u t v cells w))
+    (λ p. held_link g b t u d.0 v d.1 held) (least_chain g b t boxes v cells (least_rest g u t v cells w))
 
 -- least costs of walks are no matter of the run: where a walk leads, a least one does
 pub data HasLeastWalk (g : GridData) (s t : Cell) : Type 0 where

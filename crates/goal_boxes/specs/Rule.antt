@@ -9,7 +9,7 @@ use Rattle.grid_moves.specs.Move.{all_dirs}
 use Rattle.search_run.specs.Run.{Rule}
 use Rattle.best_first.specs.declared.state.State.{State}
 use Rattle.best_first.specs.Rule.{Links, search_rule}
-use Rattle.plain_search.specs.Rule.{plain_links, is_led}
+use Rattle.plain_search.specs.Rule.{plain_links, plain_step, is_led}
 use Rattle.goal_boxes.specs.declared.area.Area.{Area}
 use Rattle.goal_boxes.specs.Box.{BoxTeller, holds}
 
@@ -29,10 +29,14 @@ is_toward_by box t u v (d ∷ dirs) = leads_toward box t u v d || is_toward_by b
 
 -- a link of the plain engine, where the box of the move's direction holds t
 abbrev pub boxed_step : GridData → BoxTeller → Cell → State → State → Option Cost
-boxed_step g box t u v = if is_toward_by box t u.cell v.cell all_dirs then (plain_links g).step u v else None
+boxed_step g box t u v = if is_toward_by box t u.cell v.cell all_dirs then plain_step g u v else None
 
 abbrev pub boxed_links : GridData → BoxTeller → Cell → Links
-boxed_links g box t = record { step = λ u v. boxed_step g box t u v; led = (plain_links g).led }
+boxed_links g box t = record {
+  step = λ p u v. boxed_step g box t u v;
+  led = (plain_links g).led;
+  arrived = (plain_links g).arrived;
+}
 
 -- the rule of a search for t
 abbrev pub boxed_rule : GridData → BoxTeller → Cell → Rule State

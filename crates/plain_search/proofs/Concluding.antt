@@ -56,7 +56,7 @@ module _ {g : GridData} {s t : Cell} {link : Links} (asked : IsAsked g s t link)
   -- at the start
   pub begins : {k : Table} {taken : List ℕ} → k ≡ begun t s → taken ≡ state_number g.width (start_at s) ∷ []
       → search.HasTaken ByCell g.width t link s 0 k taken
-  begins e f = rw (e, f) (has_begun (fit asked) ByCell)
+  begins e f = rw (e, f) (has_begun (fit asked) ByCell (asked.printed (start_at s) (start_at s)))
 
   -- the cell of the last state is free
   pub taken_free : {at : ℕ} {k : Table} {taken : List ℕ} → search.HasTaken ByCell g.width t link s at k taken

@@ -28,7 +28,7 @@ use Rattle.plain_search.proofs.Posed.{IsAsked, run_free}
 
 -- the move in this direction, from one cell to the other, is a link
 pub record IsLinked (link : Links) (c : Cell) (d : Dir) (v : Cell) : Type 0 where
-  pub step : link.step (start_at c) (start_at v) ≡ Some (dir_cost d)
+  pub step : (p : State) → link.step p (start_at c) (start_at v) ≡ Some (dir_cost d)
   pub led : link.led (start_at c) (record { cell = v; arrival = Some d }) ≡ true
 
 module _ {width height : ℕ} {s t : Cell} {link : Links} (fit : IsSearch width height s t link)

@@ -35,7 +35,7 @@ use Rattle.best_first.proofs.Ways.{of_among}
 use Rattle.best_first.proofs.Searching.{closed_below}
 use Rattle.cost_waves.proofs.Settling.{In, first as here_is, later as there_is, in_all}
 use Rattle.plain_search.specs.declared.moves.Behind.{Behind}
-use Rattle.plain_search.specs.Rule.{plain_rule, plain_links, is_led}
+use Rattle.plain_search.specs.Rule.{plain_rule, plain_links, is_led, plain_step}
 use Rattle.grid_moves.specs.Around.{is_open_to, end_of, IsAround}
 use Rattle.plain_search.specs.Offers.{sides_of, less_offered, offer_to, all_offered, ways_over}
 use Rattle.plain_search.specs.Offers.{MayExpand}
@@ -64,21 +64,21 @@ module _ (g : GridData) (a : Around) (sides : Behind) where
 
   -- each of these ways is a link
   pub are_links : (c : Cell) (u : State) → u ≡ start_at c → IsAround g c a → (dirs : List Dir) (w : Onward)
-      → IsAmong w (ways_over kept c dirs) → (plain_links g).step u w.to ≡ Some w.cost
+      → IsAmong w (ways_over kept c dirs) → plain_step g u w.to ≡ Some w.cost
   are_links c u at_c r [] w m = elim m [ ]
   are_links c u at_c r (d ∷ dirs) w m =
       by_flag (λ q. are_links c u at_c r dirs w q) (is_open_to kept d) refl m
     where
-      by_flag : (IsAmong w (ways_over kept c dirs) → (plain_links g).step u w.to ≡ Some w.cost)
+      by_flag : (IsAmong w (ways_over kept c dirs) → plain_step g u w.to ≡ Some w.cost)
           → (b : Bool) → is_open_to kept d ≡ b
           → IsAmong w (if b then record { to = start_at (end_of kept c d); cost = dir_cost d }
           ∷ ways_over kept c dirs else ways_over kept c dirs)
-          → (plain_links g).step u w.to ≡ Some w.cost
+          → plain_step g u w.to ≡ Some w.cost
       by_flag again false h q = again q
       by_flag again true h q =
-          of_among (λ (o : Onward). (plain_links g).step u o.to ≡ Some o.cost)
-          (ap (λ (z : State). (plain_links g).step z (start_at (end_of kept c d))) at_c
-          ∙ (kept_linked c d r h).step) again q
+          of_among (λ (o : Onward). plain_step g u o.to ≡ Some o.cost)
+          (ap (λ (z : State). plain_step g z (start_at (end_of kept c d))) at_c
+          ∙ (kept_linked c d r h).step u) again q
 
 module _ {g : GridData} {s t : Cell} (asked : IsAsked g s t (plain_links g)) (x : Taken State)
     (earlier : List (Taken State)) (at : ℕ) where
@@ -182,8 +182,8 @@ module _ {g : GridData} {s t : Cell} (asked : IsAsked g s t (plain_links g)) whe
   left_out x (y ∷ rest) is a r e told v c m untaken d on opened dropped_is =
       let f = least_offer-from (plain_rule g t) (y ∷ rest) x.state
       (record { cost = x.cost; from = x.parent }) is.2.offered in
-      let linked : (plain_links g).step x.parent x.state ≡ Some f.offered.step =
-      ap (λ (u : State). (plain_links g).step u x.state) f.offered.source ∙ f.offered.linked in
+      let linked : plain_step g x.parent x.state ≡ Some f.offered.step =
+      ap (λ (u : State). plain_step g u x.state) f.offered.source ∙ f.offered.linked in
       let into = link_move g x.parent x.state f.offered.step linked in
       let plain_parent : x.parent ≡ start_at x.parent.cell
       = subst (λ (u : State). u ≡ start_at u.cell) (sym f.offered.source)
@@ -196,14 +196,14 @@ module _ {g : GridData} {s t : Cell} (asked : IsAsked g s t (plain_links g)) whe
       let lies = lies_at e x.parent.cell x.state.cell told in
       let legal = dropped g x.parent.cell x.state.cell v.cell a (sides_of (Some e)) r lies into.legal other
       m.legal d on opened dropped_is in
-      let step : (plain_links g).step x.parent v ≡ Some (move_cost x.parent.cell v.cell)
-      = ap (λ (u : State). (plain_links g).step x.parent u) m.plain
+      let step : plain_step g x.parent v ≡ Some (move_cost x.parent.cell v.cell)
+      = ap (λ (u : State). plain_step g x.parent u) m.plain
       ∙ legal_link g x.parent.cell v.cell legal in
-      let here : (plain_links g).step x.state v ≡ Some c
-      = ap (λ (u : State). (plain_links g).step x.state u) m.plain ∙ legal_link g x.state.cell v.cell m.legal
+      let here : plain_step g x.state v ≡ Some c
+      = ap (λ (u : State). plain_step g x.state u) m.plain ∙ legal_link g x.state.cell v.cell m.legal
       ∙ ap (λ (q : Cost). Some q) (sym m.cost) in
       parent_offers (plain_rule g t) (start_at s) x y rest v f.offered.step (move_cost x.parent.cell v.cell) c
-      is linked step here (no_dearer into legal)
+      is (λ p. linked) (λ p. step) here (no_dearer into legal)
     where
       not_parent : (b : Bool) → is_same x.parent.cell v.cell ≡ b → x.parent ≡ start_at x.parent.cell
           → is_taken (plain_rule g t) (y ∷ rest) x.parent ≡ true → is_same x.parent.cell v.cell ≡ false
@@ -230,7 +230,7 @@ module _ {g : GridData} {s t : Cell} (asked : IsAsked g s t (plain_links g)) whe
   pub enough : (x : Taken State) (earlier : List (Taken State))
       → IsRun (plain_rule g t) (start_at s) (x ∷ earlier) → (a : Around) → IsAround g x.state.cell a
       → (e : Option Dir) → is_led x.parent.cell x.state.cell e ≡ true → (v : State) (c : Cost)
-      → is_taken (plain_rule g t) (x ∷ earlier) v ≡ false → (plain_links g).step x.state v ≡ Some c
+      → is_taken (plain_rule g t) (x ∷ earlier) v ≡ false → plain_step g x.state v ≡ Some c
       → IsAmong (record { to = v; cost = c }) (ways_over (less_offered a (sides_of e)) x.state.cell all_dirs)
       ⊎ (least_offer (plain_rule g t) (x ∷ earlier) v ≡ least_offer (plain_rule g t) earlier v)
   enough x earlier is a r e told v c untaken l = by_kept e told

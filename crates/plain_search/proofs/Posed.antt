@@ -32,10 +32,12 @@ pub record IsAsked (g : GridData) (s t : Cell) (link : Links) : Type 0 where
   pub whole : IsGrid g
   pub from : is_free g s ≡ true
   pub to : IsNear g t
+  pub printed : (p u : State) → link.arrived p u ≡ u
 
 pub plain_asked : (g : GridData) (s t : Cell) → IsGrid g → is_free g s ≡ true → IsNear g t
     → IsAsked g s t (plain_links g)
-plain_asked g s t whole from to = record { are = plain_are_moves g; whole = whole; from = from; to = to }
+plain_asked g s t whole from to =
+    record { are = plain_are_moves g; whole = whole; from = from; to = to; printed = λ p u. refl }
 
 -- a free cell has its place in a space of the map's size
 pub placed : (g : GridData) → IsGrid g → (space : SpaceData) → space.width ≡ g.width
@@ -59,7 +61,7 @@ module _ {g : GridData} {s t : Cell} {link : Links} (asked : IsAsked g s t link)
   run_free (x ∷ y ∷ earlier) is u (here z) =
       let f = least_offer-from rule (y ∷ earlier) x.state
       (record { cost = x.cost; from = x.parent }) is.2.offered in
-      let m = asked.are.moves f.by.state x.state f.offered.step f.offered.linked in
+      let m = asked.are.moves f.by.parent f.by.state x.state f.offered.step f.offered.linked in
       ((legal_is g f.by.state.cell x.state.cell m.legal).target, m.plain)
   run_free (x ∷ y ∷ earlier) is u (there z e m) = run_free (y ∷ earlier) is.0 u m
 
@@ -73,7 +75,7 @@ module _ {g : GridData} {s t : Cell} {link : Links} (asked : IsAsked g s t link)
       let f = least_offer-from rule (y ∷ earlier) x.state
       (record { cost = x.cost; from = x.parent }) is.2.offered in
       let before = moves_within (y ∷ earlier) is.0 f.by f.member in
-      let step = (asked.are.moves f.by.state x.state f.offered.step f.offered.linked).cost in
+      let step = (asked.are.moves f.by.parent f.by.state x.state f.offered.step f.offered.linked).cost in
       let a : x.cost.a ≡ f.by.cost.a + (move_cost f.by.state.cell x.state.cell).a
       = ap (λ (c : Cost). c.a) f.offered.total ∙ ap (λ (c : Cost). f.by.cost.a + c.a) step in
       let b : x.cost.b ≡ f.by.cost.b + (move_cost f.by.state.cell x.state.cell).b

@@ -69,7 +69,7 @@ module _ {g : GridData} {s t : Cell} (asked : IsAsked g s t (plain_links g)) {ta
   number_at : (u : Taken State) → IsIn u x.run → state_number g.width u.state < 65536 * g.width * 9
   number_at u h1 = grind (arith, nat_tests, free_inside, plain_at, state_below)
 
-  numbers : (states : List ℕ) → states ≡ numbers_of g.width x.run → (n : ℕ) → Contains states n
+  numbers : (states : List ℕ) → states ≡ numbers_of g.width (plain_links g) x.run → (n : ℕ) → Contains states n
       → (u : Taken State) × IsIn u x.run × (state_number g.width u.state ≡ n)
   numbers states e n c =
       let back : IsPermutation (reverse (map (number g.width) x.run)) (map (number g.width) x.run) =

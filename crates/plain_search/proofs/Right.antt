@@ -83,7 +83,7 @@ module _ (g : GridData) (t : Cell) (link : Links) (are : AreMoves g link) where
       let from = least_offer-from rule (y ∷ earlier) x.state (record { cost = x.cost; from = x.parent })
       is.2.offered in
       let before = way s (y ∷ earlier) f is.0 from.by from.member in
-      let moved = are.moves from.by.state x.state from.offered.step from.offered.linked in
+      let moved = are.moves from.by.parent from.by.state x.state from.offered.step from.offered.linked in
       let goes : Goes g s x.state.cell (before.cells ++ (x.state.cell ∷ []))
       (add_costs from.by.cost (move_cost from.by.state.cell x.state.cell)) = one_more g s from.by.state.cell
       x.state.cell before.cells from.by.cost before.goes moved.legal in

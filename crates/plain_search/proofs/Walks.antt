@@ -67,19 +67,19 @@ legal_apart g u v l = false_from_ne_true (is_same u v) (λ e. let one = is_same-
 -- the links of the plain engine on a map
 pub plain_are_links : (g : GridData) → AreLinks g.width g.height (plain_links g)
 plain_are_links g = record {
-  lands = λ u v c e. free_inside g v.cell (legal_is g u.cell v.cell (link_move g u v c e).legal).target;
-  moves = λ u v c e. legal_apart g u.cell v.cell (link_move g u v c e).legal;
+  lands = λ p u v c e. free_inside g v.cell (legal_is g u.cell v.cell (link_move g u v c e).legal).target;
+  moves = λ p u v c e. legal_apart g u.cell v.cell (link_move g u v c e).legal;
   starts = λ c. refl;
-  priced = λ u v c e. (let m = link_move g u v c e in m.cost ∙ move_cost-estimate g u.cell v.cell m.legal);
+  priced = λ p u v c e. (let m = link_move g u v c e in m.cost ∙ move_cost-estimate g u.cell v.cell m.legal);
 }
 
 -- links that are legal moves
 pub record AreMoves (g : GridData) (link : Links) : Type 0 where
   pub links : AreLinks g.width g.height link
-  pub moves : (u v : State) (c : Cost) → link.step u v ≡ Some c → IsMove g u v c
+  pub moves : (p u v : State) (c : Cost) → link.step p u v ≡ Some c → IsMove g u v c
 
 pub plain_are_moves : (g : GridData) → AreMoves g (plain_links g)
-plain_are_moves g = record { links = plain_are_links g; moves = link_move g }
+plain_are_moves g = record { links = plain_are_links g; moves = λ p. link_move g }
 
 -- the octile estimate is fit for the plain rule
 pub plain_consistent : (g : GridData) (t : Cell) → IsConsistent (plain_rule g t)
@@ -92,4 +92,4 @@ walk_chain g t s [] w = stays (start_at s)
 walk_chain g t s (v ∷ cells) w =
     let parts = and_both (is_legal g s v) (is_walk g (v ∷ cells)) w in
     goes_on (start_at s) (start_at v) (start_at (last_of v cells)) (move_cost s v) (cost_of (v ∷ cells))
-    (legal_link g s v parts.0) (walk_chain g t v cells parts.1)
+    (λ p. legal_link g s v parts.0) (walk_chain g t v cells parts.1)

@@ -20,11 +20,16 @@ abbrev pub is_led : Cell → Cell → Option Dir → Bool
 is_led u v None = true
 is_led u v (Some d) = option_map_or (λ c. is_same c v) (ahead d u) false
 
+-- what it costs to go on from one state to the next, whatever the search came to the first from
+abbrev pub plain_step : GridData → State → State → Option Cost
+plain_step g u v = move_link g u.cell v.cell v.arrival
+
 -- the links of the plain engine
 abbrev pub plain_links : GridData → Links
 plain_links g = record {
-  step = λ u v. move_link g u.cell v.cell v.arrival;
+  step = λ p u v. plain_step g u v;
   led = λ u v. is_led u.cell v.cell v.arrival;
+  arrived = λ p s. s;
 }
 
 -- the rule of a search for t

@@ -1,17 +1,19 @@
-use Rattle.std.proofs.Common.{◌≡◌, ◌∙◌, ◌<◌, sym, ap, subst, length, length-append, List, ℕ, [], ◌∷◌, ◌++◌}
+use Rattle.std.proofs.Common.{◌≡◌, refl, ◌∙◌, ◌<◌, sym, ap, subst, length, length-append, List, ℕ, [], ◌∷◌, ◌++◌}
 use Rattle.std.proofs.lemmas.Option.{slice_get_within}
 use Rattle.std.proofs.lemmas.Result.{IfOk-from_err}
 use Rattle.std.specs.Prelude.{slice_get}
 use Rattle.grid_moves.specs.declared.Cell.{Cell}
 use Rattle.grid_moves.specs.Grid.{is_free}
 use Rattle.best_first.specs.declared.node.Node.{Node}
+use Rattle.best_first.specs.declared.state.Layout.TheVariants.{ByCell}
 use Rattle.best_first.specs.State.{state_number, start_at}
 use Rattle.best_first.specs.Table.{Table}
 use Rattle.best_first.specs.Trace.{node_cell}
-use Rattle.best_first.proofs.Progress.{exhausted, next_taken}
+use Rattle.best_first.proofs.Progress.{exhausted, next_taken, shown_plainly}
 use Rattle.plain_search.proofs.Concluding.{taken_free}
 use Rattle.plain_search.proofs.Posed.{fit}
 use Rattle.plain_search.proofs.Shapes.{ready_on, narrow_on, ◌▸◌}
+use Rattle.goal_boxes.specs.Rule.{boxed_links}
 use Rattle.goal_boxes.proofs.Concluding.{may_go_on, has_offered}
 use Rattle.goal_boxes.proofs.Moves.{boxed_asked}
 use Rattle.goal_boxes.proofs.boxed.advance.Goals as goal
@@ -44,7 +46,10 @@ state_at-requires g c =
     ∙ c.node.ensures in
     let offered = has_offered g.K.Meant.boxes asked c.requires.taken c.reserve.new.self.table
     c.offer_all.new.space.table c.reserve.ensures.table c.requires.open_ended c.offer_all.ensures.expanded in
-    let on = next_taken (fit asked) offered c.in-Some.next c.node.result c.in-Some.ensures.first read in
+    let on = next_taken (fit asked) offered c.in-Some.next c.node.result c.in-Some.ensures.first read
+    (state_number grid.width (start_at (node_cell c.node.result)))
+    (shown_plainly ByCell grid.width (boxed_links grid g.K.Meant.boxes c.args.ends.to) c.node.result
+    (state_number grid.width (start_at (node_cell c.node.result))) asked.printed refl) in
     ap (λ (u : Cell). is_free grid u) c.cell.ensures ∙ taken_free asked on c.node.result read
 
 pub returns-in-None-clause-goes_on : goal.returns-in-None-clause-goes_on
@@ -65,7 +70,10 @@ returns-in_ok-push-in-Some-clause-goes_on g c =
     ∙ c.node.ensures in
     let offered = has_offered g.K.Meant.boxes asked c.requires.taken c.reserve.new.self.table
     c.offer_all.new.space.table c.reserve.ensures.table c.requires.open_ended c.offer_all.ensures.expanded in
-    let on = next_taken (fit asked) offered c.in-Some.next c.node.result c.in-Some.ensures.first read in
+    let on = next_taken (fit asked) offered c.in-Some.next c.node.result c.in-Some.ensures.first read
+    (state_number grid.width (start_at (node_cell c.node.result)))
+    (shown_plainly ByCell grid.width (boxed_links grid g.K.Meant.boxes c.args.ends.to) c.node.result
+    (state_number grid.width (start_at (node_cell c.node.result))) asked.printed refl) in
     let pushed : c.push.new.self
     ≡ c.args.taken.now ++ state_number grid.width (start_at (node_cell c.node.result)) ∷ []
     = c.in_ok-push-in-Some.ensures.pushed

@@ -1,15 +1,17 @@
-use Rattle.std.proofs.Common.{◌≡◌, ◌∙◌, ◌<◌, sym, ap, subst, length, length-append, List, ℕ, [], ◌∷◌, ◌++◌}
+use Rattle.std.proofs.Common.{◌≡◌, refl, ◌∙◌, ◌<◌, sym, ap, subst, length, length-append, List, ℕ, [], ◌∷◌, ◌++◌}
 use Rattle.std.proofs.lemmas.Option.{slice_get_within}
 use Rattle.std.proofs.lemmas.Result.{IfOk-from_err}
 use Rattle.std.specs.Prelude.{slice_get}
 use Rattle.grid_moves.specs.declared.Cell.{Cell}
 use Rattle.grid_moves.specs.Grid.{is_free}
 use Rattle.best_first.specs.declared.node.Node.{Node}
+use Rattle.best_first.specs.declared.state.Layout.TheVariants.{ByCell}
 use Rattle.best_first.specs.State.{state_number, start_at}
 use Rattle.best_first.specs.Table.{Table}
 use Rattle.best_first.specs.Trace.{node_cell}
 use Rattle.plain_search.specs.Progress.{HasStopped}
-use Rattle.best_first.proofs.Progress.{next_taken}
+use Rattle.plain_search.specs.Rule.{plain_links}
+use Rattle.best_first.proofs.Progress.{next_taken, shown_plainly}
 use Rattle.plain_search.proofs.Concluding.{taken_free, may_go_on, has_offered, has_stopped}
 use Rattle.plain_search.proofs.Posed.{plain_asked, fit}
 use Rattle.plain_search.proofs.Shapes.{ready_on, narrow_on, ◌▸◌}
@@ -39,7 +41,10 @@ state_at-requires g c =
     ∙ c.node.ensures in
     let offered = has_offered asked c.requires.taken c.reserve.new.self.table
     c.offer_all.new.space.table c.reserve.ensures.table c.requires.open_ended c.offer_all.ensures.expanded in
-    let on = next_taken (fit asked) offered c.in-Some.next c.node.result c.in-Some.ensures.first read in
+    let on = next_taken (fit asked) offered c.in-Some.next c.node.result c.in-Some.ensures.first read
+    (state_number grid.width (start_at (node_cell c.node.result)))
+    (shown_plainly ByCell grid.width (plain_links grid) c.node.result
+    (state_number grid.width (start_at (node_cell c.node.result))) asked.printed refl) in
     ap (λ (u : Cell). is_free grid u) c.cell.ensures ∙ taken_free asked on c.node.result read
 
 pub returns-in-None-clause-goes_on : goal.returns-in-None-clause-goes_on
@@ -61,7 +66,10 @@ returns-in_ok-push-in-Some-clause-goes_on g c =
     ∙ c.node.ensures in
     let offered = has_offered asked c.requires.taken c.reserve.new.self.table
     c.offer_all.new.space.table c.reserve.ensures.table c.requires.open_ended c.offer_all.ensures.expanded in
-    let on = next_taken (fit asked) offered c.in-Some.next c.node.result c.in-Some.ensures.first read in
+    let on = next_taken (fit asked) offered c.in-Some.next c.node.result c.in-Some.ensures.first read
+    (state_number grid.width (start_at (node_cell c.node.result)))
+    (shown_plainly ByCell grid.width (plain_links grid) c.node.result
+    (state_number grid.width (start_at (node_cell c.node.result))) asked.printed refl) in
     let pushed : c.push.new.self
     ≡ c.args.taken.now ++ state_number grid.width (start_at (node_cell c.node.result)) ∷ []
     = c.in_ok-push-in-Some.ensures.pushed
