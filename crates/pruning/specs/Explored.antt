@@ -2,7 +2,7 @@
 -- least walk. Which of equal ones it keeps, and in which order it takes cells, is left open here.
 -- Harabor and Grastien, AAAI 2011, have one node for each cell; as far as we know this was not proved by
 -- machine before.
-use Rattle.std.specs.Prelude.{◌≡◌, ◌≢◌, ℕ, true, List, [], ◌∷◌, ◌⊎◌}
+use Rattle.std.specs.Prelude.{◌≡◌, ◌≢◌, ℕ, true, List, [], ◌∷◌}
 use Rattle.root2_cost.specs.declared.Cost.{Cost}
 use Rattle.root2_cost.specs.Order.{IsAtMost}
 use Rattle.root2_cost.specs.Sums.{add_costs, no_cost}
@@ -42,30 +42,21 @@ pub record IsReachedAt (all : List Reached) (v : Cell) (bound : Cost) : Type 0 w
   pub cell : by.state.cell ≡ v
   pub no_more : IsAtMost by.cost bound
 
--- the cell waits, at no more than this cost
-pub record WaitsAt (Waits : Cell → Cost → Type 0) (v : Cell) (bound : Cost) : Type 0 where
-  pub cost : Cost
-  pub waits : Waits v cost
-  pub no_more : IsAtMost cost bound
-
--- each jump from one of them that is not at the goal leads to a cell that is among them or waits, at no more
--- than it costs that way
-abbrev pub AllOffered : GridData → Cell → List Reached → (Cell → Cost → Type 0) → Type 0
-AllOffered g goal all Waits = (u x : Reached) → IsOneOf u all → u.state.cell ≢ goal → LeadsTo g goal u x
-    → IsReachedAt all x.state.cell x.cost ⊎ WaitsAt Waits x.state.cell x.cost
-
--- some cell waits from which a walk leads on to t, at no more than this in all
-pub record LeadsOn (g : GridData) (t : Cell) (Waits : Cell → Cost → Type 0) (bound : Cost) : Type 0 where
-  pub cell : Cell
-  pub cost : Cost
-  pub waits : Waits cell cost
+-- one of them offers a cell that is not among them at no more than it costs that way, and from which a walk
+-- leads on to t, at no more than this in all
+pub record OffersMore (g : GridData) (t : Cell) (all : List Reached) (bound : Cost) : Type 0 where
+  pub by : Reached
+  pub member : IsOneOf by all
+  pub offered : Reached
+  pub leads : LeadsTo g t by offered
+  pub fresh : ¬ IsReachedAt all offered.state.cell offered.cost
   pub cells : List Cell
-  pub walk : IsWalk g cell t cells
-  pub no_more : IsAtMost (add_costs cost (cost_of (cell ∷ cells))) bound
+  pub walk : IsWalk g offered.state.cell t cells
+  pub no_more : IsAtMost (add_costs offered.cost (cost_of (offered.state.cell ∷ cells))) bound
 
--- as long as the goal is not among them, a cell of a least walk waits
+-- as long as the goal is not among them, one of them offers another cell of a least walk
 abbrev pub OneStateSuffices : Type 0
-OneStateSuffices = (g : GridData) (s t : Cell) (all : List Reached) (Waits : Cell → Cost → Type 0)
-    (cells : List Cell) → is_free g s ≡ true → AreReached g t s all
-    → ((u : Reached) → IsOneOf u all → u.state.cell ≢ t) → AllOffered g t all Waits
-    → IsLeastWalk g s t cells → LeadsOn g t Waits (cost_of (s ∷ cells))
+OneStateSuffices = (g : GridData) (s t : Cell) (all : List Reached) (cells : List Cell)
+    → is_free g s ≡ true → AreReached g t s all
+    → ((u : Reached) → IsOneOf u all → u.state.cell ≢ t)
+    → IsLeastWalk g s t cells → OffersMore g t all (cost_of (s ∷ cells))
