@@ -18,3 +18,4 @@ pub mod Stopping
 pub mod Chaining
 pub mod Running
 pub mod Unfolding
+pub mod Swapping
