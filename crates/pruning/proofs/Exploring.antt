@@ -2,7 +2,6 @@
 -- diagonal move goes first, from the cell that it jumped from.
 use Rattle.std.proofs.Common.{◌≡◌, ◌≢◌, ℕ, zero, suc, ◌+◌, ◌<◌, ◌≤◌, ◌⊎◌, inl, inr, arith, true, false, refl}
 use Rattle.std.proofs.Common.{ap, sym, ◌∙◌, subst, List, [], ◌∷◌, ◌++◌, length}
-use Rattle.std.specs.Prelude.{IsTrue, Some}
 use Rattle.root2_cost.specs.declared.Cost.{Cost}
 use Rattle.root2_cost.specs.Order.{IsAtMost, is_less}
 use Rattle.root2_cost.specs.Sums.{add_costs, no_cost}
@@ -13,8 +12,8 @@ use Rattle.root2_cost.proofs.Most.{Most, Most-then, Most-same, Most-add_left, Mo
 use Rattle.grid_moves.specs.declared.Cell.{Cell}
 use Rattle.grid_moves.specs.declared.Dir.{Dir}
 use Rattle.grid_moves.specs.Grid.{GridData, is_free}
-use Rattle.grid_moves.specs.Move.{ahead, legal_ahead, is_legal, is_same, dir_cost, move_cost}
-use Rattle.grid_moves.specs.Walk.{IsWalk, is_walk, cost_of, last_of}
+use Rattle.grid_moves.specs.Move.{is_legal, is_same, dir_cost, move_cost}
+use Rattle.grid_moves.specs.Walk.{IsWalk, IsLeastWalk, is_walk, cost_of, last_of}
 use Rattle.grid_moves.proofs.Costs.{cost_there}
 use Rattle.grid_moves.proofs.Legal.{and_both, legal_is, is_same-cell, is_same-itself}
 use Rattle.grid_moves.proofs.Walks.{Goes, last_free, last-joined, walk-joined, cost-joined}
@@ -22,9 +21,8 @@ use Rattle.pruning.specs.declared.Arrival.{Arrival}
 use Rattle.pruning.specs.declared.Arrival.TheVariants.{Start, By}
 use Rattle.pruning.specs.Turns.{is_diagonal}
 use Rattle.pruning.specs.Allowed.{is_allowed}
-use Rattle.pruning.specs.Marked.{run_end}
 use Rattle.pruning.specs.Canonical.{IsAllowedMove, FollowsRule, IsCanonicalWalk}
-use Rattle.pruning.specs.Chain.{State, start_state, run_cost, IsJump}
+use Rattle.pruning.specs.Chain.{start_state, run_cost}
 use Rattle.pruning.specs.Swap.{NoneCheaper, IsSwapped, DroppedTurnsAreSwapped, DiagonalsGoFirst}
 use Rattle.pruning.specs.Explored.{Reached, IsOneOf, here, there, LeadsTo, AreReached, begun, further}
 use Rattle.pruning.specs.Explored.{IsReachedAt, OffersMore, OneStateSuffices}
@@ -528,3 +526,44 @@ one_state_from dropped diagonals g s t all cells f r not_goal least =
       least = λ others o. (Most-then (Most-same (add_costs-no_cost_left (cost_of (s ∷ c.others))))
           (Most-then (record { is = c.no_more }) (record { is = least.least others o }))).is;
     }) (omega arith)
+
+-- the cell waits, at no more than this cost
+pub record WaitsAt (Waits : Cell → Cost → Type 0) (v : Cell) (bound : Cost) : Type 0 where
+  pub cost : Cost
+  pub waits : Waits v cost
+  pub no_more : IsAtMost cost bound
+
+-- each jump from one of them that is not at the goal leads to a cell that is among them or waits, at no more
+-- than it costs that way
+abbrev pub AllOffered : GridData → Cell → List Reached → (Cell → Cost → Type 0) → Type 0
+AllOffered g goal all Waits = (u x : Reached) → IsOneOf u all → u.state.cell ≢ goal → LeadsTo g goal u x
+    → IsReachedAt all x.state.cell x.cost ⊎ WaitsAt Waits x.state.cell x.cost
+
+-- some cell waits from which a walk leads on to t, at no more than this in all
+pub record LeadsOn (g : GridData) (t : Cell) (Waits : Cell → Cost → Type 0) (bound : Cost) : Type 0 where
+  pub cell : Cell
+  pub cost : Cost
+  pub waits : Waits cell cost
+  pub cells : List Cell
+  pub walk : IsWalk g cell t cells
+  pub no_more : IsAtMost (add_costs cost (cost_of (cell ∷ cells))) bound
+
+-- so whatever it is to wait, as long as the goal is not among them a cell of a least walk waits
+pub some_waits : OneStateSuffices → (g : GridData) (s t : Cell) (all : List Reached)
+    (Waits : Cell → Cost → Type 0) (cells : List Cell) → is_free g s ≡ true → AreReached g t s all
+    → ((u : Reached) → IsOneOf u all → u.state.cell ≢ t) → AllOffered g t all Waits
+    → IsLeastWalk g s t cells → LeadsOn g t Waits (cost_of (s ∷ cells))
+some_waits suffices g s t all Waits cells f r not_goal offered least =
+    let o = suffices g s t all cells f r not_goal least in
+    elim (offered o.by o.offered o.member (not_goal o.by o.member) o.leads) [
+      | inl a ↦ absurd (o.fresh a)
+      | inr a ↦ record {
+        cell = o.offered.state.cell;
+        cost = a.cost;
+        waits = a.waits;
+        cells = o.cells;
+        walk = o.walk;
+        no_more = (Most-then (Most-add_right (cost_of (o.offered.state.cell ∷ o.cells)) a.cost o.offered.cost
+            (record { is = a.no_more })) (record { is = o.no_more })).is;
+      }
+    ]

@@ -54,7 +54,7 @@ pub record OffersMore (g : GridData) (t : Cell) (all : List Reached) (bound : Co
   pub walk : IsWalk g offered.state.cell t cells
   pub no_more : IsAtMost (add_costs offered.cost (cost_of (offered.state.cell ∷ cells))) bound
 
--- as long as the goal is not among them, one of them offers another cell of a least walk
+-- as long as the goal is not among them, one of them offers a cell of a least walk that none has at as little
 abbrev pub OneStateSuffices : Type 0
 OneStateSuffices = (g : GridData) (s t : Cell) (all : List Reached) (cells : List Cell)
     → is_free g s ≡ true → AreReached g t s all

@@ -87,7 +87,8 @@ pub fn diagonals_go_first()
 {}
 
 /// A search that keeps one state for each cell, whichever of the arrivals of least cost, misses no least
-/// walk: until it comes to the goal, a cell of a least walk waits.
+/// walk: until it comes to the goal, one of its states leads to a cell of a least walk that none of them has
+/// at as little cost.
 pub fn one_state_suffices()
     ensures { OneStateSuffices }
 {}
