@@ -36,7 +36,7 @@ run_cost-next d k = by_parity d (λ h. rw h (same_cost _ _ (omega arith) (omega 
     (λ h. rw h (same_cost _ _ (omega arith) (omega arith)))
 
 -- one move, then m, then the rest
-leg_priced : (d : Dir) (m : ℕ) (rest : Cost)
+pub leg_priced : (d : Dir) (m : ℕ) (rest : Cost)
     → add_costs (run_cost d (1 + m)) rest ≡ add_costs (dir_cost d) (add_costs (run_cost d m) rest)
 leg_priced d m rest =
     ap (λ k. add_costs (run_cost d k) rest) (next m) ∙ ap (λ (c : Cost). add_costs c rest) (run_cost-next d m)
@@ -100,7 +100,7 @@ module _ (explained : TurnsAreMarked) (g : GridData) (t : Cell) where
   goes_on d v w cells c m (turns k _) f e = inl (marked k)
 
   -- the first stop of a jump from x in d lies on the walk from v, k moves on
-  record IsNext (x : Cell) (d : Dir) (k : ℕ) (v : Cell) (cells : List Cell) : Type 0 where
+  pub record IsNext (x : Cell) (d : Dir) (k : ℕ) (v : Cell) (cells : List Cell) : Type 0 where
     pub more : ℕ
     pub cell : Cell
     pub left : List Cell
@@ -160,7 +160,7 @@ module _ (explained : TurnsAreMarked) (g : GridData) (t : Cell) where
   no_stop : (v : Cell) (d : Dir) → is_stop g t d v ≡ false → IsStop g t d v → ⊥
   no_stop v d n s = let stops = (stops_are_told g t d v).complete s in absurd (cc)
 
-  next_stop : (x : Cell) (d : Dir) (k : ℕ) (v : Cell) (cells : List Cell) → 1 ≤ k
+  pub next_stop : (x : Cell) (d : Dir) (k : ℕ) (v : Cell) (cells : List Cell) → 1 ≤ k
       → run_end g d k x ≡ Some v → NoneBelow (StopsAfter g t x d) 1 k → FollowsRule g (By d) v cells
       → last_of v cells ≡ t → IsNext x d k v cells
   next_stop x d k v [] i r b f e = stops_here x d k v [] i r b f e (at_goal e)

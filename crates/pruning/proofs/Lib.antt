@@ -18,3 +18,5 @@ pub mod Stopping
 pub mod Chaining
 pub mod Running
 pub mod Unfolding
+pub mod Swapping
+pub mod Exploring

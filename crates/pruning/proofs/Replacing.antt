@@ -1,22 +1,25 @@
--- The first local fact: each turn that is not allowed has a replacement.
-use Rattle.std.proofs.Common.{◌≡◌, refl, ap, sym, ◌∙◌, ◌<◌, [], ◌∷◌, arith, Bool, true, false, not, ◌&&◌}
-use Rattle.std.proofs.Common.{◌||◌, ◌⊎◌, inl, inr}
+-- The first local fact: each turn that is not allowed has a replacement. It costs less, or the turn is from a
+-- straight direction to a diagonal one, which goes first.
+use Rattle.std.proofs.Common.{◌≡◌, refl, ap, sym, ◌∙◌, [], ◌∷◌, arith, Bool, true, false, not, ◌&&◌}
+use Rattle.std.proofs.Common.{◌||◌, ◌⊎◌, inl, inr, List}
 use Rattle.root2_cost.specs.declared.Cost.{Cost}
-use Rattle.root2_cost.specs.Order.{IsAtMost}
+use Rattle.root2_cost.specs.Order.{IsLess}
 use Rattle.root2_cost.specs.Sums.{add_costs, no_cost}
+use Rattle.root2_cost.proofs.AtMost.{less_at_most}
 use Rattle.grid_moves.specs.declared.Cell.{Cell}
 use Rattle.grid_moves.specs.declared.Corner.{Corner}
 use Rattle.grid_moves.specs.declared.Dir.{Dir}
 use Rattle.grid_moves.specs.Grid.{GridData, is_free}
-use Rattle.grid_moves.specs.Move.{is_passable, may_cut, move_cost, opposite, is_open, dir_cost}
+use Rattle.grid_moves.specs.Move.{is_passable, may_cut, opposite, is_open, dir_cost}
+use Rattle.grid_moves.specs.Walk.{IsWalk, cost_of}
 use Rattle.grid_moves.proofs.Legal.{legal_is, by_cut, passable-cut, passable-uncut}
 use Rattle.grid_moves.proofs.Costs.{cost_there}
 use Rattle.pruning.specs.declared.Arrival.TheVariants.{By}
 use Rattle.pruning.specs.declared.turns.Side.{Side}
 use Rattle.pruning.specs.declared.turns.Side.TheVariants.{Right, Left}
 use Rattle.pruning.specs.Turns.{turn, quarter, rear, is_diagonal}
-use Rattle.pruning.specs.Allowed.{is_blocked, keeps_eighth, keeps_quarter, is_kept}
-use Rattle.pruning.specs.Facts.{HasBetter, shorter, TurnsAreReplaced}
+use Rattle.pruning.specs.Allowed.{is_blocked, keeps_eighth, keeps_quarter, is_kept, is_allowed}
+use Rattle.pruning.specs.Facts.{HasBetter, IsSmaller, shorter, straighter, earlier, TurnsAreReplaced}
 use Rattle.pruning.proofs.Places.{Place, move}
 use Rattle.pruning.proofs.Table.{straight_back, straight_side, diagonal_back, diagonal_side, reversal}
 use Rattle.pruning.proofs.Table.{moved_both, Turned, turned, ahead, eighth, side, back, about, turn_parity}
@@ -36,6 +39,21 @@ passable-left r a b h k = grind (arith, by_cut, passable-uncut, passable-cut)
 -- the cost of two moves
 abbrev pair_cost : Dir → Dir → Cost
 pair_cost f h = add_costs (dir_cost f) (add_costs (dir_cost h) no_cost)
+
+-- a walk from u to w that costs less than those by way of v, and is smaller
+pub record HasCheaper (g : GridData) (u v w : Cell) : Type 0 where
+  pub instead : List Cell
+  pub walk : IsWalk g u w instead
+  pub less : IsLess (cost_of (u ∷ instead)) (cost_of (u ∷ v ∷ w ∷ []))
+  pub smaller : IsSmaller (u ∷ instead) (u ∷ v ∷ w ∷ [])
+
+-- d is straight and e diagonal, and from u to w lead a move in e and then one in d
+pub record GoesFirst (g : GridData) (u w : Cell) (d e : Dir) : Type 0 where
+  pub straight : is_diagonal d ≡ false
+  pub diagonal : is_diagonal e ≡ true
+  pub by : Cell
+  pub first : Leads g u by e
+  pub second : Leads g by w d
 
 module _ (g : GridData) (u v w : Cell) (d e : Dir) (l : Leads g u v d) (m : Leads g v w e) where
   source : is_free g u ≡ true
@@ -59,11 +77,11 @@ module _ (g : GridData) (u v w : Cell) (d e : Dir) (l : Leads g u v d) (m : Lead
   open_from f h s = grind (arith, open_there, free_place, move, leads_there)
 
   -- a reversal: nothing
-  undone : w ≡ u → HasBetter g u w (v ∷ w ∷ [])
+  undone : w ≡ u → HasCheaper g u v w
   undone s = record {
     instead = [];
     walk = record { legal = source; ends = sym s };
-    no_more = rw (cost_there d u v l.ahead_is, cost_there e v w m.ahead_is)
+    less = rw (cost_there d u v l.ahead_is, cost_there e v w m.ahead_is)
         (by_parity d (λ h. by_parity e (λ k. rw (h, k) refl) (λ k. rw (h, k) refl))
         (λ h. by_parity e (λ k. rw (h, k) refl) (λ k. rw (h, k) refl)));
     smaller = shorter (omega arith);
@@ -71,12 +89,12 @@ module _ (g : GridData) (u v w : Cell) (d e : Dir) (l : Leads g u v d) (m : Lead
 
   -- one move
   straight_to : (f : Dir) → Leads g u w f
-      → IsAtMost (add_costs (dir_cost f) no_cost) (pair_cost d e)
-      → HasBetter g u w (v ∷ w ∷ [])
+      → IsLess (add_costs (dir_cost f) no_cost) (pair_cost d e)
+      → HasCheaper g u v w
   straight_to f n c = record {
     instead = w ∷ [];
     walk = record { legal = rw (n.legal, target) refl; ends = refl };
-    no_more = rw (cost_there f u w n.ahead_is, cost_there d u v l.ahead_is, cost_there e v w m.ahead_is) c;
+    less = rw (cost_there f u w n.ahead_is, cost_there d u v l.ahead_is, cost_there e v w m.ahead_is) c;
     smaller = shorter (omega arith);
   }
 
@@ -92,8 +110,8 @@ module _ (g : GridData) (u v w : Cell) (d e : Dir) (l : Leads g u v d) (m : Lead
 
   -- a diagonal move back to a side: the straight move aside; a component's reverse: the other component
   side_only : (f : Dir) → is_diagonal f ≡ false → move e (move d (place_of u)) ≡ move f (place_of u)
-      → IsAtMost (add_costs (dir_cost f) no_cost) (pair_cost d e)
-      → HasBetter g u w (v ∷ w ∷ [])
+      → IsLess (add_costs (dir_cost f) no_cost) (pair_cost d e)
+      → HasCheaper g u v w
   side_only f h s c = straight_to f (along f u w h source target (sym s ∙ there)) c
 
   -- what is free at a place that is open
@@ -104,54 +122,62 @@ module _ (g : GridData) (u v w : Cell) (d e : Dir) (l : Leads g u v d) (m : Lead
   -- a straight move and then a quarter: the diagonal between
   cut : (s : Side) → is_diagonal d ≡ false → is_diagonal e ≡ false
       → move e (move d (place_of u)) ≡ move (turn s d) (place_of u)
-      → (may_cut g.corner ≡ false → is_open g u (quarter s d) ≡ true) → HasBetter g u w (v ∷ w ∷ [])
+      → (may_cut g.corner ≡ false → is_open g u (quarter s d) ≡ true) → HasCheaper g u v w
   cut s h j p a =
       let k : is_diagonal (turn s d) ≡ true = turn_parity s d ∙ ap not h in
       straight_to (turn s d) (leads_over g u w (turn s d) source target (sym p ∙ there) (passes_beside s a))
       (rw (k, h, j) refl)
 
-  -- two moves
-  over : (f h : Dir) (c : Cell) → Leads g u c f → Leads g c w h
-      → IsAtMost (pair_cost f h) (pair_cost d e)
-      → ((pair_cost f h).b < (pair_cost d e).b)
-      ⊎ (((pair_cost f h).b ≡ (pair_cost d e).b) × ((dir_cost h).b < (dir_cost e).b))
-      → HasBetter g u w (v ∷ w ∷ [])
-  over f h c n q less fewer = record {
-    instead = c ∷ w ∷ [];
-    walk = record { legal = rw (n.legal, q.legal, target) refl; ends = refl };
-    no_more = rw (cost_there f u c n.ahead_is, cost_there h c w q.ahead_is, first, second) less;
-    smaller = grind (arith, cost_there);
-  }
-    where
-      first : move_cost u v ≡ dir_cost d
-      first = cost_there d u v l.ahead_is
-
-      second : move_cost v w ≡ dir_cost e
-      second = cost_there e v w m.ahead_is
-
   -- a straight move and then an eighth: the diagonal goes first
-  swapped : (s : Side) → is_diagonal d ≡ false → is_diagonal e ≡ true
+  swapped : (s : Side) → is_diagonal d ≡ false
       → move e (move d (place_of u)) ≡ move d (move (turn s d) (place_of u))
       → is_open g u (turn s d) ≡ true
-      → (may_cut g.corner ≡ false → is_open g u (quarter s d) ≡ true) → HasBetter g u w (v ∷ w ∷ [])
-  swapped s h j p o a =
-      let k : is_diagonal (turn s d) ≡ true = turn_parity s d ∙ ap not h in
+      → (may_cut g.corner ≡ false → is_open g u (quarter s d) ≡ true) → GoesFirst g u w d (turn s d)
+  swapped s h p o a =
       let c = opened (turn s d) o in
-      let n = leads_over g u c.0 (turn s d) source c.2 c.1 (passes_beside s a) in
-      let q = along d c.0 w h c.2 target (ap (λ (r : Place). move d r) (sym c.1) ∙ sym p ∙ there) in
-      over (turn s d) d c.0 n q (rw (k, h, j) refl) (inr (rw (k, h, j) refl, rw (h, j) (omega arith)))
+      record {
+        straight = h;
+        diagonal = turn_parity s d ∙ ap not h;
+        by = c.0;
+        first = leads_over g u c.0 (turn s d) source c.2 c.1 (passes_beside s a);
+        second = along d c.0 w h c.2 target (ap (λ (r : Place). move d r) (sym c.1) ∙ sym p ∙ there);
+      }
 
   -- a diagonal move and then a quarter: the component twice
   halved : (s : Side) → is_diagonal d ≡ true → is_diagonal e ≡ true
       → move e (move d (place_of u)) ≡ move (turn s d) (move (turn s d) (place_of u))
-      → is_open g u (turn s d) ≡ true → HasBetter g u w (v ∷ w ∷ [])
+      → is_open g u (turn s d) ≡ true → HasCheaper g u v w
   halved s h j p o =
       let k : is_diagonal (turn s d) ≡ false = turn_parity s d ∙ ap not h in
       let c = opened (turn s d) o in
       let n = along (turn s d) u c.0 k source c.2 c.1 in
       let q = along (turn s d) c.0 w k c.2 target (ap (λ (r : Place). move (turn s d) r) (sym c.1) ∙ sym p
       ∙ there) in
-      over (turn s d) (turn s d) c.0 n q (rw (k, h, j) refl) (inl (rw (k, h, j) (omega arith)))
+      let o = cost_there (turn s d) u c.0 n.ahead_is in
+      let t = cost_there (turn s d) c.0 w q.ahead_is in
+      let r = cost_there d u v l.ahead_is in
+      let z = cost_there e v w m.ahead_is in
+      record {
+        instead = c.0 ∷ w ∷ [];
+        walk = record { legal = rw (n.legal, q.legal, target) refl; ends = refl };
+        less = rw (o, t, r, z, k, h, j) refl;
+        smaller = straighter refl (rw (o, t, r, z, k, h, j) (omega arith));
+      }
+
+  -- what goes first is better
+  first_better : GoesFirst g u w d e → HasBetter g u w (v ∷ w ∷ [])
+  first_better f =
+      let p = cost_there e u f.by f.first.ahead_is in
+      let q = cost_there d f.by w f.second.ahead_is in
+      let r = cost_there d u v l.ahead_is in
+      let z = cost_there e v w m.ahead_is in
+      record {
+        instead = f.by ∷ w ∷ [];
+        walk = record { legal = rw (f.first.legal, f.second.legal, target) refl; ends = refl };
+        no_more = rw (p, q, r, z, f.straight, f.diagonal) refl;
+        smaller = earlier refl (rw (p, q, r, z, f.straight, f.diagonal) refl)
+            (rw (p, q, r, z, f.straight, f.diagonal) (omega arith));
+      }
 
 -- what walls would keep
 or_false : (a b : Bool) → (a || b) ≡ false → b ≡ false
@@ -191,8 +217,12 @@ module _ (g : GridData) (u v w : Cell) (d : Dir) (l : Leads g u v d) where
       → is_blocked g v f ≡ false → is_open g u h ≡ true
   seen e m f h p b = grind (arith, open_from)
 
+  -- a cheaper walk, or a diagonal that goes first
+  abbrev Replaces : Dir → Type 0
+  Replaces e = HasCheaper g u v w ⊎ GoesFirst g u w d e
+
   by_turn : (e : Dir) → Turned d e → Leads g v w e → is_kept g.corner (is_blocked g v) (By d) e ≡ false
-      → HasBetter g u w (v ∷ w ∷ [])
+      → Replaces e
   by_turn _ ahead m k = absurd (let kept = kept-on g.corner (is_blocked g v) d in cc)
   by_turn _ (eighth s) m k =
       let not_kept : keeps_eighth g.corner (is_blocked g v) d s ≡ false =
@@ -203,24 +233,24 @@ module _ (g : GridData) (u v w : Cell) (d : Dir) (l : Leads g u v d) where
       (λ h.
       let j : is_diagonal (turn s d) ≡ true = turn_parity s d ∙ ap not h in
       let aside = straight_side s d (place_of u) h in
-      swapped g u v w d (turn s d) l m s h j (moved_both d (turn s d) (place_of u))
+      inr (swapped g u v w d (turn s d) l m s h (moved_both d (turn s d) (place_of u))
       (by_cut g.corner
       (λ e. sym (open_from g u v w d (turn s d) l m (quarter s d) (turn s d) aside)
       ∙ sides_open g v w (turn s d) m j e s)
       (λ e. seen (turn s d) m (quarter s d) (turn s d) aside (walls.1 e)))
-      (λ e. seen (turn s d) m (rear s d) (quarter s d) (straight_back s d (place_of u) h) (walls.0 e)))
+      (λ e. seen (turn s d) m (rear s d) (quarter s d) (straight_back s d (place_of u) h) (walls.0 e))))
   by_turn _ (side s) m k =
       let not_kept : keeps_quarter g.corner (is_blocked g v) d s ≡ false =
       sym (kept-quarter g.corner (is_blocked g v) s d) ∙ k in
       let walls = quarter_walls g.corner (is_blocked g v) d s not_kept in
-      by_parity d
+      inl (by_parity d
       (λ h. halved g u v w d (quarter s d) l m s h (quarter_parity s d ∙ h) (diagonal_side s d (place_of u) h)
       (by_cut g.corner (λ e. sides_open g u v d l h e s)
       (λ e. seen (quarter s d) m (rear s d) (turn s d) (diagonal_back s d (place_of u) h) (walls.1 h e))))
       (λ h. cut g u v w d (quarter s d) l m s h (quarter_parity s d ∙ h) (straight_side s d (place_of u) h)
       (λ e. seen (quarter s d) m (rear s d) (quarter s d) (straight_back s d (place_of u) h)
-      (walls.0 h e)))
-  by_turn _ (back s) m k = by_parity d
+      (walls.0 h e))))
+  by_turn _ (back s) m k = inl (by_parity d
       (λ h.
       let f : is_diagonal (turn s d) ≡ false = turn_parity s d ∙ ap not h in
       let j : is_diagonal (rear s d) ≡ false = grind (arith, turn_parity, quarter_parity) in
@@ -230,16 +260,28 @@ module _ (g : GridData) (u v w : Cell) (d : Dir) (l : Leads g u v d) where
       let f : is_diagonal (quarter s d) ≡ false = quarter_parity s d ∙ h in
       let j : is_diagonal (rear s d) ≡ true = turn_parity s (quarter s d) ∙ ap not f in
       side_only g u v w d (rear s d) l m (quarter s d) f (straight_back s d (place_of u) h)
-      (rw (f, h, j) refl))
-  by_turn _ about m k = undone g u v w d (opposite d) l m
-      (one_cell w u (sym (there g u v w d (opposite d) l m) ∙ reversal d (place_of u)))
+      (rw (f, h, j) refl)))
+  by_turn _ about m k = inl (undone g u v w d (opposite d) l m
+      (one_cell w u (sym (there g u v w d (opposite d) l m) ∙ reversal d (place_of u))))
+
+  -- what a turn that is not allowed is replaced by
+  pub replaced : (e : Dir) → Leads g v w e → is_allowed g v (By d) e ≡ false → Replaces e
+  replaced e m n = by_turn e (turned d e) m
+      (and_false (is_kept g.corner (is_blocked g v) (By d) e) _ (leads_can g v w e m) n)
+    where
+      and_false : (a b : Bool) → b ≡ true → (a && b) ≡ false → a ≡ false
+      and_false a b h1 h2 = grind arith
 
 pub turns_are_replaced : TurnsAreReplaced
 turns_are_replaced g u v w d e p q n =
     let l = legal_leads g u v d p in
     let m = legal_leads g v w e q in
-    by_turn g u v w d l e (turned d e) m
-    (and_false (is_kept g.corner (is_blocked g v) (By d) e) _ (leads_can g v w e m) n)
-  where
-    and_false : (a b : Bool) → b ≡ true → (a && b) ≡ false → a ≡ false
-    and_false a b h1 h2 = grind arith
+    elim (replaced g u v w d l e m n) [
+      | inl c ↦ record {
+        instead = c.instead;
+        walk = c.walk;
+        no_more = less_at_most (cost_of (u ∷ c.instead)) (cost_of (u ∷ v ∷ w ∷ [])) c.less;
+        smaller = c.smaller;
+      }
+      | inr f ↦ first_better g u v w d e l m f
+    ]

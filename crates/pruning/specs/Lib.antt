@@ -12,3 +12,5 @@ pub mod Chain
 pub mod Source
 pub mod Facts
 pub mod Laws
+pub mod Swap
+pub mod Explored

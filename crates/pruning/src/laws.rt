@@ -8,6 +8,8 @@ ghost use Rattle.pruning.specs.Facts.{TurnsAreReplaced, TurnsAreMarked};
 ghost use Rattle.pruning.specs.Laws.{CanonicalWalksSuffice, ChainsSuffice, ChainsAreWalks};
 ghost use Rattle.pruning.specs.Laws.{MarksAreTold, StopsAreTold, FirstStopIsFirst, OneFirstStop};
 ghost use Rattle.pruning.specs.Laws.{FirstMarkIsFirst, OneFirstMark, RunLengthIsTold};
+ghost use Rattle.pruning.specs.Swap.{DroppedTurnsAreSwapped, DiagonalsGoFirst};
+ghost use Rattle.pruning.specs.Explored.{OneStateSuffices};
 
 /// Two legal moves of which the second is not allowed after the first can be replaced: by moves of no
 /// greater cost that are fewer, or have fewer diagonal ones, or have these earlier.
@@ -71,4 +73,22 @@ pub fn only_one_first_mark()
 /// As many moves are legal, one after the other, as `run_length` computes.
 pub fn run_length_is_told()
     ensures { RunLengthIsTold }
+{}
+
+/// Where a turn behind a jump is not allowed and no walk is cheaper than the moves with it, it is one from
+/// a straight direction to a diagonal one, and the diagonal move can go first.
+pub fn dropped_turns_are_swapped()
+    ensures { DroppedTurnsAreSwapped }
+{}
+
+/// A diagonal move may be put before a canonical walk where no walk is cheaper.
+pub fn diagonals_go_first()
+    ensures { DiagonalsGoFirst }
+{}
+
+/// A search that keeps one state for each cell, whichever of the arrivals of least cost, misses no least
+/// walk: until it comes to the goal, one of its states leads to a cell of a least walk that none of them has
+/// at as little cost.
+pub fn one_state_suffices()
+    ensures { OneStateSuffices }
 {}
