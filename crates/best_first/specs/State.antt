@@ -1,6 +1,6 @@
 -- States of a search: a cell and how it was come to.
-use Rattle.std.specs.Prelude.{◌≡◌, ℕ, ◌+◌, ◌*◌, ◌/◌, ◌%◌, Bool, nat_eq, nat_lt, ◌&&◌, refl, Option}
-use Rattle.std.specs.Prelude.{Some, None, if◌then◌else◌, slice_get}
+use Rattle.std.specs.Prelude.{◌≡◌, ℕ, ◌+◌, ◌*◌, ◌/◌, ◌%◌, Bool, true, nat_eq, nat_lt, ◌&&◌, refl}
+use Rattle.std.specs.Prelude.{Option, Some, None, if◌then◌else◌, slice_get}
 use Rattle.grid_moves.specs.declared.Cell.{Cell}
 use Rattle.grid_moves.specs.declared.Dir.{Dir}
 use Rattle.grid_moves.specs.declared.Dir.TheVariants.{N, NE, E, SE, S, SW, W, NW}
@@ -48,11 +48,19 @@ heading u v =
     else if nat_lt u.y v.y then Some S
     else None
 
--- the second state, with how it was come to from the first: where a cell has one state, that is told by where
--- it lies from there
+-- how the second state was come to from the first: where a cell has one state, that is told by where it lies
+abbrev pub arrival_from : Layout → State → State → Option Dir
+arrival_from ByCell p s = heading p.cell s.cell
+arrival_from ByArrival p s = s.arrival
+
+-- the second state with that arrival
 abbrev pub arrived_in : Layout → State → State → State
-arrived_in ByCell p s = record { cell = s.cell; arrival = heading p.cell s.cell }
-arrived_in ByArrival p s = s
+arrived_in layout p s = record { cell = s.cell; arrival = arrival_from layout p s }
+
+-- a search with this layout may see the state: where a cell has one state, it is that of a start
+abbrev pub is_seen : Layout → State → Bool
+is_seen ByCell s = nat_eq (arrival_number s.arrival) 8
+is_seen ByArrival s = true
 
 -- row, column and arrival in one number, ordered as the numbers of states are
 unfoldable pub place_of : State → Place

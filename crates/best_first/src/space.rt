@@ -219,6 +219,13 @@ impl Space {
         Ok(())
     }
 
+    /// Which states a cell has.
+    pub fn layout(&self) -> Layout
+        ensures { result ≡ self.now.layout }
+    {
+        self.index.layout
+    }
+
     /// How many nodes there are, closed ones too.
     pub fn len(&self) -> u32
         ensures { result ≡ length self.now.table.nodes }
@@ -354,9 +361,14 @@ impl Space {
         self.lower(id, Node { key, parent, place }, steps);
     }
 
-    // Offers a way on from a taken state. The layout is a constant, so there is no look at it.
+    /// Offers a way on from a taken state: its node is added where the state has none, and takes the
+    /// place of the state's node where that one has a greater key. The layout is told as a constant, so
+    /// that there is no look at it.
+    ///
+    /// No closed node may have a greater key than the offer. As the estimate is consistent, none has
+    /// where the offer is one of the state that was taken last.
     #[inline(always)]
-    fn offer_in<const BY_CELL: bool, L: Ledger>(
+    pub fn offer<const BY_CELL: bool, L: Ledger>(
         &mut self,
         goal: Cell,
         offer: Offer,
@@ -382,45 +394,7 @@ impl Space {
         }
     }
 
-    /// Offers a way on from a taken state: its node is added where the state has none, and takes the
-    /// place of the state's node where that one has a greater key.
-    ///
-    /// No closed node may have a greater key than the offer. As the estimate is consistent, none has
-    /// where the offer is one of the state that was taken last.
-    #[inline(always)]
-    pub fn offer<L: Ledger>(&mut self, goal: Cell, offer: Offer, steps: &mut Steps<L>)
-        requires narrow { self.old.width ≤ 4096 }
-        requires placed { IsPlaced self.old.width self.old.places offer.to.cell }
-        requires fits { offer.rank < 2 ^ 63 }
-        requires closed { ClosedBelow (node_for goal offer).key self.old.table }
-        requires room { 1 ≤ self.old.spare }
-        ensures table { self.new.table ≡ offered self.old.layout goal offer self.old.table }
-        ensures shape { KeepsShape self.old self.new }
-        ensures spare { self.old.spare ≤ self.new.spare + 1 }
-    {
-        match self.index.layout {
-            Layout::ByCell => self.offer_in::<true, L>(goal, offer, steps),
-            Layout::ByArrival => self.offer_in::<false, L>(goal, offer, steps),
-        }
-    }
-
-    /// The same where a cell has a state for each arrival, with no look at the layout.
-    #[inline(always)]
-    pub fn offer_by_arrival<L: Ledger>(&mut self, goal: Cell, offer: Offer, steps: &mut Steps<L>)
-        requires layout { self.old.layout ≡ Layout.ByArrival }
-        requires narrow { self.old.width ≤ 4096 }
-        requires placed { IsPlaced self.old.width self.old.places offer.to.cell }
-        requires fits { offer.rank < 2 ^ 63 }
-        requires closed { ClosedBelow (node_for goal offer).key self.old.table }
-        requires room { 1 ≤ self.old.spare }
-        ensures table { self.new.table ≡ offered self.old.layout goal offer self.old.table }
-        ensures shape { KeepsShape self.old self.new }
-        ensures spare { self.old.spare ≤ self.new.spare + 1 }
-    {
-        self.offer_in::<false, L>(goal, offer, steps);
-    }
-
-    /// The same where each cell has one state, with no look at the layout.
+    /// The same where each cell has one state.
     #[inline(always)]
     pub fn offer_by_cell<L: Ledger>(&mut self, goal: Cell, offer: Offer, steps: &mut Steps<L>)
         requires layout { self.old.layout ≡ Layout.ByCell }
@@ -433,7 +407,7 @@ impl Space {
         ensures shape { KeepsShape self.old self.new }
         ensures spare { self.old.spare ≤ self.new.spare + 1 }
     {
-        self.offer_in::<true, L>(goal, offer, steps);
+        self.offer::<true, L>(goal, offer, steps);
     }
 
     /// Takes the open node that ranks first, and gives its number, or `None` where none is open.

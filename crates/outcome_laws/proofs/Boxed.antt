@@ -14,7 +14,7 @@ use Rattle.best_first.specs.declared.state.State.{State}
 use Rattle.best_first.specs.Answer.{IsAnswer}
 use Rattle.best_first.specs.Rule.{Links}
 use Rattle.best_first.proofs.Answering.{one_answer}
-use Rattle.plain_search.specs.Rule.{is_led, plain_links}
+use Rattle.plain_search.specs.Rule.{is_led, plain_links, plain_step}
 use Rattle.plain_search.proofs.Walks.{link_move}
 use Rattle.cost_waves.specs.Begin.{Begins}
 use Rattle.goal_boxes.specs.declared.area.Area.{Area}
@@ -45,14 +45,14 @@ module _ (g : GridData) (t : Cell) (a b : BoxTeller) (p : TellsBoxes g a) (q : T
       ∙ ap (λ (rest : Bool). leads_toward b t u v d || rest) (same_toward u v free dirs)
 
   same_step : (u v : State) → boxed_step g a t u v ≡ boxed_step g b t u v
-  same_step u v = by_link ((plain_links g).step u v) refl
+  same_step u v = by_link (plain_step g u v) refl
     where
-      by_link : (o : Option Cost) → (plain_links g).step u v ≡ o → boxed_step g a t u v ≡ boxed_step g b t u v
+      by_link : (o : Option Cost) → plain_step g u v ≡ o → boxed_step g a t u v ≡ boxed_step g b t u v
       by_link None e = none_either (is_toward_by a t u.cell v.cell all_dirs)
           (is_toward_by b t u.cell v.cell all_dirs)
-          ((plain_links g).step u v) e
+          (plain_step g u v) e
       by_link (Some c) e =
-          ap (λ (x : Bool). if x then (plain_links g).step u v else None)
+          ap (λ (x : Bool). if x then plain_step g u v else None)
           (same_toward u.cell v.cell (legal_is g u.cell v.cell (link_move g u v c e).legal).source all_dirs)
 
   same_links : boxed_links g a t ≡ boxed_links g b t
@@ -60,7 +60,11 @@ module _ (g : GridData) (t : Cell) (a b : BoxTeller) (p : TellsBoxes g a) (q : T
       let steps : (λ (u v : State). boxed_step g a t u v) ≡ (λ (u v : State). boxed_step g b t u v) =
       fun_ext (λ u. fun_ext (λ v. same_step u v)) in
       ap (λ (step : State → State → Option Cost).
-      let l : Links = record { step = step; led = (plain_links g).led } in l) steps
+      let l : Links = record {
+        step = λ p. step;
+        led = (plain_links g).led;
+        arrived = (plain_links g).arrived;
+      } in l) steps
 
 pub one_boxed : (g : GridData) (s t : Cell) (r q : Found) → IsBoxedRunOn g s t r
     → IsBoxedRunOn g s t q → r ≡ q

@@ -16,7 +16,7 @@ use Rattle.pruning.specs.Allowed.{is_allowed, allowed_dirs}
 use Rattle.pruning.specs.Source.{MostSteps, IsWithin, CanArrive}
 use Rattle.pruning.proofs.Packing.{few_kept}
 use Rattle.best_first.specs.declared.node.Node.{Node}
-use Rattle.best_first.specs.declared.state.Layout.TheVariants.{ByArrival}
+use Rattle.best_first.specs.declared.state.Layout.{Layout}
 use Rattle.best_first.specs.Progress.{HasOffered}
 use Rattle.best_first.specs.Space.{SpaceData, KeepsShape}
 use Rattle.best_first.specs.State.{state_number, state_told}
@@ -46,29 +46,29 @@ counted_one most fewest n a b c few first then low on = record {
     times : (n s : ℕ) → n ≤ 8 → n * s ≤ 8 * s
     times n s h = grind arith
 
-module _ (Stands : GridData → Type 0) (s t : Cell) (at : ℕ) (old mid : SpaceData) (taken : List ℕ)
-    (reached : OnEach Stands s t (λ g. HasReached g s t at old taken)) (shape : KeepsShape old mid)
+module _ (layout : Layout) (Stands : GridData → Type 0) (s t : Cell) (at : ℕ) (old mid : SpaceData) (taken : List ℕ)
+    (reached : OnEach Stands s t (λ g. HasReached layout g s t at old taken)) (shape : KeepsShape old mid)
     (table : mid.table ≡ old.table) where
   pub ranked : OnSome Stands s t → (n : Node) → slice_get mid.table.nodes at ≡ Some n
       → rank_of (estimate (node_cell n) t) ≤ n.key
-  ranked some n read = key_enough Stands s t some.0 some.1 at old taken (reached some.0 some.1) n
+  ranked some n read = key_enough layout Stands s t some.0 some.1 at old taken (reached some.0 some.1) n
       (ap (λ (k : Table). slice_get k.nodes at) (sym table) ∙ read)
 
   module _ (last : Last) (told : (n : Node) → slice_get mid.table.nodes at ≡ Some n → last ≡ last_at t at n)
       (by : Arrival) (by_is : by ≡ come_to last.state.arrival) where
     can_arrive : OnEach Stands s t (λ g. CanArrive g last.state.cell by)
     can_arrive g v = subst (λ (a : Arrival). CanArrive g last.state.cell a) (sym by_is)
-        (arrived_at Stands s t g v at old taken (reached g v) mid shape table last told).arrival
+        (arrived_at layout Stands s t g v at old taken (reached g v) mid shape table last told).arrival
 
     free_there : OnEach Stands s t (λ g. is_free g last.state.cell ≡ true)
-    free_there g v = (arrived_at Stands s t g v at old taken (reached g v) mid shape table last told).free
+    free_there g v = (arrived_at layout Stands s t g v at old taken (reached g v) mid shape table last told).free
 
     pub can_call : OnSome Stands s t
         → (g : GridData) × Stands g × IsTrue (is_free g last.state.cell) × CanArrive g last.state.cell by
     can_call some = (some.0, some.1.stands, free_there some.0 some.1, can_arrive some.0 some.1)
 
-    pub offering : OnEach Stands s t (λ g. IsOffering g s t last mid)
-    offering g v = offering_at Stands s t g v at old taken (reached g v) mid shape table last told
+    pub offering : OnEach Stands s t (λ g. IsOffering layout g s t last mid)
+    offering g v = offering_at layout Stands s t g v at old taken (reached g v) mid shape table last told
 
     module _ (dirs : List Dir)
         (rule : (g : GridData) → Stands g → IsTrue (is_free g last.state.cell)
@@ -91,25 +91,25 @@ module _ (Stands : GridData → Type 0) (s t : Cell) (at : ℕ) (old mid : Space
           (all_allowed g last.state.cell (come_to last.state.arrival) dirs (allowed g v)).each
 
       module _ (done : SpaceData) (jumps : OnEach Stands s t
-          (λ g. done.table ≡ jumped g t last dirs mid.table))
+          (λ g. done.table ≡ jumped layout g t last dirs mid.table))
           (shape_on : KeepsShape mid done)
           (open_ended : (n : Node) → slice_get old.table.nodes at ≡ Some n → is_same (node_cell n) t
           ≡ false) where
-        offered : OnEach Stands s t (λ g. HasOffered ByArrival g.width t (jump_links g t) s at done.table
+        offered : OnEach Stands s t (λ g. HasOffered layout g.width t (jump_links layout g t) s at done.table
             taken)
-        offered g v = offered_at Stands s t g v at old taken (reached g v) mid shape table last told dirs
+        offered g v = offered_at layout Stands s t g v at old taken (reached g v) mid shape table last told dirs
             done.table (allowed g v) (jumps g v) open_ended
 
-        pub ended : NoneOpen done.table → OnEach Stands s t (λ g. IsExhausted g s t taken)
-        ended none g v = none_waits Stands s t g v at done.table taken (reached g v).of.whole (offered g v)
+        pub ended : NoneOpen done.table → OnEach Stands s t (λ g. IsExhausted layout g s t taken)
+        ended none g v = none_waits layout Stands s t g v at done.table taken (reached g v).of.whole (offered g v)
             none
 
         module _ (id : ℕ) (first : IsFirstNode done.table id) (node : Node) (new : SpaceData)
             (read : slice_get new.table.nodes id ≡ Some node) (nodes : new.table.nodes ≡ done.table.nodes)
           where
             next : (g : GridData) (v : IsServed Stands s t g)
-                → HasNext Stands s t g v id node done.table taken
-            next g v = has_next Stands s t g v at done.table taken (reached g v).of.whole (offered g v) id
+                → HasNext layout Stands s t g v id node done.table taken
+            next g v = has_next layout Stands s t g v at done.table taken (reached g v).of.whole (offered g v) id
                 node first
                 (ap (λ (ns : List Node). slice_get ns id) (sym nodes) ∙ read)
 
@@ -120,8 +120,8 @@ module _ (Stands : GridData → Type 0) (s t : Cell) (at : ℕ) (old mid : Space
             pub reached_on : KeepsShape done new → new.table ≡ closed_at id done.table → (number : ℕ)
                 → ((g : GridData) → Stands g → number ≡ state_number g.width (state_told node.place))
                 → (after : List ℕ) → after ≡ taken ++ number ∷ []
-                → OnEach Stands s t (λ g. HasReached g s t id new after)
+                → OnEach Stands s t (λ g. HasReached layout g s t id new after)
             reached_on shape_last closed number is after pushed g v =
-                reached_next Stands s t g v id node mid done new taken after
-                (same_shape g old mid (reached g v).of shape) shape_on shape_last (next g v) closed
+                reached_next layout Stands s t g v id node mid done new taken after
+                (same_shape layout g old mid (reached g v).of shape) shape_on shape_last (next g v) closed
                 (pushed ∙ ap (λ (n : ℕ). taken ++ n ∷ []) (is g v.stands))

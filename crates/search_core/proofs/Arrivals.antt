@@ -1,6 +1,4 @@
 -- Taken states are free cells that can be come to as they were.
-use Rattle.std.proofs.lemmas.Bool.Decides.{nat_tests}
-use Rattle.std.proofs.lemmas.Grind.{common_steps}
 use Rattle.std.proofs.Common.{◌≡◌, ℕ, zero, suc, ◌≤◌, refl, sym, subst, true, List, [], ◌∷◌, arith}
 use Rattle.std.specs.Prelude.{Option, Some, None, option_and_then}
 use Rattle.grid_moves.specs.declared.Cell.{Cell}
@@ -12,10 +10,11 @@ use Rattle.pruning.specs.Source.{CanArrive}
 use Rattle.pruning.proofs.Running.{run_walked}
 use Rattle.search_run.specs.Run.{Taken, IsIn, here, there, IsRun}
 use Rattle.search_run.proofs.Leastness.{least_offer-from}
+use Rattle.best_first.specs.declared.state.Layout.{Layout}
 use Rattle.best_first.specs.declared.state.State.{State}
-use Rattle.best_first.specs.State.{start_at}
+use Rattle.best_first.specs.State.{start_at, arrived_in}
 use Rattle.search_core.specs.Jumps.{come_to, jump_rule}
-use Rattle.search_core.proofs.Links.{link_is, allowed_free}
+use Rattle.search_core.proofs.Links.{step_is, allowed_free, start_arrived}
 
 -- the last move of a run
 last_move : (g : GridData) (d : Dir) (k : ℕ) (x v : Cell) → 1 ≤ k → run_end g d k x ≡ Some v
@@ -40,20 +39,31 @@ pub record HasArrived (g : GridData) (s : State) : Type 0 where
   pub free : is_free g s.cell ≡ true
   pub arrival : CanArrive g s.cell (come_to s.arrival)
 
-pub run_arrived : (g : GridData) (s goal : Cell) → is_free g s ≡ true → (run : List (Taken State))
-    → IsRun (jump_rule g goal) (start_at s) run → (u : Taken State) → IsIn u run → HasArrived g u.state
-run_arrived g s goal free [] is u m = absurd is
-run_arrived g s goal free (x ∷ []) is u (there z e m) = elim m [ ]
-run_arrived g s goal free (x ∷ []) is u (here e) = grind (arith, nat_tests, common_steps)
-run_arrived g s goal free (x ∷ y ∷ earlier) is u (there z e m) =
-    run_arrived g s goal free (y ∷ earlier) is.0 u m
-run_arrived g s goal free (x ∷ y ∷ earlier) is u (here e) =
-    let from = least_offer-from (jump_rule g goal) (y ∷ earlier) x.state
+-- a taken state, as it was come to
+abbrev pub shown : Layout → Taken State → State
+shown layout u = arrived_in layout u.parent u.state
+
+pub run_arrived : (layout : Layout) (g : GridData) (s goal : Cell) → is_free g s ≡ true
+    → (run : List (Taken State)) → IsRun (jump_rule layout g goal) (start_at s) run → (u : Taken State)
+    → IsIn u run → HasArrived g (shown layout u)
+run_arrived layout g s goal free [] is u m = absurd is
+run_arrived layout g s goal free (x ∷ []) is u (there z e m) = elim m [ ]
+run_arrived layout g s goal free (x ∷ []) is u (here e) =
+    subst (λ (w : Taken State). HasArrived g (shown layout w)) (sym is)
+    (subst (λ (w : State). HasArrived g w) (sym (start_arrived layout s))
+    (record { free = free; arrival = tt }))
+run_arrived layout g s goal free (x ∷ y ∷ earlier) is u (there z e m) =
+    run_arrived layout g s goal free (y ∷ earlier) is.0 u m
+run_arrived layout g s goal free (x ∷ y ∷ earlier) is u (here e) =
+    let from = least_offer-from (jump_rule layout g goal) (y ∷ earlier) x.state
     (record { cost = x.cost; from = x.parent }) is.2.offered in
-    let l = link_is g goal from.by.state x.state from.offered.step from.offered.linked in
+    let l = (step_is layout g goal from.by.parent from.by.state x.state from.offered.step
+    from.offered.linked).jump in
     record {
       free = (run_walked g l.dir l.moves from.by.state.cell x.state.cell
-          (allowed_free g from.by.state l.dir l.allowed) l.reached).free;
-      arrival = subst (λ (a : Option Dir). CanArrive g x.state.cell (come_to a)) (sym l.arrives)
-          (last_move g l.dir l.moves from.by.state.cell x.state.cell l.first.in_range l.reached);
+          (allowed_free g (shown layout from.by) l.dir l.allowed) l.reached).free;
+      arrival = subst (λ (p : State). CanArrive g x.state.cell (come_to (arrived_in layout p x.state).arrival))
+          (sym from.offered.source)
+          (subst (λ (a : Option Dir). CanArrive g x.state.cell (come_to a)) (sym l.arrives)
+          (last_move g l.dir l.moves from.by.state.cell x.state.cell l.first.in_range l.reached));
     }

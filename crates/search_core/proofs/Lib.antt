@@ -1,11 +1,13 @@
 pub mod Links
+pub mod Arrivals
 pub mod Passing
 pub mod Ways
 pub mod Right
+pub mod ByCell
+pub mod Least
 pub mod Answering
 pub mod Offers
 pub mod Serving
 pub mod Counting
-pub mod Arrivals
 pub mod Standing
 pub mod Advancing

@@ -3,7 +3,7 @@ use Rattle.std.proofs.lemmas.Grind.{common_steps}
 use Rattle.std.proofs.Common.{◌≡◌, ℕ, ◌≤◌, refl, ap, sym, ◌∙◌, subst, Bool, true, false, arith}
 use Rattle.std.proofs.lemmas.Bool.Decides.{nat_tests}
 use Rattle.std.proofs.lemmas.Option.{same_Some}
-use Rattle.std.specs.Prelude.{Option, Some, None, option_and_then, if◌then◌else◌}
+use Rattle.std.specs.Prelude.{Option, Some, None, option_and_then, if◌then◌else◌, nat_eq}
 use Rattle.root2_cost.specs.declared.Cost.{Cost}
 use Rattle.root2_cost.proofs.Less.{same_cost}
 use Rattle.grid_moves.specs.declared.Cell.{Cell}
@@ -13,6 +13,7 @@ use Rattle.grid_moves.specs.Grid.{GridData, is_free}
 use Rattle.grid_moves.specs.Move.{is_same}
 use Rattle.grid_moves.specs.Points.{estimate}
 use Rattle.grid_moves.proofs.Legal.{and_both, free_inside, legal_is, is_same-cell, is_same-itself}
+use Rattle.grid_moves.proofs.Dirs.{dir_number-few}
 use Rattle.pruning.specs.Allowed.{is_allowed}
 use Rattle.pruning.specs.Chain.{run_cost}
 use Rattle.pruning.specs.First.{first_stop}
@@ -22,7 +23,11 @@ use Rattle.grid_moves.specs.Least.{FindsLeast, IsLeast}
 use Rattle.pruning.proofs.Bridging.{leads_from}
 use Rattle.pruning.proofs.Running.{AreMoved, run_walked}
 use Rattle.pruning.proofs.Stopping.{first_stop_is_first}
+use Rattle.best_first.specs.declared.state.Layout.{Layout}
+use Rattle.best_first.specs.declared.state.Layout.TheVariants.{ByCell, ByArrival}
 use Rattle.best_first.specs.declared.state.State.{State}
+use Rattle.best_first.specs.State.{start_at, state_in, arrived_in, is_seen, is_same_state, heading, arrival_number}
+use Rattle.best_first.proofs.States.{same_state, is_same_state-itself, is_same_state-state}
 use Rattle.best_first.specs.Rule.{AreLinks}
 use Rattle.search_core.specs.Jumps.{come_to, landing, jump_in, jump_link, jump_links}
 
@@ -117,17 +122,94 @@ moved_off SW k u v h m = let p = m.1 in grind (arith, nat_tests)
 moved_off W k u v h m = let p = m.0 in grind (arith, nat_tests)
 moved_off NW k u v h m = let p = m.1 in grind (arith, nat_tests)
 
+-- where the moves of a run lead, its direction leads
+pub moved_heading : (d : Dir) (k : ℕ) (u v : Cell) → 1 ≤ k → AreMoved d k u v → heading u v ≡ Some d
+moved_heading N k u v h m = let p = m.0 in let q = m.1 in grind (arith, nat_tests)
+moved_heading NE k u v h m = let p = m.0 in let q = m.1 in grind (arith, nat_tests)
+moved_heading E k u v h m = let p = m.0 in let q = m.1 in grind (arith, nat_tests)
+moved_heading SE k u v h m = let p = m.0 in let q = m.1 in grind (arith, nat_tests)
+moved_heading S k u v h m = let p = m.0 in let q = m.1 in grind (arith, nat_tests)
+moved_heading SW k u v h m = let p = m.0 in let q = m.1 in grind (arith, nat_tests)
+moved_heading W k u v h m = let p = m.0 in let q = m.1 in grind (arith, nat_tests)
+moved_heading NW k u v h m = let p = m.0 in let q = m.1 in grind (arith, nat_tests)
+
+heading_nowhere : (c : Cell) → heading c c ≡ None
+heading_nowhere c = grind (arith, nat_tests)
+
+-- a start was come to from itself
+pub start_arrived : (layout : Layout) (c : Cell) → arrived_in layout (start_at c) (start_at c) ≡ start_at c
+start_arrived ByArrival c = refl
+start_arrived ByCell c =
+    ap (λ (a : Option Dir). let s : State = record { cell = c; arrival = a } in s) (heading_nowhere c)
+
+-- a state that is seen, come to in a direction, is the one that is kept of it
+pub kept_of : (layout : Layout) (u v : State) (d : Dir) → is_seen layout v ≡ true
+    → (arrived_in layout u v).arrival ≡ Some d
+    → state_in layout (record { cell = v.cell; arrival = Some d }) ≡ v
+kept_of ByArrival u v d s a = same_state (record { cell = v.cell; arrival = Some d }) v refl (sym a)
+kept_of ByCell u v d s a = same_state (start_at v.cell) v refl (none v.arrival s)
+  where
+    none : (o : Option Dir) → nat_eq (arrival_number o) 8 ≡ true → None ≡ o
+    none None h = refl
+    none (Some e) h = absurd (let small = dir_number-few e in grind (arith, nat_tests))
+
+-- what is kept is seen
+pub kept_seen : (layout : Layout) (s : State) → is_seen layout (state_in layout s) ≡ true
+kept_seen ByArrival s = refl
+kept_seen ByCell s = refl
+
+-- where a run leads from a state, that is how its end is come to
+pub run_arrived_so : (layout : Layout) (u : State) (d : Dir) (k : ℕ) (v : Cell) → 1 ≤ k → AreMoved d k u.cell v
+    → arrived_in layout u (record { cell = v; arrival = Some d }) ≡ record { cell = v; arrival = Some d }
+run_arrived_so ByArrival u d k v h m = refl
+run_arrived_so ByCell u d k v h m =
+    ap (λ (a : Option Dir). let s : State = record { cell = v; arrival = a } in s)
+    (moved_heading d k u.cell v h m)
+
+-- whether it is told by the state or by where it lies
+pub kept_arrived : (layout : Layout) (u s : State)
+    → arrived_in layout u (state_in layout s) ≡ arrived_in layout u s
+kept_arrived ByArrival u s = refl
+kept_arrived ByCell u s = refl
+
+-- what stands in a node's place is the state as it was come to
+pub shown_told : (layout : Layout) (p u told : State) → u ≡ state_in layout told
+    → is_same_state told (arrived_in layout p told) ≡ true → arrived_in layout p u ≡ told
+shown_told layout p u told e led = ap (λ (s : State). arrived_in layout p s) e ∙ kept_arrived layout p told
+    ∙ sym (is_same_state-state told (arrived_in layout p told) led)
+
+-- a link of the search is a jump between states as they were come to
+pub record IsStep (layout : Layout) (g : GridData) (goal : Cell) (p u v : State) (c : Cost) : Type 0 where
+  pub seen : is_seen layout v ≡ true
+  pub jump : IsLink g goal (arrived_in layout p u) (arrived_in layout u v) c
+
+pub step_is : (layout : Layout) (g : GridData) (goal : Cell) (p u v : State) (c : Cost)
+    → (jump_links layout g goal).step p u v ≡ Some c → IsStep layout g goal p u v c
+step_is layout g goal p u v c h =
+    let s = chosen (is_seen layout v) (jump_link g goal (arrived_in layout p u) (arrived_in layout u v)) c h in
+    record { seen = s.0; jump = link_is g goal (arrived_in layout p u) (arrived_in layout u v) c s.1 }
+
+pub link_step : (layout : Layout) (g : GridData) (goal : Cell) (p u v : State) (c : Cost)
+    → is_seen layout v ≡ true → jump_link g goal (arrived_in layout p u) (arrived_in layout u v) ≡ Some c
+    → (jump_links layout g goal).step p u v ≡ Some c
+link_step layout g goal p u v c s e = rw s e
+
 -- jump links suit a search on the map
-pub jumps_are_links : (g : GridData) (goal : Cell) → AreLinks g.width g.height (jump_links g goal)
-jumps_are_links g goal = record {
-  lands = λ u v c e. let l = link_is g goal u v c e in
-      let r = run_walked g l.dir l.moves u.cell v.cell (allowed_free g u l.dir l.allowed) l.reached in
+pub jumps_are_links : (layout : Layout) (g : GridData) (goal : Cell)
+    → AreLinks g.width g.height (jump_links layout g goal)
+jumps_are_links layout g goal = record {
+  lands = λ p u v c e. let l = (step_is layout g goal p u v c e).jump in
+      let r = run_walked g l.dir l.moves u.cell v.cell
+      (allowed_free g (arrived_in layout p u) l.dir l.allowed) l.reached in
       free_inside g v.cell r.free;
-  moves = λ u v c e. let l = link_is g goal u v c e in
-      let r = run_walked g l.dir l.moves u.cell v.cell (allowed_free g u l.dir l.allowed) l.reached in
+  moves = λ p u v c e. let l = (step_is layout g goal p u v c e).jump in
+      let r = run_walked g l.dir l.moves u.cell v.cell
+      (allowed_free g (arrived_in layout p u) l.dir l.allowed) l.reached in
       moved_off l.dir l.moves u.cell v.cell l.first.in_range r.moved;
-  starts = λ c. refl;
-  priced = λ u v c e. let l = link_is g goal u v c e in
-      let r = run_walked g l.dir l.moves u.cell v.cell (allowed_free g u l.dir l.allowed) l.reached in
+  starts = λ c. subst (λ (s : State). is_same_state (start_at c) s ≡ true) (sym (start_arrived layout c))
+      (is_same_state-itself (start_at c));
+  priced = λ p u v c e. let l = (step_is layout g goal p u v c e).jump in
+      let r = run_walked g l.dir l.moves u.cell v.cell
+      (allowed_free g (arrived_in layout p u) l.dir l.allowed) l.reached in
       l.priced ∙ moved_cost l.dir l.moves u.cell v.cell r.moved;
 }

@@ -29,13 +29,14 @@ use Rattle.pruning.proofs.Firsts.{FindsLeast-once}
 use Rattle.pruning.proofs.Table.{same_dir}
 use Rattle.search_run.specs.Run.{Taken, IsIn, here, there, IsRun, is_taken}
 use Rattle.search_run.proofs.Leastness.{least_offer-from, is_taken-member}
+use Rattle.best_first.specs.declared.state.Layout.{Layout}
 use Rattle.best_first.specs.declared.state.State.{State}
-use Rattle.best_first.specs.State.{start_at}
+use Rattle.best_first.specs.State.{start_at, state_in, arrived_in, is_seen}
 use Rattle.best_first.proofs.Links.{consistent}
 use Rattle.best_first.proofs.Numbers.{differ}
-use Rattle.best_first.proofs.States.{same_state}
 use Rattle.search_core.specs.Jumps.{jump_links, jump_rule}
-use Rattle.search_core.proofs.Links.{link_is, jumps_are_links}
+use Rattle.search_core.proofs.Arrivals.{shown}
+use Rattle.search_core.proofs.Links.{step_is, kept_of, jumps_are_links}
 
 module _ {P Q : ℕ → Type 0} where
   all_map : (xs : List ℕ) → ((x : ℕ) → P x → Q x) → AllByRecursion P xs → AllByRecursion Q xs
@@ -175,14 +176,16 @@ module _ (g : GridData) (goal : Cell) where
             ends = r;
           }) (next v (λ j i f s. before j (omega arith) f s) last r)
 
+module _ (layout : Layout) (g : GridData) (goal : Cell) where
   -- the number is passed on the jump to one of the taken states
   record IsPassed (run : List (Taken State)) (q : ℕ) : Type 0 where
     by : Taken State
     member : IsIn by run
     dir : Dir
-    arrives : by.state.arrival ≡ Some dir
+    seen : is_seen layout by.state ≡ true
+    arrives : (shown layout by).arrival ≡ Some dir
     left : ℕ
-    at : IsAhead dir by.state.cell q left
+    at : IsAhead g goal dir by.state.cell q left
 
   -- different numbers, as many as there are moves of any taken state's cost
   record HasPassed (run : List (Taken State)) : Type 0 where
@@ -192,21 +195,27 @@ module _ (g : GridData) (goal : Cell) where
     enough : (u : Taken State) → IsIn u run → u.cost.a + u.cost.b ≤ length numbers
 
   -- a number that is passed on the jump to a new state is passed on none before
-  new_number : (earlier : List (Taken State)) (x : State) (d : Dir) (q p n : ℕ) → x.arrival ≡ Some d
-      → is_taken (jump_rule g goal) earlier x ≡ false → IsAhead d x.cell q n → IsPassed earlier p
-      → eqb q p ≡ false
-  new_number earlier x d q p n arrives untaken a old = differ q p (λ same.
-      let one = one_stop d old.dir x.cell old.by.state.cell q p n old.left same a old.at in
-      let state : old.by.state ≡ x = same_state old.by.state x (sym one.1)
-      (old.arrives ∙ ap (λ (h : Dir). Some h) (sym one.0) ∙ sym arrives) in
-      let yes : is_taken (jump_rule g goal) earlier x ≡ true =
-      sym (ap (λ (s : State). is_taken (jump_rule g goal) earlier s) state)
-      ∙ is_taken-member (jump_rule g goal)
-      (consistent g.width g.height goal (jump_links g goal) (jumps_are_links g goal)) earlier old.by
-      old.member in
+  new_number : (earlier : List (Taken State)) (p0 x : State) (d : Dir) (q p n : ℕ) → is_seen layout x ≡ true
+      → (arrived_in layout p0 x).arrival ≡ Some d
+      → is_taken (jump_rule layout g goal) earlier x ≡ false → IsAhead g goal d x.cell q n
+      → IsPassed earlier p → eqb q p ≡ false
+  new_number earlier p0 x d q p n seen arrives untaken a old = differ q p (λ same.
+      let one = one_stop g goal d old.dir x.cell old.by.state.cell q p n old.left same a old.at in
+      let kept : (e : Dir) → old.dir ≡ e → state_in layout (record { cell = old.by.state.cell; arrival = Some e })
+      ≡ old.by.state = λ e h. subst (λ (f : Dir).
+      state_in layout (record { cell = old.by.state.cell; arrival = Some f }) ≡ old.by.state) h
+      (kept_of layout old.by.parent old.by.state old.dir old.seen old.arrives) in
+      let state : old.by.state ≡ x = sym (kept d (sym one.0))
+      ∙ ap (λ (c : Cell). state_in layout (record { cell = c; arrival = Some d })) (sym one.1)
+      ∙ kept_of layout p0 x d seen arrives in
+      let yes : is_taken (jump_rule layout g goal) earlier x ≡ true =
+      sym (ap (λ (s : State). is_taken (jump_rule layout g goal) earlier s) state)
+      ∙ is_taken-member (jump_rule layout g goal)
+      (consistent g.width g.height goal (jump_links layout g goal) (jumps_are_links layout g goal)) earlier
+      old.by old.member in
       absurd (cc))
 
-  passed : (start : Cell) (run : List (Taken State)) → IsRun (jump_rule g goal) (start_at start) run
+  passed : (start : Cell) (run : List (Taken State)) → IsRun (jump_rule layout g goal) (start_at start) run
       → HasPassed run
   passed start [] is = absurd is
   passed start (x ∷ []) is = record {
@@ -220,11 +229,15 @@ module _ (g : GridData) (goal : Cell) where
       only u (here e) = rw is (omega arith)
       only u (there z e m) = elim m [ ]
   passed start (x ∷ y ∷ earlier) is =
-      let from = least_offer-from (jump_rule g goal) (y ∷ earlier) x.state
+      let from = least_offer-from (jump_rule layout g goal) (y ∷ earlier) x.state
       (record { cost = x.cost; from = x.parent }) is.2.offered in
-      let link = link_is g goal from.by.state x.state from.offered.step from.offered.linked in
+      let step = step_is layout g goal from.by.parent from.by.state x.state from.offered.step
+      from.offered.linked in
+      let link = step.jump in
+      let arrives : (shown layout x).arrival ≡ Some link.dir =
+      ap (λ (p : State). (arrived_in layout p x.state).arrival) from.offered.source ∙ link.arrives in
       let before = passed start (y ∷ earlier) is.0 in
-      let new = jump_numbers link.dir x.state.cell link.moves from.by.state.cell link.first.least
+      let new = jump_numbers g goal link.dir x.state.cell link.moves from.by.state.cell link.first.least
       link.first.holds
       link.reached in
       let long : length (new.numbers ++ before.numbers) ≡ link.moves + length before.numbers =
@@ -237,7 +250,8 @@ module _ (g : GridData) (goal : Cell) where
               by = x;
               member = here (y ∷ earlier);
               dir = link.dir;
-              arrives = link.arrives;
+              seen = step.seen;
+              arrives = arrives;
               left = b.left;
               at = b.at;
             }) new.each)
@@ -245,13 +259,15 @@ module _ (g : GridData) (goal : Cell) where
               by = b.by;
               member = there x (y ∷ earlier) b.member;
               dir = b.dir;
+              seen = b.seen;
               arrives = b.arrives;
               left = b.left;
               at = b.at;
             }) before.each);
         distinct = distinct_append new.numbers before.numbers new.distinct before.distinct
             (all_map new.numbers (λ q a. all_map before.numbers
-            (λ p b. new_number (y ∷ earlier) x.state link.dir q p a.left link.arrives is.2.waits a.at b)
+            (λ p b. new_number (y ∷ earlier) x.parent x.state link.dir q p a.left step.seen arrives is.2.waits
+            a.at b)
             before.each) new.each);
         enough = each_state from.by from.member link.moves
             (total link.dir link.moves from.by.cost x.cost
@@ -275,7 +291,7 @@ module _ (g : GridData) (goal : Cell) where
 
   -- so a state is taken at a cost of at most eight moves for each cell
   pub few_moves : (start : Cell) (run : List (Taken State)) (u : Taken State)
-      → IsRun (jump_rule g goal) (start_at start) run → IsIn u run
+      → IsRun (jump_rule layout g goal) (start_at start) run → IsIn u run
       → u.cost.a + u.cost.b ≤ g.height * g.width * 8
   unfolding number
   few_moves start run u is m =
@@ -294,7 +310,7 @@ module _ (g : GridData) (goal : Cell) where
 
   -- and no cost has more than 2^27 moves
   pub costs_fit : IsGrid g → (start : Cell) (run : List (Taken State)) (u : Taken State)
-      → IsRun (jump_rule g goal) (start_at start) run → IsIn u run → u.cost.a + u.cost.b ≤ 2 ^ 27
+      → IsRun (jump_rule layout g goal) (start_at start) run → IsIn u run → u.cost.a + u.cost.b ≤ 2 ^ 27
   costs_fit whole start run u is m =
       let few = few_moves start run u is m in
       let cells : g.height * g.width ≤ 16777216 =

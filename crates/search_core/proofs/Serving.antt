@@ -19,7 +19,7 @@ use Rattle.pruning.specs.Source.{MostSteps, IsWithin}
 use Rattle.pruning.specs.Stop.{IsFirstStop}
 use Rattle.pruning.proofs.Stopping.{only_one_first_stop}
 use Rattle.best_first.specs.declared.node.Offer.{Offer as Way}
-use Rattle.best_first.specs.declared.state.Layout.TheVariants.{ByArrival}
+use Rattle.best_first.specs.declared.state.Layout.{Layout}
 use Rattle.best_first.specs.Space.{SpaceData, KeepsShape}
 use Rattle.best_first.specs.Table.{Table, offered}
 use Rattle.best_first.specs.Trace.{node_cell}
@@ -44,30 +44,36 @@ module _ (P : Dir → Type 0) where
   all_next [] d rest a = a.0
   all_next (c ∷ done) d rest a = all_next done d rest a.1
 
--- a space that keeps its layout and its places has them for the same grid
-pub places_so : (g : GridData) {old new : SpaceData} → HasPlaces g old → new.layout ≡ old.layout
-    → new.places ≡ old.places → HasPlaces g new
-places_so g has layout places = record {
-  layout = layout ∙ has.layout;
-  enough = subst (λ (n : ℕ). g.height * g.width ≤ n) (sym places) has.enough;
-}
+-- a space that keeps its places has them for the same grid
+pub places_so : (g : GridData) {old new : SpaceData} → HasPlaces g old → new.places ≡ old.places
+    → HasPlaces g new
+places_so g has places =
+    record { enough = subst (λ (n : ℕ). g.height * g.width ≤ n) (sym places) has.enough }
 
 pub places_kept : (g : GridData) {old new : SpaceData} → HasPlaces g old → KeepsShape old new → HasPlaces g new
-places_kept g has shape = places_so g has shape.layout shape.places
+places_kept g has shape = places_so g has shape.places
 
 -- a space that keeps its shape serves as before
-pub same_shape : (g : GridData) (old new : SpaceData) → IsSpaceOf g old → KeepsShape old new → IsSpaceOf g new
-same_shape g old new of shape = record {
+pub same_shape : (layout : Layout) (g : GridData) (old new : SpaceData) → IsSpaceOf layout g old
+    → KeepsShape old new → IsSpaceOf layout g new
+same_shape layout g old new of shape = record {
   whole = of.whole;
+  layout_is = shape.layout ∙ of.layout_is;
   places = places_kept g of.places shape;
   width = shape.width ∙ of.width;
 }
 
-module _ (Stands : GridData → Type 0) (s t : Cell) (last : Last) (d : Dir)
+-- a cell with an allowed direction is free
+pub free_at : (Stands : GridData → Type 0) (s t : Cell) (last : Last) (d : Dir)
+    → OnEach Stands s t (λ g. is_allowed g last.state.cell (come_to last.state.arrival) d ≡ true)
+    → (g : GridData) → IsServed Stands s t g → is_free g last.state.cell ≡ true
+free_at Stands s t last d allowed g v = allowed_free g last.state d (allowed g v)
+
+module _ (layout : Layout) (Stands : GridData → Type 0) (s t : Cell) (last : Last) (d : Dir)
     (allowed : OnEach Stands s t (λ g. is_allowed g last.state.cell (come_to last.state.arrival) d ≡ true))
   where
-    pub free_at : (g : GridData) → IsServed Stands s t g → is_free g last.state.cell ≡ true
-    free_at g v = allowed_free g last.state d (allowed g v)
+    free_there : (g : GridData) → IsServed Stands s t g → is_free g last.state.cell ≡ true
+    free_there g v = free_at Stands s t last d allowed g v
 
     -- the answer of a source is the first stop
     pub record Answers (o : Option ℕ) : Type 0 where
@@ -77,69 +83,70 @@ module _ (Stands : GridData → Type 0) (s t : Cell) (last : Last) (d : Dir)
     computed : (o : Option ℕ) → Answers o → (g : GridData) → IsServed Stands s t g
         → first_stop g t last.state.cell d ≡ o
     computed o a g v =
-        sym (only_one_first_stop g t last.state.cell d o (a.first g v.stands (free_at g v) v.to))
+        sym (only_one_first_stop g t last.state.cell d o (a.first g v.stands (free_there g v) v.to))
 
     -- so the offer may be made
     pub ready_on : (space : SpaceData) (n : ℕ) → OnSome Stands s t
-        → OnEach Stands s t (λ g. IsOffering g s t last space) → Answers (Some n)
-        → (g : GridData) × IsReady g s t last d n space
+        → OnEach Stands s t (λ g. IsOffering layout g s t last space) → Answers (Some n)
+        → (g : GridData) × IsReady layout g s t last d n space
     ready_on space n some offering a = (
       some.0,
-      is_ready some.0 s t some.1.from some.1.to last space (offering some.0 some.1) d
+      is_ready layout some.0 s t some.1.from some.1.to last space (offering some.0 some.1) d
           (allowed some.0 some.1) n (computed (Some n) a some.0 some.1),
     )
 
     -- and gives the nodes after the jump
     pub jumped_on : (space : SpaceData) (n : ℕ) (o : Way) (new : Table)
-        → OnEach Stands s t (λ g. IsOffering g s t last space) → Answers (Some n) → o ≡ offer_after last d n
+        → OnEach Stands s t (λ g. IsOffering layout g s t last space) → Answers (Some n) → o ≡ offer_after last d n
         → new ≡ offered space.layout t o space.table
-        → OnEach Stands s t (λ g. new ≡ jumped_in g t last d space.table)
+        → OnEach Stands s t (λ g. new ≡ jumped_in layout g t last d space.table)
     jumped_on space n o new offering a same table g v =
         let k = space.table in
-        let made : new ≡ offered ByArrival t (offer_after last d n) k =
-        grind (arith, nat_tests, common_steps) in
-        made ∙ ap (λ (q : Option ℕ). option_map_or (λ m. offered ByArrival t (offer_after last d m) k) q k)
+        let made : new ≡ offered layout t (offer_after last d n) k =
+        table ∙ ap (λ (l : Layout). offered l t o k) (offering g v).of.layout_is
+        ∙ ap (λ (w : Way). offered layout t w k) same in
+        made ∙ ap (λ (q : Option ℕ). option_map_or (λ m. offered layout t (offer_after last d m) k) q k)
         (sym (computed (Some n) a g v))
 
-    pub stays_on : (k : Table) → Answers None → OnEach Stands s t (λ g. k ≡ jumped_in g t last d k)
-    stays_on k a g v = ap (λ (o : Option ℕ). option_map_or (λ m. offered ByArrival t (offer_after last d m) k)
+    pub stays_on : (k : Table) → Answers None → OnEach Stands s t (λ g. k ≡ jumped_in layout g t last d k)
+    stays_on k a g v = ap (λ (o : Option ℕ). option_map_or (λ m. offered layout t (offer_after last d m) k)
         o k)
         (sym (computed None a g v))
 
-module _ (Stands : GridData → Type 0) (s t : Cell) (last : Last) where
+module _ (layout : Layout) (Stands : GridData → Type 0) (s t : Cell) (last : Last) where
   -- the first of the directions were offered in, on each grid
   abbrev pub HasJumped : List Dir → Table → Table → Type 0
-  HasJumped dirs old new = OnEach Stands s t (λ g. new ≡ jumped g t last dirs old)
+  HasJumped dirs old new = OnEach Stands s t (λ g. new ≡ jumped layout g t last dirs old)
 
   -- one direction more
   jumped-joined : (g : GridData) (dirs : List Dir) (d : Dir) (k : Table)
-      → jumped g t last (dirs ++ d ∷ []) k ≡ jumped_in g t last d (jumped g t last dirs k)
+      → jumped layout g t last (dirs ++ d ∷ []) k ≡ jumped_in layout g t last d (jumped layout g t last dirs k)
   jumped-joined g [] d k = refl
-  jumped-joined g (e ∷ dirs) d k = jumped-joined g dirs d (jumped_in g t last e k)
+  jumped-joined g (e ∷ dirs) d k = jumped-joined g dirs d (jumped_in layout g t last e k)
 
   pub jumped_more : (done : List Dir) (d : Dir) (old mid new : Table) → HasJumped done old mid
-      → OnEach Stands s t (λ g. new ≡ jumped_in g t last d mid) → HasJumped (done ++ d ∷ []) old new
+      → OnEach Stands s t (λ g. new ≡ jumped_in layout g t last d mid) → HasJumped (done ++ d ∷ []) old new
   jumped_more done d old mid new before step g v =
-      step g v ∙ ap (λ (k : Table). jumped_in g t last d k) (before g v)
+      step g v ∙ ap (λ (k : Table). jumped_in layout g t last d k) (before g v)
       ∙ sym (jumped-joined g done d old)
 
   -- the search is still at its offers
   pub still_offering : (done : List Dir) (old new : SpaceData)
-      → OnEach Stands s t (λ g. IsOffering g s t last old)
+      → OnEach Stands s t (λ g. IsOffering layout g s t last old)
       → OnEach Stands s t (λ g. AllByRecursion
       (λ d. is_allowed g last.state.cell (come_to last.state.arrival) d ≡ true) done)
       → HasJumped done old.table new.table → KeepsShape old new
-      → OnEach Stands s t (λ g. IsOffering g s t last new)
+      → OnEach Stands s t (λ g. IsOffering layout g s t last new)
   still_offering done old new offering allowed has shape g v =
       let o = offering g v in
       record {
-        of = same_shape g old new o.of shape;
+        of = same_shape layout g old new o.of shape;
         latest = o.latest;
         earlier = o.earlier;
-        best = with_all o.latest o.best (ways_in g s t last done);
-        is_at = subst (λ (k : Table). IsAt g s t last o.latest o.earlier
-            (with_all o.latest o.best (ways_in g s t last done)) k) (sym (has g v))
-            (all_dirs_offered g s t last o.of.whole v.from v.to o.latest o.earlier done
+        best = with_all o.latest o.best (ways_in layout g s t last done);
+        is_at = subst (λ (k : Table). IsAt layout g s t last o.latest o.earlier
+            (with_all o.latest o.best (ways_in layout g s t last done)) k) (sym (has g v))
+            (all_dirs_offered layout g s t last o.of.whole v.from v.to o.latest o.earlier done
             (allowed g v) o.best old.table o.is_at);
       }
 
@@ -164,7 +171,7 @@ module _ (Stands : GridData → Type 0) (s t : Cell) (last : Last) where
     -- one more was offered in, and those after it are left
     pub at_next : (first : Dir) (left others : List Dir) (old mid new : SpaceData) (before at after : ℕ)
         → IsSoFar left old mid before at → left ≡ first ∷ others
-        → OnEach Stands s t (λ g. new.table ≡ jumped_in g t last first mid.table)
+        → OnEach Stands s t (λ g. new.table ≡ jumped_in layout g t last first mid.table)
         → mid.spare ≤ new.spare + 1 → IsWithin most (λ told. told.stop) at after
         → IsSoFar others old new before after
     at_next first left others old mid new before at after so split step spare steps =

@@ -16,15 +16,18 @@ use Rattle.pruning.specs.Allowed.{is_allowed}
 use Rattle.pruning.specs.Chain.{start_state, run_cost, IsJump, IsChain, stays, jumps, last_state}
 use Rattle.pruning.specs.Chain.{State as Stop}
 use Rattle.pruning.proofs.Stopping.{only_one_first_stop}
-use Rattle.search_run.specs.Run.{Taken, IsIn, here, there, IsRun, is_taken, way_to}
+use Rattle.search_run.specs.Run.{Rule, Taken, IsIn, here, there, IsRun, is_taken, way_to}
 use Rattle.search_run.specs.Chain.{Chain, IsConsistent, stays as links_nowhere, goes_on as links_on}
 use Rattle.search_run.proofs.Leastness.{least_offer-from, is_taken-member}
+use Rattle.best_first.specs.declared.state.Layout.{Layout}
+use Rattle.best_first.specs.declared.state.Layout.TheVariants.{ByArrival}
 use Rattle.best_first.specs.declared.state.State.{State}
-use Rattle.best_first.specs.State.{is_same_state, start_at}
+use Rattle.best_first.specs.State.{is_same_state, start_at, arrived_in}
 use Rattle.best_first.proofs.Links.{consistent}
 use Rattle.best_first.proofs.States.{is_same_state-state, is_same_state-itself}
 use Rattle.search_core.specs.Jumps.{come_to, jump_link, jump_links, jump_rule}
-use Rattle.search_core.proofs.Links.{IsLink, link_is, jump_is_link, jumps_are_links}
+use Rattle.search_core.proofs.Arrivals.{shown}
+use Rattle.search_core.proofs.Links.{IsLink, step_is, jump_is_link, jumps_are_links, start_arrived}
 
 -- a state of the search as chains have it, and back
 abbrev pub stop_of : State → Stop
@@ -40,11 +43,12 @@ state_at s = record { cell = s.cell; arrival = arrived s.arrival }
 come_again : (a : Arrival) → come_to (arrived a) ≡ a
 come_again a = grind (arith, nat_tests, common_steps)
 
-module _ (g : GridData) (goal : Cell) where
-  -- the estimate suits the rule of jumps
-  pub jumps_consistent : IsConsistent (jump_rule g goal)
-  jumps_consistent = consistent g.width g.height goal (jump_links g goal) (jumps_are_links g goal)
+-- the estimate suits the rule of jumps
+pub jumps_consistent : (layout : Layout) (g : GridData) (goal : Cell) → IsConsistent (jump_rule layout g goal)
+jumps_consistent layout g goal =
+    consistent g.width g.height goal (jump_links layout g goal) (jumps_are_links layout g goal)
 
+module _ (g : GridData) (goal : Cell) where
   jump_linked : (s u : Stop) (d : Dir) (k : ℕ) → IsJump g goal s u d k
       → jump_link g goal (state_at s) (state_at u) ≡ Some (run_cost d k)
   jump_linked s u d k j = jump_is_link g goal (state_at s) (state_at u) d k
@@ -53,13 +57,13 @@ module _ (g : GridData) (goal : Cell) where
       (sym (only_one_first_stop g goal s.cell d (Some k) j.first)) j.reached
 
   pub chain_linked : (s : Stop) (states : List Stop) (cost : Cost) → IsChain g goal s states cost
-      → Chain (jump_rule g goal) (state_at s) (state_at (last_state s states)) cost
+      → Chain (jump_rule ByArrival g goal) (state_at s) (state_at (last_state s states)) cost
   chain_linked s _ _ (stays _) = links_nowhere (state_at s)
   chain_linked s _ _ (jumps _ u states d k rest j c) =
       links_on (state_at s) (state_at u) (state_at (last_state u states)) (run_cost d k) rest
-      (jump_linked s u d k j) (chain_linked u states rest c)
+      (λ p. jump_linked s u d k j) (chain_linked u states rest c)
 
-  linked_jump : (u v : State) (c : Cost) (l : IsLink g goal u v c)
+  pub linked_jump : (u v : State) (c : Cost) (l : IsLink g goal u v c)
       → IsJump g goal (stop_of u) (stop_of v) l.dir l.moves
   linked_jump u v c l = grind (arith, nat_tests, common_steps)
 
@@ -80,59 +84,78 @@ module _ (g : GridData) (goal : Cell) where
       (sym (add_costs-assoc (run_cost e n) rest (run_cost d k)))
       (jumps s v (states ++ u ∷ []) e n (add_costs rest (run_cost d k)) i (one_more v u states rest d k c j))
 
-  -- the way to a taken state is a chain of the cost at which it was taken
-  pub record HasWay (s : Cell) (run : List (Taken State)) (v : State) (cost : Cost) : Type 0 where
-    pub states : List State
-    pub is_way : way_to (jump_rule g goal) run v ≡ start_at s ∷ states
-    pub chain : IsChain g goal (start_state s) (map stop_of states) cost
-    pub ends : last_state (start_state s) (map stop_of states) ≡ stop_of v
+-- the way to a taken state is a chain of the cost at which it was taken
+pub record HasWay (layout : Layout) (g : GridData) (goal s : Cell) (run : List (Taken State)) (u : Taken State)
+    : Type 0 where
+  pub states : List Stop
+  pub is_way : map (λ (v : State). v.cell) (way_to (jump_rule layout g goal) run u.state)
+      ≡ s ∷ map (λ (v : Stop). v.cell) states
+  pub chain : IsChain g goal (start_state s) states u.cost
+  pub ends : last_state (start_state s) states ≡ stop_of (shown layout u)
+
+module _ (layout : Layout) (g : GridData) (goal : Cell) where
+  abbrev rule : Rule State
+  rule = jump_rule layout g goal
 
   -- the way of an earlier state stays the same
   way_stays : (x : Taken State) (earlier : List (Taken State)) (v : State)
-      → is_taken (jump_rule g goal) earlier x.state ≡ false → is_taken (jump_rule g goal) earlier v ≡ true
+      → is_taken rule earlier x.state ≡ false → is_taken rule earlier v ≡ true
       → is_same_state x.state v ≡ false
   way_stays x earlier v n y = grind (arith, nat_tests, common_steps, is_same_state-state)
 
   -- the way over a parent, with one jump more
   goes_further : (s : Cell) (x : Taken State) (earlier : List (Taken State)) (by : Taken State) (c : Cost)
-      → IsLink g goal by.state x.state c → by.state ≡ x.parent → x.cost ≡ add_costs by.cost c
-      → HasWay s earlier by.state by.cost → HasWay s (x ∷ earlier) x.state x.cost
+      → IsLink g goal (shown layout by) (shown layout x) c → by.state ≡ x.parent
+      → x.cost ≡ add_costs by.cost c → HasWay layout g goal s earlier by → HasWay layout g goal s (x ∷ earlier) x
   goes_further s x earlier by c l parent total before =
-      let last = sym before.ends in
-      let jump : IsJump g goal (last_state (start_state s) (map stop_of before.states)) (stop_of x.state)
-      l.dir
-      l.moves = subst (λ (p : Stop). IsJump g goal p (stop_of x.state) l.dir l.moves) last
-      (linked_jump by.state x.state c l) in
-      let chain = one_more (start_state s) (stop_of x.state) (map stop_of before.states) by.cost l.dir l.moves
+      let jump : IsJump g goal (last_state (start_state s) before.states) (stop_of (shown layout x)) l.dir
+      l.moves = subst (λ (p : Stop). IsJump g goal p (stop_of (shown layout x)) l.dir l.moves) (sym before.ends)
+      (linked_jump g goal (shown layout by) (shown layout x) c l) in
+      let chain = one_more g goal (start_state s) (stop_of (shown layout x)) before.states by.cost l.dir l.moves
       before.chain jump in
       let cost : add_costs by.cost (run_cost l.dir l.moves) ≡ x.cost =
       ap (λ (p : Cost). add_costs by.cost p) (sym l.priced) ∙ sym total in
-      let joined : map stop_of (before.states ++ x.state ∷ [])
-      ≡ map stop_of before.states ++ stop_of x.state ∷ [] =
-      map-append stop_of before.states (x.state ∷ []) in
-      let way : way_to (jump_rule g goal) earlier x.parent ≡ start_at s ∷ before.states =
-      ap (λ (p : State). way_to (jump_rule g goal) earlier p) (sym parent) ∙ before.is_way in
-      grind (arith, nat_tests, common_steps, is_same_state-itself, last-joined)
+      record {
+        states = before.states ++ stop_of (shown layout x) ∷ [];
+        is_way = rw (is_same_state-itself x.state)
+            (map-append (λ (v : State). v.cell) (way_to rule earlier x.parent) (x.state ∷ [])
+            ∙ ap (λ (cells : List Cell). cells ++ x.state.cell ∷ [])
+            (ap (λ (p : State). map (λ (v : State). v.cell) (way_to rule earlier p)) (sym parent)
+            ∙ before.is_way)
+            ∙ ap (λ (cells : List Cell). s ∷ cells)
+            (sym (map-append (λ (v : Stop). v.cell) before.states (stop_of (shown layout x) ∷ []))));
+        chain = subst (λ (p : Cost). IsChain g goal (start_state s)
+            (before.states ++ stop_of (shown layout x) ∷ []) p) cost chain;
+        ends = last-joined g goal (start_state s) (stop_of (shown layout x)) before.states;
+      }
 
-  pub way : (s : Cell) (run : List (Taken State)) → IsRun (jump_rule g goal) (start_at s) run
-      → (u : Taken State) → IsIn u run → HasWay s run u.state u.cost
+  pub way : (s : Cell) (run : List (Taken State)) → IsRun rule (start_at s) run → (u : Taken State)
+      → IsIn u run → HasWay layout g goal s run u
   way s [] is u m = absurd is
   way s (x ∷ []) is u (there z e m) = elim m [ ]
   way s (x ∷ []) is u (here e) =
-      subst (λ (w : Taken State). HasWay s (w ∷ []) w.state w.cost) (sym is) (record {
+      subst (λ (w : Taken State). HasWay layout g goal s (w ∷ []) w) (sym is) (record {
         states = [];
         is_way = rw (is_same_state-itself (start_at s)) refl;
         chain = stays (start_state s);
-        ends = refl;
+        ends = ap stop_of (sym (start_arrived layout s));
       })
   way s (x ∷ y ∷ earlier) is u (here e) =
-      let from = least_offer-from (jump_rule g goal) (y ∷ earlier) x.state
+      let from = least_offer-from rule (y ∷ earlier) x.state
       (record { cost = x.cost; from = x.parent }) is.2.offered in
+      let l = (step_is layout g goal from.by.parent from.by.state x.state from.offered.step
+      from.offered.linked).jump in
       goes_further s x (y ∷ earlier) from.by from.offered.step
-      (link_is g goal from.by.state x.state from.offered.step from.offered.linked) (sym from.offered.source)
+      (subst (λ (p : State). IsLink g goal (shown layout from.by) (arrived_in layout p x.state)
+      from.offered.step) (sym from.offered.source) l) (sym from.offered.source)
       from.offered.total (way s (y ∷ earlier) is.0 from.by from.member)
   way s (x ∷ y ∷ earlier) is u (there z e m) =
       let other = way_stays x (y ∷ earlier) u.state is.2.waits
-      (is_taken-member (jump_rule g goal) jumps_consistent (y ∷ earlier) u m) in
+      (is_taken-member rule (jumps_consistent layout g goal) (y ∷ earlier) u m) in
       let before = way s (y ∷ earlier) is.0 u m in
-      grind (arith, nat_tests, common_steps)
+      record {
+        states = before.states;
+        is_way = rw other before.is_way;
+        chain = before.chain;
+        ends = before.ends;
+      }

@@ -13,11 +13,11 @@ use Rattle.search_run.specs.Run.{Taken}
 use Rattle.best_first.specs.declared.node.Node.{Node}
 use Rattle.best_first.specs.declared.node.Offer.{Offer as Way}
 use Rattle.best_first.specs.declared.state.State.{State}
-use Rattle.best_first.specs.declared.state.Layout.TheVariants.{ByArrival}
+use Rattle.best_first.specs.declared.state.Layout.{Layout}
 use Rattle.best_first.specs.Mirror.{Offers, IsSearching}
 use Rattle.best_first.specs.Progress.{HasTaken}
 use Rattle.best_first.specs.Space.{SpaceData}
-use Rattle.best_first.specs.State.{state_told}
+use Rattle.best_first.specs.State.{state_told, arrived_in}
 use Rattle.best_first.specs.Table.{Table, offered}
 use Rattle.best_first.specs.Trace.{rank_left}
 use Rattle.search_core.specs.declared.jumping.Last.{Last}
@@ -26,8 +26,9 @@ pub use Rattle.search_core.specs.Room.{HasPlaces}
 use Rattle.search_core.specs.Answer.{IsExhausted}
 
 -- the space holds the nodes of a search over jumps on this grid
-pub record IsSpaceOf (g : GridData) (space : SpaceData) : Type 0 where
+pub record IsSpaceOf (layout : Layout) (g : GridData) (space : SpaceData) : Type 0 where
   pub whole : IsGrid g
+  pub layout_is : space.layout ≡ layout
   pub places : HasPlaces g space
   pub width : space.width ≡ g.width
 
@@ -68,26 +69,26 @@ offer_after last d k = record {
 }
 
 -- the nodes after the offer of the jump in one direction, if it has a stop, and in all of these
-abbrev pub jumped_in : GridData → Cell → Last → Dir → Table → Table
-jumped_in g goal last d k =
-    option_map_or (λ n. offered ByArrival goal (offer_after last d n) k)
+abbrev pub jumped_in : Layout → GridData → Cell → Last → Dir → Table → Table
+jumped_in layout g goal last d k =
+    option_map_or (λ n. offered layout goal (offer_after last d n) k)
     (first_stop g goal last.state.cell d) k
 
-abbrev pub jumped : GridData → Cell → Last → List Dir → Table → Table
-jumped g goal last [] k = k
-jumped g goal last (d ∷ dirs) k = jumped g goal last dirs (jumped_in g goal last d k)
+abbrev pub jumped : Layout → GridData → Cell → Last → List Dir → Table → Table
+jumped layout g goal last [] k = k
+jumped layout g goal last (d ∷ dirs) k = jumped layout g goal last dirs (jumped_in layout g goal last d k)
 
-module _ (g : GridData) (s t : Cell) where
+module _ (layout : Layout) (g : GridData) (s t : Cell) where
   -- a search from s to t took this state last and is at its offers
   pub record IsAt (last : Last) (latest : Taken State) (earlier : List (Taken State)) (best : Offers)
       (k : Table) : Type 0 where
-    pub searching : IsSearching ByArrival g.width t (jump_links g t) s latest earlier last.at best k
-    pub state : latest.state ≡ last.state
+    pub searching : IsSearching layout g.width t (jump_links layout g t) s latest earlier last.at best k
+    pub state : arrived_in layout latest.parent latest.state ≡ last.state
     pub ranked : last.rank ≡ rank_of latest.cost
 
   -- it is, by some run
   pub record IsOffering (last : Last) (space : SpaceData) : Type 0 where
-    pub of : IsSpaceOf g space
+    pub of : IsSpaceOf layout g space
     pub latest : Taken State
     pub earlier : List (Taken State)
     pub best : Offers
@@ -95,10 +96,10 @@ module _ (g : GridData) (s t : Cell) where
 
   -- it took states of these numbers, the last one with the node of this number
   pub record HasReached (at : ℕ) (space : SpaceData) (taken : List ℕ) : Type 0 where
-    pub of : IsSpaceOf g space
-    pub has : HasTaken ByArrival g.width t (jump_links g t) s at space.table taken
+    pub of : IsSpaceOf layout g space
+    pub has : HasTaken layout g.width t (jump_links layout g t) s at space.table taken
 
   -- it took one state more, or ends as none waits
   abbrev pub GoesOnFrom : SpaceData → List ℕ → Option ℕ → Type 0
-  GoesOnFrom space taken None = IsExhausted g s t taken
+  GoesOnFrom space taken None = IsExhausted layout g s t taken
   GoesOnFrom space taken (Some at) = HasReached at space taken

@@ -1,6 +1,6 @@
 -- The rule of the jump engines: a state is a cell and the direction in which it was come to, and links are
 -- the jumps to first stops. Harabor and Grastien: AAAI 2011, and SoCS 2012 where no corner is cut.
-use Rattle.std.specs.Prelude.{◌≡◌, ℕ, true, refl, Option, Some, None, option_and_then, if◌then◌else◌, codes}
+use Rattle.std.specs.Prelude.{◌≡◌, ℕ, refl, Option, Some, None, option_and_then, if◌then◌else◌, codes}
 use Rattle.root2_cost.specs.declared.Cost.{Cost}
 use Rattle.grid_moves.specs.declared.Cell.{Cell}
 use Rattle.grid_moves.specs.declared.Corner.TheVariants.{Never, One}
@@ -16,9 +16,11 @@ use Rattle.pruning.specs.Chain.{run_cost}
 use Rattle.pruning.specs.First.{first_stop}
 use Rattle.pruning.specs.Marked.{run_end}
 use Rattle.search_run.specs.Run.{Rule}
+use Rattle.best_first.specs.declared.state.Layout.{Layout}
+use Rattle.best_first.specs.declared.state.Layout.TheVariants.{ByCell}
 use Rattle.best_first.specs.declared.state.State.{State}
 use Rattle.best_first.specs.Rule.{Links, search_rule}
-use Rattle.best_first.specs.State.{start_at}
+use Rattle.best_first.specs.State.{start_at, arrived_in, is_seen, is_same_state}
 
 -- how a search came to a state
 abbrev pub come_to : Option Dir → Arrival
@@ -40,13 +42,19 @@ jump_in g goal u v d =
 abbrev pub jump_link : GridData → Cell → State → State → Option Cost
 jump_link g goal u v = option_and_then (jump_in g goal u v.cell) v.arrival
 
--- the links of a search for a goal; a node's place has its state, and tells nothing of its parent
-abbrev pub jump_links : GridData → Cell → Links
-jump_links g goal = record { step = jump_link g goal; led = λ u v. true }
+-- the links of a search for a goal: from a state, as it was come to, to a state that the search may see, as it is
+-- come to; a node's place has its state as it was come to
+abbrev pub jump_links : Layout → GridData → Cell → Links
+jump_links layout g goal = record {
+  step = λ p u v. if is_seen layout v then jump_link g goal (arrived_in layout p u) (arrived_in layout u v) else None;
+  led = λ p v. is_same_state v (arrived_in layout p v);
+  arrived = arrived_in layout;
+}
 
--- the rule of such a search
-abbrev pub jump_rule : GridData → Cell → Rule State
-jump_rule g goal = search_rule g.width goal (jump_links g goal)
+-- the rule of such a search: with a state for each arrival at a cell, or with one for each cell, which keeps the
+-- first arrival of least cost
+abbrev pub jump_rule : Layout → GridData → Cell → Rule State
+jump_rule layout g goal = search_rule g.width goal (jump_links layout g goal)
 
 abbrev cell : ℕ → ℕ → Cell
 cell x y = record { x = x; y = y }
@@ -107,3 +115,22 @@ to_the_mark = refl
 
 pub mark_to_goal : jump_link gap_above (cell 3 3) (by SE 1 1) (by SE 3 3) ≡ Some (record { a = 0; b = 2 })
 mark_to_goal = refl
+
+-- with one state for each cell the same jumps lead from cell to cell: how a cell was come to is told by where it
+-- lies from the one before
+pub on_by_cell : (jump_links ByCell (pillar Never) (cell 2 2)).step (start_at (cell 0 0)) (start_at (cell 2 0))
+    (start_at (cell 2 2))
+    ≡ Some (record { a = 2; b = 0 })
+on_by_cell = refl
+
+-- what was come to from below does not go on down
+pub not_back_by_cell : (jump_links ByCell (pillar Never) (cell 2 2)).step (start_at (cell 2 2))
+    (start_at (cell 2 0)) (start_at (cell 2 2))
+    ≡ None
+not_back_by_cell = refl
+
+-- where a cell has one state, no other is seen
+pub no_other_by_cell : (jump_links ByCell (pillar Never) (cell 2 2)).step (start_at (cell 0 0))
+    (start_at (cell 2 0)) (by S 2 2)
+    ≡ None
+no_other_by_cell = refl

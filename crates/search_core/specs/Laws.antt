@@ -5,6 +5,7 @@ use Rattle.grid_moves.specs.Grid.{GridData, IsGrid, is_free}
 use Rattle.search_run.specs.Run.{Taken, IsIn, IsRun}
 use Rattle.path_points.specs.Least.{IsLeastOrNone}
 use Rattle.best_first.specs.declared.found.Found.{Found}
+use Rattle.best_first.specs.declared.state.Layout.{Layout}
 use Rattle.best_first.specs.declared.state.State.{State}
 use Rattle.best_first.specs.State.{start_at}
 use Rattle.search_core.specs.Jumps.{jump_rule}
@@ -12,10 +13,11 @@ use Rattle.search_core.specs.Answer.{IsJumpRun}
 
 -- what a run from a free cell answers is right
 abbrev pub RunsAreRight : Type 0
-RunsAreRight = (g : GridData) (s t : Cell) (f : Found) → is_free g s ≡ true → IsJumpRun g s t f
+RunsAreRight = (layout : Layout) (g : GridData) (s t : Cell) (f : Found) → is_free g s ≡ true
+    → IsJumpRun layout g s t f
     → IsLeastOrNone g s t f.walk
 
 -- no state is taken at a cost of more than 2^27 moves
 abbrev pub CostsFit : Type 0
-CostsFit = (g : GridData) (s t : Cell) (run : List (Taken State)) (u : Taken State) → IsGrid g
-    → IsRun (jump_rule g t) (start_at s) run → IsIn u run → u.cost.a + u.cost.b ≤ 2 ^ 27
+CostsFit = (layout : Layout) (g : GridData) (s t : Cell) (run : List (Taken State)) (u : Taken State)
+    → IsGrid g → IsRun (jump_rule layout g t) (start_at s) run → IsIn u run → u.cost.a + u.cost.b ≤ 2 ^ 27

@@ -7,7 +7,7 @@ ghost use Rattle.grid_moves.specs.Points.{estimate};
 ghost use Rattle.pruning.specs.Allowed.{is_allowed};
 ghost use Rattle.pruning.specs.Chain as chain;
 ghost use Rattle.pruning.specs.Source.{IsWithin};
-ghost use Rattle.best_first.specs.Space.{KeepsShape};
+ghost use Rattle.best_first.specs.Space.{KeepsShape, layout_by};
 ghost use Rattle.best_first.specs.Trace.{node_cell};
 ghost use Rattle.search_core.specs.Jumps as jumps;
 ghost use Rattle.search_core.specs.Jumping as spec;
@@ -146,7 +146,7 @@ pub(crate) fn last_at(space: &Space, goal: Cell, at: u32) -> Last
 }
 
 // Offers the jump in an allowed direction, if it has a stop.
-fn offer_jump<J: JumpSource, L: Ledger, M: Ledger>(
+fn offer_jump<const BY_CELL: bool, J: JumpSource, L: Ledger, M: Ledger>(
     j: &J,
     ends: Ends,
     last: Last,
@@ -157,24 +157,24 @@ fn offer_jump<J: JumpSource, L: Ledger, M: Ledger>(
 )
     requires some { OnSome (J.StandsFor j.now) ends.from ends.to }
     requires offering { OnEach (J.StandsFor j.now) ends.from ends.to
-        (λ g. spec.IsOffering g ends.from ends.to last space.old) }
+        (λ g. spec.IsOffering (layout_by BY_CELL) g ends.from ends.to last space.old) }
     requires allowed { OnEach (J.StandsFor j.now) ends.from ends.to
         (λ g. is_allowed g last.state.cell (jumps.come_to last.state.arrival) d ≡ true) }
     requires room { 1 ≤ space.old.spare }
     ensures jumped { OnEach (J.StandsFor j.now) ends.from ends.to
-        (λ g. space.new.table ≡ spec.jumped_in g ends.to last d space.old.table) }
+        (λ g. space.new.table ≡ spec.jumped_in (layout_by BY_CELL) g ends.to last d space.old.table) }
     ensures shape { KeepsShape space.old space.new }
     ensures spare { space.old.spare ≤ space.new.spare + 1 }
     ensures most { IsWithin (J.most j.now) (λ told. told.stop) steps.old steps.new }
     ensures fewest { steps.old ≤ steps.new }
 {
     if let Some(k) = j.stop(last.state.cell, d, ends.to, steps) {
-        space.offer_by_arrival(ends.to, offer_after(last, d, k), own);
+        space.offer::<BY_CELL, M>(ends.to, offer_after(last, d, k), own);
     }
 }
 
 // Offers the jumps in these directions.
-pub(crate) fn offer_jumps<J: JumpSource, L: Ledger, M: Ledger>(
+pub(crate) fn offer_jumps<const BY_CELL: bool, J: JumpSource, L: Ledger, M: Ledger>(
     j: &J,
     ends: Ends,
     last: Last,
@@ -185,19 +185,19 @@ pub(crate) fn offer_jumps<J: JumpSource, L: Ledger, M: Ledger>(
 )
     requires some { OnSome (J.StandsFor j.now) ends.from ends.to }
     requires offering { OnEach (J.StandsFor j.now) ends.from ends.to
-        (λ g. spec.IsOffering g ends.from ends.to last space.old) }
+        (λ g. spec.IsOffering (layout_by BY_CELL) g ends.from ends.to last space.old) }
     requires allowed { OnEach (J.StandsFor j.now) ends.from ends.to (λ g. AllByRecursion
         (λ d. is_allowed g last.state.cell (jumps.come_to last.state.arrival) d ≡ true) dirs) }
     requires room { length dirs ≤ space.old.spare }
     ensures jumped { OnEach (J.StandsFor j.now) ends.from ends.to
-        (λ g. space.new.table ≡ spec.jumped g ends.to last dirs space.old.table) }
+        (λ g. space.new.table ≡ spec.jumped (layout_by BY_CELL) g ends.to last dirs space.old.table) }
     ensures shape { KeepsShape space.old space.new }
     ensures most { IsWithin (J.most j.now) (λ told. length dirs * told.stop) steps.old steps.new }
     ensures fewest { steps.old ≤ steps.new }
 {
     let mut left = dirs;
     'jumps: while let Some(s) = left.split() {
-        offer_jump(j, ends, last, s.first, space, steps, own);
+        offer_jump::<BY_CELL, J, L, M>(j, ends, last, s.first, space, steps, own);
         left = s.others;
     }
 }

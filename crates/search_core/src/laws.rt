@@ -1,5 +1,6 @@
 //! Laws of the search over jumps: each is the contract of a call that does nothing.
 
+ghost use Rattle.best_first.specs.declared.state.Layout.{Layout};
 ghost use Rattle.best_first.specs.Answer.{AnswersExist, RunsAreOne};
 ghost use Rattle.search_core.specs.Answer.{IsJumpRun};
 ghost use Rattle.search_core.specs.Laws.{CostsFit, RunsAreRight};
@@ -7,11 +8,11 @@ ghost use Rattle.search_core.specs.Laws.{CostsFit, RunsAreRight};
 /// From each free cell to each cell of a map there is an answer that is right and that of the jump
 /// engines' run: its run from there ends.
 pub fn answers_exist()
-    ensures { AnswersExist IsJumpRun }
+    ensures { (layout : Layout) → AnswersExist (IsJumpRun layout) }
 {}
 
 /// What the run of the jump engines answers is right: a least walk, or none exactly where no walk
-/// exists.
+/// exists. So it is with a state for each arrival at a cell, and with one state for each cell.
 pub fn runs_are_right()
     ensures { RunsAreRight }
 {}
@@ -25,5 +26,5 @@ pub fn costs_fit()
 /// The jump engines' run from one cell to another is one: two answers that are their run have the same
 /// points, the same cost and the same taken states, whichever source found the jumps.
 pub fn runs_are_one()
-    ensures { RunsAreOne IsJumpRun }
+    ensures { (layout : Layout) → RunsAreOne (IsJumpRun layout) }
 {}

@@ -13,7 +13,7 @@ ghost use Rattle.std.specs.Prelude.{◌≡◌, ℕ, ◌+◌, ◌*◌, ◌<◌, �
 ghost use Rattle.grid_moves.specs.Grid.{GridData, IsGrid, is_free};
 ghost use Rattle.grid_moves.specs.Move.{is_same};
 ghost use Rattle.pruning.specs.Source.{IsWithin};
-ghost use Rattle.best_first.specs.Space.{KeepsShape};
+ghost use Rattle.best_first.specs.Space.{KeepsShape, layout_by};
 ghost use Rattle.best_first.specs.State.{state_number, state_told};
 ghost use Rattle.best_first.specs.Trace.{node_cell};
 ghost use Rattle.path_points.specs.Least.{IsLeastOrNone};
@@ -34,7 +34,7 @@ use std::sync::ledger::{Blank, Ledger};
 use steps::Steps;
 
 // Takes the start.
-fn begin<J: JumpSource, M: Ledger>(
+fn begin<const BY_CELL: bool, J: JumpSource, M: Ledger>(
     j: &J,
     ends: Ends,
     space: &mut Space,
@@ -42,10 +42,12 @@ fn begin<J: JumpSource, M: Ledger>(
     own: &mut Steps<M>,
 ) -> Result<(), NoMemory>
     requires some { OnSome (J.StandsFor j.now) ends.from ends.to }
+    requires layout { space.old.layout ≡ layout_by BY_CELL }
     requires places { OnEach (J.StandsFor j.now) ends.from ends.to (λ g. HasPlaces g space.old) }
     requires none { taken.old ≡ [] }
     ensures reached { OnOk result (OnEach (J.StandsFor j.now) ends.from ends.to
-        (λ g. HasReached g ends.from ends.to 0 space.new taken.new)) }
+        (λ g. HasReached (layout_by BY_CELL) g ends.from ends.to 0 space.new taken.new)) }
+    ensures layout { space.new.layout ≡ space.old.layout }
     ensures places { OnEach (J.StandsFor j.now) ends.from ends.to (λ g. HasPlaces g space.new) }
     ensures one { OnOk result (length taken.new ≡ 1) }
 {
@@ -68,7 +70,7 @@ fn number_at<J: JumpSource>(j: &J, node: Node) -> u32
 }
 
 // Makes the offers of the last taken state, and takes the next, if a state waits.
-fn advance<J: JumpSource, L: Ledger, M: Ledger>(
+fn advance<const BY_CELL: bool, J: JumpSource, L: Ledger, M: Ledger>(
     j: &J,
     ends: Ends,
     space: &mut Space,
@@ -79,20 +81,21 @@ fn advance<J: JumpSource, L: Ledger, M: Ledger>(
 ) -> Result<Option<u32>, NoMemory>
     requires some { OnSome (J.StandsFor j.now) ends.from ends.to }
     requires reached { OnEach (J.StandsFor j.now) ends.from ends.to
-        (λ g. HasReached g ends.from ends.to at space.old taken.old) }
+        (λ g. HasReached (layout_by BY_CELL) g ends.from ends.to at space.old taken.old) }
     requires open_ended { (n : _) → slice_get space.old.table.nodes at ≡ Some n
         → is_same (node_cell n) ends.to ≡ false }
     ensures goes_on { IfOk result (λ next. OnEach (J.StandsFor j.now) ends.from ends.to
-        (λ g. GoesOnFrom g ends.from ends.to space.new taken.new next)) }
+        (λ g. GoesOnFrom (layout_by BY_CELL) g ends.from ends.to space.new taken.new next)) }
     ensures one_more { IfOk result (λ next. IfSome next (λ id. length taken.new ≡ length taken.old + 1)) }
     ensures same { IfOk result (λ next. IfNone next (taken.new ≡ taken.old)) }
+    ensures layout { space.new.layout ≡ space.old.layout }
     ensures places { OnEach (J.StandsFor j.now) ends.from ends.to (λ g. HasPlaces g space.new) }
     ensures counted { IfOk result (λ _. IsCounted (J.most j.now) (J.fewest j.now) 1 steps.old steps.new) }
 {
     space.reserve()?;
     let last = last_at(space, ends.to, at);
     let dirs = j.allowed_word(last.state.cell, come_to(last.state.arrival), steps);
-    offer_jumps(j, ends, last, dirs, space, steps, own);
+    offer_jumps::<BY_CELL, J, L, M>(j, ends, last, dirs, space, steps, own);
     match space.take_next(own) {
         None => Ok(None),
         Some(next) => {
@@ -104,7 +107,7 @@ fn advance<J: JumpSource, L: Ledger, M: Ledger>(
 }
 
 // The answer where the goal was taken last.
-fn found<J: JumpSource>(
+fn found<const BY_CELL: bool, J: JumpSource>(
     alloc: Global,
     j: &J,
     ends: Ends,
@@ -114,10 +117,10 @@ fn found<J: JumpSource>(
 ) -> Result<Found, NoMemory>
     requires some { OnSome (J.StandsFor j.now) ends.from ends.to }
     requires reached { OnEach (J.StandsFor j.now) ends.from ends.to
-        (λ g. HasReached g ends.from ends.to at space.now taken) }
+        (λ g. HasReached (layout_by BY_CELL) g ends.from ends.to at space.now taken) }
     requires goal { (n : _) → slice_get space.now.table.nodes at ≡ Some n → node_cell n ≡ ends.to }
     ensures run { IfOk result (λ f. OnEach (J.StandsFor j.now) ends.from ends.to
-        (λ g. IsJumpRun g ends.from ends.to f)) }
+        (λ g. IsJumpRun (layout_by BY_CELL) g ends.from ends.to f)) }
     ensures found { IfOk result (λ f. IsSome f.walk) }
     ensures taken { IfOk result (λ f. f.taken ≡ taken) }
 {
@@ -140,7 +143,7 @@ fn none_taken(alloc: Global) -> Result<Taken, NoMemory>
 }
 
 // The search's run.
-fn run<J: JumpSource, L: Ledger, M: Ledger>(
+fn run<const BY_CELL: bool, J: JumpSource, L: Ledger, M: Ledger>(
     alloc: Global,
     j: &J,
     ends: Ends,
@@ -149,28 +152,30 @@ fn run<J: JumpSource, L: Ledger, M: Ledger>(
     own: &mut Steps<M>,
 ) -> Result<Found, NoMemory>
     requires some { OnSome (J.StandsFor j.now) ends.from ends.to }
+    requires layout { space.old.layout ≡ layout_by BY_CELL }
     requires places { OnEach (J.StandsFor j.now) ends.from ends.to (λ g. HasPlaces g space.old) }
     ensures run { IfOk result (λ f. OnEach (J.StandsFor j.now) ends.from ends.to
-        (λ g. IsJumpRun g ends.from ends.to f)) }
+        (λ g. IsJumpRun (layout_by BY_CELL) g ends.from ends.to f)) }
     ensures most { IfOk result (λ f. IsWithinTaken (J.most j.now) f steps.old steps.new) }
     ensures fewest { IfOk result (λ f. RoseByTaken (J.fewest j.now) f steps.old steps.new) }
+    ensures layout { space.new.layout ≡ space.old.layout }
     ensures places { OnEach (J.StandsFor j.now) ends.from ends.to (λ g. HasPlaces g space.new) }
 {
     let mut taken = none_taken(alloc)?;
-    begin(j, ends, space, &mut taken, own)?;
+    begin::<BY_CELL, J, M>(j, ends, space, &mut taken, own)?;
     let mut at: u32 = 0;
     'taking: while space.node(at).place.cell() != ends.to {
-        match advance(j, ends, space, at, &mut taken, steps, own)? {
+        match advance::<BY_CELL, J, L, M>(j, ends, space, at, &mut taken, steps, own)? {
             Some(next) => at = next,
             None => {
                 return Ok(Found { walk: None, taken });
             }
         }
     }
-    found(alloc, j, ends, space, at, taken)
+    found::<BY_CELL, J>(alloc, j, ends, space, at, taken)
 }
 
-// A search whose steps of the open list are counted by a counter of its own.
+// A search with the states that the space has, whose steps of the open list are counted by a counter of its own.
 fn run_counted<J: JumpSource, L: Ledger, M: Ledger>(
     alloc: Global,
     j: &J,
@@ -185,23 +190,28 @@ fn run_counted<J: JumpSource, L: Ledger, M: Ledger>(
     requires some { OnSome (J.StandsFor j.now) ends.from ends.to }
     requires places { OnEach (J.StandsFor j.now) ends.from ends.to (λ g. HasPlaces g space.old) }
     ensures run { IfOk result (λ f. OnEach (J.StandsFor j.now) ends.from ends.to
-        (λ g. IsJumpRun g ends.from ends.to f)) }
+        (λ g. IsJumpRun space.old.layout g ends.from ends.to f)) }
     ensures least { IfOk result (λ f. OnEach (J.StandsFor j.now) ends.from ends.to
         (λ g. IsLeastOrNone g ends.from ends.to f.walk)) }
     ensures most { IfOk result (λ f. IsWithinTaken (J.most j.now) f steps.old steps.new) }
     ensures fewest { IfOk result (λ f. RoseByTaken (J.fewest j.now) f steps.old steps.new) }
+    ensures layout { space.new.layout ≡ space.old.layout }
     ensures places { OnEach (J.StandsFor j.now) ends.from ends.to (λ g. HasPlaces g space.new) }
 {
     let mut own = Steps::<M>::new(blank);
-    run(alloc, j, ends, space, steps, &mut own)
+    match space.layout() {
+        Layout::ByCell => run::<true, J, L, M>(alloc, j, ends, space, steps, &mut own),
+        Layout::ByArrival => run::<false, J, L, M>(alloc, j, ends, space, steps, &mut own),
+    }
 }
 
 /// The jump engines' run from one free cell to another, over memory that is lent: its answer is a
 /// least walk, or that none exists.
 ///
 /// This holds on each grid for which `j` stands and in which both cells are free; there has to be one.
-/// `space` has to be made by arrival, for a map with as many cells at least; it is used again as often
-/// as wanted. `steps` counts what the source counts, by its bounds for each state that was taken.
+/// `space` has to be made for a map with as many cells at least; it is used again as often as wanted. Whether
+/// a cell has a state for each arrival, or one that keeps its first arrival of least cost, `space` tells.
+/// `steps` counts what the source counts, by its bounds for each state that was taken.
 pub fn search_in<J: JumpSource, L: Ledger>(
     alloc: Global,
     j: &J,
@@ -212,42 +222,46 @@ pub fn search_in<J: JumpSource, L: Ledger>(
 ) -> Result<Found, NoMemory>
     requires some { OnSome (J.StandsFor j.now) from to }
     requires places { OnEach (J.StandsFor j.now) from to (λ g. HasPlaces g space.old) }
-    ensures run { IfOk result (λ f. OnEach (J.StandsFor j.now) from to (λ g. IsJumpRun g from to f)) }
+    ensures run { IfOk result (λ f. OnEach (J.StandsFor j.now) from to
+        (λ g. IsJumpRun space.old.layout g from to f)) }
     ensures least { IfOk result (λ f. OnEach (J.StandsFor j.now) from to (λ g. IsLeastOrNone g from to f.walk)) }
     ensures most { IfOk result (λ f. IsWithinTaken (J.most j.now) f steps.old steps.new) }
     ensures fewest { IfOk result (λ f. RoseByTaken (J.fewest j.now) f steps.old steps.new) }
+    ensures layout { space.new.layout ≡ space.old.layout }
     ensures places { OnEach (J.StandsFor j.now) from to (λ g. HasPlaces g space.new) }
 {
     run_counted::<J, L, Brand>(alloc, j, Ends { from, to }, space, steps, Blank::new(1))
 }
 
 // The memory for searches on a map of this size.
-fn space_for<J: JumpSource>(alloc: Global, j: &J) -> Result<Space, NoMemory>
+fn space_for<J: JumpSource>(alloc: Global, j: &J, layout: Layout) -> Result<Space, NoMemory>
     requires { (g : GridData) × J.StandsFor j.now g }
-    ensures { IfOk result (λ space. (g : GridData) → J.StandsFor j.now g → HasPlaces g space) }
+    ensures layout { IfOk result (λ space. space.layout ≡ layout) }
+    ensures places { IfOk result (λ space. (g : GridData) → J.StandsFor j.now g → HasPlaces g space) }
 {
     let cells = j.height() as usize * j.width() as usize;
-    Space::new(alloc, Layout::ByArrival, cells)
+    Space::new(alloc, layout, cells)
 }
 
-/// The jump engines' run from one free cell to another: its answer is a least walk, or that none
-/// exists.
+/// The jump engines' run from one free cell to another, with these states: its answer is a least walk, or
+/// that none exists.
 ///
 /// This holds on each grid for which `j` stands and in which both cells are free; there has to be one.
 /// `steps` counts what the source counts, by its bounds for each state that was taken.
 pub fn search<J: JumpSource, L: Ledger>(
     alloc: Global,
     j: &J,
+    layout: Layout,
     from: Cell,
     to: Cell,
     steps: &mut Steps<L>,
 ) -> Result<Found, NoMemory>
     requires { OnSome (J.StandsFor j.now) from to }
-    ensures run { IfOk result (λ f. OnEach (J.StandsFor j.now) from to (λ g. IsJumpRun g from to f)) }
+    ensures run { IfOk result (λ f. OnEach (J.StandsFor j.now) from to (λ g. IsJumpRun layout g from to f)) }
     ensures least { IfOk result (λ f. OnEach (J.StandsFor j.now) from to (λ g. IsLeastOrNone g from to f.walk)) }
     ensures most { IfOk result (λ f. IsWithinTaken (J.most j.now) f steps.old steps.new) }
     ensures fewest { IfOk result (λ f. RoseByTaken (J.fewest j.now) f steps.old steps.new) }
 {
-    let mut space = space_for(alloc, j)?;
+    let mut space = space_for(alloc, j, layout)?;
     search_in(alloc, j, from, to, &mut space, steps)
 }

@@ -19,7 +19,7 @@ jumps-init g c = record {
 pub offer_jump-requires-clause-offering : goal.offer_jump-requires-clause-offering
 offer_jump-requires-clause-offering g c =
     let so = c.jumps.invariant.so_far in
-    still_offering (g.J.JumpSource.StandsFor c.args.j.now) c.args.ends.from c.args.ends.to c.args.last so.done
+    still_offering _ (g.J.JumpSource.StandsFor c.args.j.now) c.args.ends.from c.args.ends.to c.args.last so.done
     c.args.space.now c.jumps.space c.requires.offering
     (λ x served. all_front (λ d. is_allowed x c.args.last.state.cell (come_to c.args.last.state.arrival) d
     ≡ true)
@@ -43,7 +43,7 @@ offer_jump-requires-clause-room g c =
 
 pub jumps-preserved : goal.jumps-preserved
 jumps-preserved g c = record {
-  so_far = at_next (g.J.JumpSource.StandsFor c.args.j.now) c.args.ends.from c.args.ends.to c.args.last
+  so_far = at_next _ (g.J.JumpSource.StandsFor c.args.j.now) c.args.ends.from c.args.ends.to c.args.last
       (g.J.JumpSource.most c.args.j.now) c.args.dirs c.in-Some.s.first c.jumps.left c.in-Some.s.others
       c.args.space.now c.jumps.space c.offer_jump.new.space c.args.steps.now c.jumps.steps
       c.offer_jump.new.steps c.jumps.invariant.so_far c.in-Some.ensures.some
@@ -54,12 +54,12 @@ jumps-preserved g c = record {
 
 pub returns-clause-jumped : goal.returns-clause-jumped
 returns-clause-jumped g c =
-    (at_last (g.J.JumpSource.StandsFor c.args.j.now) c.args.ends.from c.args.ends.to c.args.last
+    (at_last _ (g.J.JumpSource.StandsFor c.args.j.now) c.args.ends.from c.args.ends.to c.args.last
     (g.J.JumpSource.most c.args.j.now) c.args.dirs c.jumps.left c.args.space.now c.jumps.space
     c.args.steps.now c.jumps.steps c.jumps.invariant.so_far c.in_default.ensures.none).0
 
 pub returns-clause-most : goal.returns-clause-most
 returns-clause-most g c =
-    (at_last (g.J.JumpSource.StandsFor c.args.j.now) c.args.ends.from c.args.ends.to c.args.last
+    (at_last _ (g.J.JumpSource.StandsFor c.args.j.now) c.args.ends.from c.args.ends.to c.args.last
     (g.J.JumpSource.most c.args.j.now) c.args.dirs c.jumps.left c.args.space.now c.jumps.space
     c.args.steps.now c.jumps.steps c.jumps.invariant.so_far c.in_default.ensures.none).1

@@ -1,4 +1,4 @@
-use Rattle.search_core.proofs.Right.{run_least}
+use Rattle.search_core.proofs.Least.{run_least}
 use Rattle.search_core.proofs.laws.runs_are_right.Goals as goal
 
 pub returns : goal.returns

@@ -20,9 +20,9 @@ pub returns-clause-reached : goal.returns-clause-reached
 returns-clause-reached g c = on_ok c.push.result c.push.ensures.pushed (λ pushed x served.
     let number = c.number.ensures
     ∙ ap (λ (u : State). state_number c.width-width.result u) c.start.ensures in
-    reached_first (g.J.JumpSource.StandsFor c.args.j.now) c.args.ends.from c.args.ends.to x served
+    reached_first _ (g.J.JumpSource.StandsFor c.args.j.now) c.args.ends.from c.args.ends.to x served
     c.args.space.now c.begin.new.self c.width-width.result c.args.taken.now c.push.new.self
-    (c.width-width.ensures.whole x served.stands) (c.requires.places x served)
+    (c.width-width.ensures.whole x served.stands) c.requires.layout (c.requires.places x served)
     (c.width-width.ensures.is x served.stands) c.in_ok-begin.ensures.layout c.in_ok-begin.ensures.places
     c.in_ok-begin.ensures.width c.in_ok-begin.ensures.begun c.requires.none
     (pushed ∙ ap (λ (n : ℕ). c.args.taken.now ++ n ∷ []) number))
@@ -37,11 +37,11 @@ returns-in_err-begin-clause-one g c =
 
 pub returns-in_err-begin-clause-places : goal.returns-in_err-begin-clause-places
 returns-in_err-begin-clause-places g c = λ x v.
-    places_so x (c.requires.places x v) c.begin.ensures.layout c.begin.ensures.places
+    places_so x (c.requires.places x v) c.begin.ensures.places
 
 pub returns-clause-places : goal.returns-clause-places
 returns-clause-places g c = λ x v.
-    places_so x (c.requires.places x v) c.begin.ensures.layout c.begin.ensures.places
+    places_so x (c.requires.places x v) c.begin.ensures.places
 
 pub returns-clause-one : goal.returns-clause-one
 returns-clause-one g c =

@@ -1,4 +1,5 @@
-use Rattle.std.proofs.Common.{◌-◌, length}
+use Rattle.std.proofs.Common.{not, eqb, ◌-◌, length}
+use Rattle.best_first.specs.Space.{layout_by}
 use Rattle.search_core.specs.Counting.{IsCountedSoFar}
 use Rattle.search_core.specs.Jumping.{HasReached}
 use Rattle.search_core.specs.Serving.{OnEach}
@@ -8,7 +9,7 @@ use Rattle.search_core.proofs.searching.run.Given as goal
 abbrev pub invariant-taking : goal.invariant-taking
 invariant-taking g l = record {
   reached : OnEach (g.J.JumpSource.StandsFor l.j) l.ends.from l.ends.to
-      (λ x. HasReached x l.ends.from l.ends.to l.at l.space l.taken);
+      (λ x. HasReached (layout_by (not (eqb g.row.BY_CELL 0))) x l.ends.from l.ends.to l.at l.space l.taken);
   counted : IsCountedSoFar (g.J.JumpSource.most l.j) (g.J.JumpSource.fewest l.j) l.taken l.initial.steps
       l.steps;
 }

@@ -16,7 +16,7 @@ use Rattle.best_first.proofs.Mirrors.{some_node}
 use Rattle.best_first.proofs.Parts.{node_state}
 use Rattle.best_first.proofs.States.{told-place}
 use Rattle.best_first.proofs.Tables.{entry_none, entry_some, open_of}
-use Rattle.best_first.proofs.space.Space.offer_in.Goals as goal
+use Rattle.best_first.proofs.space.Space.offer.Goals as goal
 
 pub node-requires : goal.node-requires
 node-requires g c =
