@@ -82,7 +82,10 @@ fn the_first_word_of_no_call_is_named(rt: HostRuntime) -> Result<(), Fail> {
         ("query m 0 0 2 0 engine=boxes states=cell", 8),
         ("query m 0 0 2 0 engine=moves states=cell", 8),
         ("query m 0 0 2 0 states=cell states=arrival", 8),
-        ("query m 0 0 2 0 engine=jps states=cell rule=one states=cell", 10),
+        (
+            "query m 0 0 2 0 engine=jps states=cell rule=one states=cell",
+            10,
+        ),
         ("query m 0 0 2 0 states=both", 7),
         ("query m 0 0 2 0 engine=jps states=", 8),
         ("query m 0 0 2 0 states=cell tables=f", 9),
@@ -291,7 +294,17 @@ fn a_map_stands_before_its_script_or_scenario(rt: HostRuntime) -> Result<(), Fai
     for (line, files, chosen) in calls {
         let words = words_of(rt.alloc(), line)?;
         match read_words(&words) {
-            Ok((request, Settings { pick, show, rule, .. })) => {
+            Ok(
+                (
+                    request,
+                    Settings {
+                        pick,
+                        show,
+                        rule,
+                        ..
+                    },
+                ),
+            ) => {
                 assert_eq!(rt; files_of(request), files, "{line}");
                 assert_eq!(rt; (pick, show, rule), chosen, "{line}");
             }
@@ -316,9 +329,18 @@ fn states_stand_beside_engines_that_jump(rt: HostRuntime) -> Result<(), Fail> {
         ("solve m s engine=block states=cell", (block, cell)),
         ("live m show=cells states=cell engine=plus", (plus, cell)),
         ("live m states=cell tables=f engine=plus", (plus, cell)),
-        ("scen m s states=cell show=taken engine=block", (block, cell)),
-        ("scen m s tables=f engine=plus states=arrival", (plus, arrival)),
-        ("draw m 0 0 1 1 engine=plus rule=both states=cell", (plus, cell)),
+        (
+            "scen m s states=cell show=taken engine=block",
+            (block, cell),
+        ),
+        (
+            "scen m s tables=f engine=plus states=arrival",
+            (plus, arrival),
+        ),
+        (
+            "draw m 0 0 1 1 engine=plus rule=both states=cell",
+            (plus, cell),
+        ),
         ("drill 1 states=cell engine=jps", (jps, cell)),
     ];
     for (line, chosen) in calls {
