@@ -23,6 +23,8 @@ pub(crate) const DRILLS: &str = "
 drill | drill 1 engine=each rule=none => 0 drill walks 54 none 1 blocked 45 ok 27 same 23 cost 5848 2278
 drill | drill 1 engine=each rule=one => 0 drill walks 54 none 1 blocked 45 ok 27 same 23 cost 3914 3239
 drill | drill 1 engine=each rule=both => 0 drill walks 55 none 0 blocked 45 ok 27 same 23 cost 3694 3235
+states | drill 1 states=cell engine=plain rule=any => 2 jps: word 4
+states | drill 1 engine=plain states=arrival rule=any => 2 jps: word 4
 ";
 
 #[test]

@@ -26,7 +26,16 @@ pub(crate) const SHORE: &[u8] = b"type octile\nheight 2\nwidth 3\nmap\n.WW\n.WW\
 
 pub(crate) const TWO_ROWS: &[u8] = b"type octile\nheight 2\nwidth 4\nmap\n....\n....\n";
 
-pub(crate) const ENGINES: [&str; 4] = ["engine=plain", "engine=jps", "engine=block", "engine=plus"];
+// Those of sessions; of a cell those that jump have a state for each direction of arrival, or one alone.
+pub(crate) const ENGINES: [&str; 7] = [
+    "engine=plain",
+    "engine=jps",
+    "engine=block",
+    "engine=plus",
+    "engine=jps states=cell",
+    "engine=block states=cell",
+    "engine=plus states=cell",
+];
 
 pub(crate) const RULES: [&str; 3] = ["rule=none", "rule=one", "rule=both"];
 
@@ -336,12 +345,58 @@ fn jumps_stop_at_marks_and_goals(rt: HostRuntime) -> Result<(), Fail> {
     Ok(())
 }
 
+// The same with one state for each cell: round the pillar the first offer of the goal stays.
+#[test]
+fn one_state_a_cell_stops_at_marks_and_goals(rt: HostRuntime) -> Result<(), Fail> {
+    let alloc = rt.alloc();
+    let table: [(&str, &[u8], &[u8]); 5] = [
+        (
+            "query m 0 0 2 2 show=trace rule=none",
+            PILLAR,
+            b"walk 4 0 0,0 2,0 2,2 taken 0,0:- 2,0:E 0,2:S 2,2:S\n",
+        ),
+        (
+            "query m 0 0 2 2 show=trace rule=one",
+            PILLAR,
+            b"walk 2 1 0,0 1,0 2,1 2,2 taken 0,0:- 1,0:E 0,1:S 2,1:SE 1,2:SE 2,2:S\n",
+        ),
+        (
+            "query m 0 0 3 0 show=trace rule=none",
+            MARK_BEHIND,
+            b"walk 3 0 0,0 3,0 taken 0,0:- 3,0:E\n",
+        ),
+        (
+            "query m 0 0 3 1 show=trace rule=none",
+            CLOSED_ROW,
+            b"walk 4 0 0,0 3,0 3,1 taken 0,0:- 3,0:E 3,1:S\n",
+        ),
+        (
+            "query m 0 0 3 3 show=trace rule=none",
+            GAP_ABOVE,
+            b"walk 0 3 0,0 1,1 3,3 taken 0,0:- 1,1:SE 3,3:SE\n",
+        ),
+    ];
+    for (words, map, line) in table {
+        for engine in ["engine=jps", "engine=block", "engine=plus"] {
+            check_with(
+                alloc,
+                &rt,
+                on_map(words, map),
+                &[engine, "states=cell"],
+                0,
+                line,
+            )?;
+        }
+    }
+    Ok(())
+}
+
 #[test]
 fn scripts_and_scenarios_are_answered(rt: HostRuntime) -> Result<(), Fail> {
     let alloc = rt.alloc();
     let (made, lines) = script();
     check(alloc, &rt, made, 0, lines, b"")?;
-    for engine in ["engine=jps", "engine=block", "engine=plus"] {
+    for engine in ENGINES {
         check_with(alloc, &rt, made, &[engine], 0, lines)?;
     }
     let floods = b"query 1 0 2 1\nflood 0 0\nquery 0 0 2 0\nflood 0 0\nquery 0 0 0 1\n";

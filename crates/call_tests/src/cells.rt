@@ -56,6 +56,10 @@ trace | draw m 0 0 2 0 show=trace engine=plain rule=any | .S.@/TW@O \
     | M1 0h1;M0 1h1;M3 0h1M2 1h2;M1 1h1;M0 0h1M1 0h1M2 0h1 | 0,0 2,0 => 0 walk 2 0
 trace | draw m 0 0 2 0 show=trace engine=jumping rule=any | .S.@/TW@O \
     | M1 0h1;M0 1h1;M3 0h1M2 1h2;M1 1h1;M0 0h1M2 0h1 | 0,0 2,0 => 0 walk 2 0
+trace | draw m 0 0 2 2 show=trace engine=by-arrival rule=none | .../.@./... \
+    | ;;M1 1h1;;M0 0h1M2 0h1M0 2h1M2 2h1 | 0,0 0,2 2,2 => 0 walk 4 0
+trace | draw m 0 0 2 2 show=trace engine=by-cell rule=none | .../.@./... \
+    | ;;M1 1h1;;M0 0h1M2 0h1M0 2h1M2 2h1 | 0,0 2,0 2,2 => 0 walk 4 0
 water | draw m 0 0 2 0 engine=each rule=none | W.W/WWW | ;;;M0 0h1M2 0h1M0 1h3 | 0,0 0,1 2,1 2,0 => 0 walk 4 0
 water | draw m 0 0 2 0 engine=each rule=slipping | W.W/WWW | ;;;M0 0h1M2 0h1M0 1h3 | 0,0 1,1 2,0 => 0 walk 0 2
 point | draw m 1 0 1 0 show=trace engine=each rule=any | .S. | M1 0h1;;;;M1 0h1 | 1,0 => 0 walk 0 0
@@ -123,6 +127,8 @@ outside, streams | draw m 0 0 2 0 engine=each rule=any | .. => 1 outside
 outside | draw m 0 0 2 0 show=trace engine=each rule=any | @. => 1 outside
 blocked | draw m 0 0 1 0 engine=each rule=any | .T => 1 blocked
 blocked | draw m 1 0 1 0 show=trace engine=each rule=any | .O => 1 blocked
+states | draw m 0 0 1 0 states=cell engine=plain rule=any | .. => 2 jps: word 8
+states | draw m 0 0 1 0 engine=plain states=arrival rule=any | .. => 2 jps: word 8
 ";
 
 #[test]

@@ -12,8 +12,10 @@ use std::test::Fail;
 // entry of a scenario, by another program and in a certificate; a certificate that there is none is refuted
 // by a move that leads out.
 const CORNERS: &str = "
-trace | query m 0 0 2 2 show=trace engine=jumping rule=both | .../.@./... \
+trace | query m 0 0 2 2 show=trace engine=by-arrival rule=both | .../.@./... \
     => 0 walk 2 1 0,0 0,1 1,2 2,2 taken 0,0:- 1,0:E 0,1:S 2,1:SE 1,2:SE 2,2:E
+trace | query m 0 0 2 2 show=trace engine=by-cell rule=both | .../.@./... \
+    => 0 walk 2 1 0,0 1,0 2,1 2,2 taken 0,0:- 1,0:E 0,1:S 2,1:SE 1,2:SE 2,2:S
 trace | query m 0 0 4 4 show=trace engine=jumping rule=both | .@.@./@.@.@/.@.@./@.@.@/.@.@. \
     => 0 walk 0 4 0,0 1,1 2,2 3,3 4,4 taken 0,0:- 1,1:SE 2,2:SE 3,3:SE 4,4:SE
 walk | query m 0 0 0 4 engine=jumping rule=both | .@.@./@.@.@/.@.@./@.@.@/.@.@. \

@@ -17,7 +17,7 @@ use grid_moves::Corner;
 use std::alloc::{AllocError, Global};
 use std::process::Abort;
 use std::test::Fail;
-use word_list::{Pick, SessionEngine, SmallEngine, command_name, read_words};
+use word_list::{Pick, SessionEngine, SmallEngine, States, command_name, read_words};
 
 const TABLES: [&str; 15] = [
     QUERIES, SCRIPTS, SCENARIOS, TOLD, PROVED, CHECKED, CELLS, PICTURES, UNDRAWN, MADE, REFUSED,
@@ -28,10 +28,14 @@ const TABLES: [&str; 15] = [
 const REASONS: &str = "
 walks long | judge rule=slipping => - it is told before the rule is looked at, and each call reads 2^30 bytes
 cert long | check rule=slipping => - the same
-tables long | query engine=plus rule=slipping => - the same
-tables long | solve engine=plus rule=slipping => - the same
-tables long | live engine=plus rule=slipping => - the same
-tables long | scen engine=plus rule=slipping => - the same
+tables long | query engine=loading rule=slipping => - the same
+tables long | query engine=plus-by-cell rule=none => - the same
+tables long | solve engine=loading rule=slipping => - the same
+tables long | solve engine=plus-by-cell rule=none => - the same
+tables long | live engine=loading rule=slipping => - the same
+tables long | live engine=plus-by-cell rule=none => - the same
+tables long | scen engine=loading rule=slipping => - the same
+tables long | scen engine=plus-by-cell rule=none => - the same
 script long | live engine=any rule=any => - its input has no end: a test of its own, in ample.rt
 streams | drill engine=each rule=any => - it reads no file; a failing write is a test of its own, in ample.rt
 help | --help => - its text is compared at its ends alone, in ample.rt
@@ -41,14 +45,17 @@ help | --help => - its text is compared at its ends alone, in ample.rt
 // each rule of the sets before a colon. The first sets are all that it takes; with none it takes neither.
 const COMMANDS: &str = "
 query m 0 0 0 0 | engine=any rule=any: walk, water, point, none, apart, outside, blocked, cells, trace, \
-    tables, map faults, absent, streams | engine=small rule=any: large | engine=plus rule=any: table faults
+    tables, map faults, absent, streams | engine=small rule=any: large | engine=loading rule=any: table faults \
+    | engine=jumpless rule=any: states
 solve m s | engine=each rule=any: walk, water, point, none, apart, outside, blocked, ok, same, empty, cells, \
-    trace, tables, map faults, script faults, absent, streams | engine=plus rule=any: table faults
+    trace, tables, map faults, script faults, absent, streams | engine=loading rule=any: table faults \
+    | engine=plain rule=any: states
 live m | engine=each rule=any: walk, water, point, none, apart, outside, blocked, ok, same, empty, cells, \
-    trace, tables, map faults, script faults, absent, streams | engine=plus rule=any: table faults
+    trace, tables, map faults, script faults, absent, streams | engine=loading rule=any: table faults \
+    | engine=plain rule=any: states
 scen m s | engine=any rule=any: agree, near, off, scale, outside, blocked, none, apart, point, water, empty, \
     taken, done, tables, map faults, scen faults, absent, streams \
-    | engine=small rule=any: large | engine=plus rule=any: table faults
+    | engine=small rule=any: large | engine=loading rule=any: table faults | engine=jumpless rule=any: states
 judge m s t | rule=any: accepted, refused, scale, outside, blocked, none, apart, point, water, empty, done, \
     map faults, scen faults, walks faults, absent, streams
 lengths m s | rule=any: lengths, scale, outside, blocked, none, apart, point, water, empty, done, \
@@ -58,9 +65,9 @@ prove m 0 0 0 0 | rule=any: least, water, point, none, apart, outside, blocked, 
 check m s | rule=any: least, water, point, none, apart, size, ends, walk, start, goal, move, open, \
     map faults, cert faults, absent, streams
 make 1 1 1 0 | make, streams
-drill 1 | engine=each rule=any: drill, streams
+drill 1 | engine=each rule=any: drill, streams | engine=plain rule=any: states
 draw m 0 0 0 0 | engine=each rule=any: walk, trace, water, point, none, apart, outside, blocked, map faults, \
-    absent, streams
+    absent, streams | engine=plain rule=any: states
 costs m 0 0 | rule=any: costs, water, outside, blocked, map faults, absent, streams
 tables m | rule=any: tables, map faults, absent, streams
 boxes m 0 0 | rule=any: boxes, water, outside, blocked, large, map faults, absent, streams
@@ -194,18 +201,21 @@ fn each_command_has_one_line(rt: HostRuntime) {
     }
 }
 
-// A new engine and a new rule have no place until they are named here, and are then missed until their words
-// stand in `PICKS` and `RULES`.
-fn place_of_pick(pick: Pick) -> usize
-    ensures { result < 6 }
+// A new engine, another number of states of a cell and a new rule have no place until they are named here, and
+// are then missed until their words stand in `PICKS` and `RULES`.
+fn place_of_pick(pick: Pick, states: States) -> usize
+    ensures { result < 9 }
 {
-    match pick {
-        Pick::Session(SessionEngine::Plain) => 0,
-        Pick::Session(SessionEngine::Jps) => 1,
-        Pick::Session(SessionEngine::Block) => 2,
-        Pick::Session(SessionEngine::Plus) => 3,
-        Pick::Small(SmallEngine::Boxes) => 4,
-        Pick::Small(SmallEngine::Moves) => 5,
+    match (pick, states) {
+        (Pick::Session(SessionEngine::Plain), _) => 0,
+        (Pick::Session(SessionEngine::Jps), States::Arrival) => 1,
+        (Pick::Session(SessionEngine::Block), States::Arrival) => 2,
+        (Pick::Session(SessionEngine::Plus), States::Arrival) => 3,
+        (Pick::Session(SessionEngine::Jps), States::Cell) => 4,
+        (Pick::Session(SessionEngine::Block), States::Cell) => 5,
+        (Pick::Session(SessionEngine::Plus), States::Cell) => 6,
+        (Pick::Small(SmallEngine::Boxes), _) => 7,
+        (Pick::Small(SmallEngine::Moves), _) => 8,
     }
 }
 
@@ -222,19 +232,19 @@ fn place_of_rule(rule: Corner) -> usize
 #[test]
 fn each_engine_and_each_rule_has_its_word(rt: HostRuntime) -> Result<(), Fail> {
     let alloc = rt.alloc();
-    let mut picked = [false; 6];
+    let mut picked = [false; 9];
     let mut ruled = [false; 3];
     for engine in PICKS {
         for rule in RULES {
             let words = format!(in alloc; "query m 0 0 0 0 {engine} {rule}")?;
             let words = strings(alloc, words.as_str())?;
             if let Ok((_, settings)) = read_words(words.as_slice()) {
-                picked[place_of_pick(settings.pick)] = true;
+                picked[place_of_pick(settings.pick, settings.states)] = true;
                 ruled[place_of_rule(settings.rule)] = true;
             }
         }
     }
-    assert_eq!(rt; picked, [true; 6]);
+    assert_eq!(rt; picked, [true; 9]);
     assert_eq!(rt; ruled, [true; 3]);
     Ok(())
 }

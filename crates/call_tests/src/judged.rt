@@ -35,6 +35,16 @@ taken | scen m s show=taken engine=jumping rule=any | ..@.W \
     => 1 row 1 agree 1 0 taken 2/row 2 near 1 0 taken 2/row 3 off 1 0 taken 2/row 4 scale/row 5 outside\
     /row 6 blocked/row 7 none taken 1/row 8 none taken 0/row 9 agree 0 0 taken 1\
     /sum 9 agree 2 near 1 off 1 other 5 taken 8
+taken | scen m s show=taken engine=by-arrival rule=none | ...@./.@.@./..... | version 1/8 m 5 3 0 0 4 0 8 \
+    => 0 row 1 agree 8 0 taken 8/sum 1 agree 1 near 0 off 0 other 0 taken 8
+taken | scen m s show=taken engine=by-cell rule=none | ...@./.@.@./..... | version 1/8 m 5 3 0 0 4 0 8 \
+    => 0 row 1 agree 8 0 taken 6/sum 1 agree 1 near 0 off 0 other 0 taken 6
+taken | scen m s show=taken engine=by-arrival rule=slipping | ...@./.@.@./..... \
+    | version 1/1 m 5 3 0 0 4 0 6.24264 \
+    => 0 row 1 agree 2 3 taken 9/sum 1 agree 1 near 0 off 0 other 0 taken 9
+taken | scen m s show=taken engine=by-cell rule=slipping | ...@./.@.@./..... \
+    | version 1/1 m 5 3 0 0 4 0 6.24264 \
+    => 0 row 1 agree 2 3 taken 8/sum 1 agree 1 near 0 off 0 other 0 taken 8
 taken | scen m s show=taken engine=boxes rule=any | ..@.W | version 1/0 m 5 1 0 0 1 0 1/0 m 5 1 0 0 3 0 3 \
     => 1 row 1 agree 1 0 taken 2/row 2 none taken 1/sum 2 agree 1 near 0 off 0 other 1 taken 3
 taken | scen m s show=taken engine=moves rule=any | ..@.W | version 1 => 2 jps: word 5
@@ -47,7 +57,9 @@ water | scen m s engine=any rule=none | W.W/WWW | version 1/0 m 3 2 0 0 2 0 4/0 
     => 0 row 1 agree 4 0/row 2 agree 1 0/sum 2 agree 2 near 0 off 0 other 0
 water | scen m s engine=any rule=slipping | W.W/WWW | version 1/0 m 3 2 0 0 2 0 2.82842712/0 m 3 2 0 0 2 0 4 \
     => 1 row 1 agree 0 2/row 2 off 0 2/sum 2 agree 1 near 0 off 1 other 0
-tables, streams | scen m s tables=t engine=plus rule=any | ... | version 1/0 m 3 1 0 0 2 0 2 | % \
+states | scen m s states=cell engine=jumpless rule=any | ... | version 1 => 2 jps: word 5
+states | scen m s engine=jumpless states=arrival rule=any | ... | version 1 => 2 jps: word 5
+tables, streams | scen m s tables=t engine=loading rule=any | ... | version 1/0 m 3 1 0 0 2 0 2 | % \
     => 0 row 1 agree 2 0/sum 1 agree 1 near 0 off 0 other 0
 tables | scen m s tables=t engine=other rule=any | ... | version 1 | % => 2 jps: word 5
 tables | scen m s tables=t engine=small rule=any | ... | version 1 | % => 2 jps: word 5

@@ -11,7 +11,9 @@ use crate::table::check_table;
 use std::test::Fail;
 
 // On one row of cells no diagonal move is legal, and nothing is marked: an engine that jumps stops at the
-// goal alone. In the bay of water jumps stop at both corners of the land cell.
+// goal alone. In the bay of water jumps stop at both corners of the land cell. With one state for each cell
+// the first one to reach it at its least cost stays: round the pillar the goal is offered from the right
+// column first, and on the map with two pillars a cell below them is taken once.
 pub(crate) const QUERIES: &str = "
 walk, streams | query m 0 0 2 0 engine=any rule=any | ... => 0 walk 2 0 0,0 2,0
 walk | query m 0 0 2 0 engine=any rule=any show=points | ... => 0 walk 2 0 0,0 2,0
@@ -62,7 +64,27 @@ trace, water | query m 0 0 2 0 show=trace engine=stepping rule=slipping | W.W/WW
     => 0 walk 0 2 0,0 1,1 2,0 taken 0,0:- 1,1:- 2,0:-
 trace, water | query m 0 0 2 0 show=trace engine=jumping rule=slipping | W.W/WWW \
     => 0 walk 0 2 0,0 1,1 2,0 taken 0,0:- 1,1:SE 2,0:NE
-tables, streams | query m 0 0 2 0 tables=t engine=plus rule=any | ... | | % => 0 walk 2 0 0,0 2,0
+trace | query m 0 0 2 2 show=trace engine=by-arrival rule=none | .../.@./... \
+    => 0 walk 4 0 0,0 0,2 2,2 taken 0,0:- 2,0:E 0,2:S 2,2:E
+trace | query m 0 0 2 2 show=trace engine=by-cell rule=none | .../.@./... \
+    => 0 walk 4 0 0,0 2,0 2,2 taken 0,0:- 2,0:E 0,2:S 2,2:S
+trace | query m 0 0 2 2 show=trace engine=by-arrival rule=slipping | .../.@./... \
+    => 0 walk 2 1 0,0 0,1 1,2 2,2 taken 0,0:- 1,0:E 0,1:S 2,1:SE 1,2:SE 2,2:E
+trace | query m 0 0 2 2 show=trace engine=by-cell rule=slipping | .../.@./... \
+    => 0 walk 2 1 0,0 1,0 2,1 2,2 taken 0,0:- 1,0:E 0,1:S 2,1:SE 1,2:SE 2,2:S
+trace | query m 0 0 4 0 show=trace engine=by-arrival rule=none | ...@./.@.@./..... \
+    => 0 walk 8 0 0,0 0,2 2,2 4,2 4,0 taken 0,0:- 2,0:E 0,2:S 2,2:E 2,2:S 2,0:N 4,2:E 4,0:N
+trace | query m 0 0 4 0 show=trace engine=by-cell rule=none | ...@./.@.@./..... \
+    => 0 walk 8 0 0,0 2,0 2,2 4,2 4,0 taken 0,0:- 2,0:E 0,2:S 2,2:S 4,2:E 4,0:N
+trace | query m 0 0 4 0 show=trace engine=by-arrival rule=slipping | ...@./.@.@./..... \
+    => 0 walk 2 3 0,0 1,0 2,1 3,2 4,1 4,0 taken 0,0:- 1,0:E 2,1:SE 0,1:S 1,2:SE 2,1:NE 3,2:SE 4,1:NE 4,0:N
+trace | query m 0 0 4 0 show=trace engine=by-cell rule=slipping | ...@./.@.@./..... \
+    => 0 walk 2 3 0,0 1,0 2,1 3,2 4,1 4,0 taken 0,0:- 1,0:E 2,1:SE 0,1:S 1,2:SE 3,2:SE 4,1:NE 4,0:N
+states | query m 0 0 2 0 engine=jumpless states=cell rule=any | ... => 2 jps: word 8
+states | query m 0 0 2 0 states=cell engine=jumpless rule=any | ... => 2 jps: word 8
+states | query m 0 0 2 0 states=arrival engine=jumpless rule=any | ... => 2 jps: word 8
+states | query m 0 0 2 0 states=cell rule=any | ... => 2 jps: word 9
+tables, streams | query m 0 0 2 0 tables=t engine=loading rule=any | ... | | % => 0 walk 2 0 0,0 2,0
 tables | query m 0 0 2 0 tables=t engine=other rule=any | ... | | % => 2 jps: word 8
 tables | query m 0 0 2 0 tables=t engine=small rule=any | ... | | % => 2 jps: word 8
 ";
@@ -116,7 +138,19 @@ trace, water | scripted show=trace engine=jumping rule=none | W.W/WWW \
     => 0 walk 4 0 0,0 0,1 2,1 2,0 taken 0,0:- 0,1:S 2,1:E 2,0:N/ok/walk 2 0 0,0 2,0 taken 0,0:- 2,0:E
 empty | scripted engine=each rule=any | ... => 0
 empty | scripted engine=each rule=any | ... | ~128 => 0
-tables, streams | scripted tables=t engine=plus rule=any | ... \
+trace | scripted show=trace engine=by-arrival rule=none | ..../.@.@/.... \
+    | query 0 0 3 2/block 3 2/query 0 0 3 2/free 3 2/query 3 2 0 0 \
+    => 0 walk 5 0 0,0 0,2 2,2 3,2 taken 0,0:- 2,0:E 0,2:S 2,2:E 2,2:S 3,2:E/ok/blocked/ok\
+    /walk 5 0 3,2 2,2 2,0 0,0 taken 3,2:- 2,2:W 2,0:N 0,0:W
+trace | scripted show=trace engine=by-cell rule=none | ..../.@.@/.... \
+    | query 0 0 3 2/block 3 2/query 0 0 3 2/free 3 2/query 3 2 0 0 \
+    => 0 walk 5 0 0,0 2,0 2,2 3,2 taken 0,0:- 2,0:E 0,2:S 2,2:S 3,2:E/ok/blocked/ok\
+    /walk 5 0 3,2 2,2 2,0 0,0 taken 3,2:- 2,2:W 2,0:N 0,0:W
+states | solve m s engine=plain states=cell rule=any | ... | query 0 0 2 0 => 2 jps: word 5
+states | solve m s states=arrival engine=plain rule=any | ... | query 0 0 2 0 => 2 jps: word 5
+states | live m engine=plain states=arrival rule=any | ... | query 0 0 2 0 => 2 jps: word 4
+states | live m states=cell engine=plain rule=any | ... | query 0 0 2 0 => 2 jps: word 4
+tables, streams | scripted tables=t engine=loading rule=any | ... \
     | query 0 0 2 0/block 1 0/query 0 0 2 0/free 1 0/query 2 0 0 0 | % \
     => 0 walk 2 0 0,0 2,0/ok/none/ok/walk 2 0 2,0 0,0
 tables | solve m s tables=t engine=other rule=any | ... | query 0 0 2 0 | % => 2 jps: word 5

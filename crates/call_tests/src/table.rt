@@ -8,7 +8,8 @@
 //! ```
 //!
 //! A row stands for a call by each engine and under each rule of the sets that its words name, and all of
-//! them have the same outcome. The first file is `m`: rows of cells, or a whole text where it begins with
+//! them have the same outcome. An engine that jumps counts twice, with one state for each direction of arrival
+//! at a cell, and with one for each cell (`states=cell`). The first file is `m`: rows of cells, or a whole text where it begins with
 //! `type`. The second is `s`, and what comes in to `live`; the third is `t`. A line `~N` is N blanks. `%` is
 //! the table file of three cells under the row's rule, `%P=B` has the byte B at place P, `%cut` lacks the
 //! last byte. A line `jps: ..` goes to standard error, all others are the output.
@@ -21,21 +22,61 @@ use std::alloc::{AllocError, Global};
 use std::process::Abort;
 use std::test::Fail;
 
-pub(crate) const PICKS: [&str; 6] = [
+pub(crate) const PICKS: [&str; 9] = [
     "engine=plain",
     "engine=jps",
     "engine=block",
     "engine=plus",
+    "engine=jps states=cell",
+    "engine=block states=cell",
+    "engine=plus states=cell",
     "engine=boxes",
     "engine=moves",
 ];
 
-const TRACING: [&str; 5] = [
+const TRACING: [&str; 8] = [
     "engine=plain",
     "engine=jps",
     "engine=block",
     "engine=plus",
+    "engine=jps states=cell",
+    "engine=block states=cell",
+    "engine=plus states=cell",
     "engine=boxes",
+];
+
+const JUMPING: [&str; 6] = [
+    "engine=jps",
+    "engine=block",
+    "engine=plus",
+    "engine=jps states=cell",
+    "engine=block states=cell",
+    "engine=plus states=cell",
+];
+
+// By arrival, where it is told and where it is not.
+const BY_ARRIVAL: [&str; 6] = [
+    "engine=jps",
+    "engine=block",
+    "engine=plus",
+    "states=arrival engine=jps",
+    "engine=block states=arrival",
+    "states=arrival engine=plus",
+];
+
+const BY_CELL: [&str; 3] = [
+    "engine=jps states=cell",
+    "engine=block states=cell",
+    "engine=plus states=cell",
+];
+
+// The engines that load no tables, of those that answer a session.
+const TABLELESS: [&str; 5] = [
+    "engine=plain",
+    "engine=jps",
+    "engine=block",
+    "engine=jps states=cell",
+    "engine=block states=cell",
 ];
 
 /// A row, as it stands in a table.
@@ -92,12 +133,17 @@ pub(crate) fn engines_of(words: &str) -> &'static [&'static str] {
         match word {
             "engine=any" => return &PICKS,
             "engine=each" => return &ENGINES,
-            "engine=jumping" => return &["engine=jps", "engine=block", "engine=plus"],
+            "engine=jumping" => return &JUMPING,
+            "engine=by-arrival" => return &BY_ARRIVAL,
+            "engine=by-cell" => return &BY_CELL,
+            "engine=jumpless" => return &["engine=plain", "engine=boxes", "engine=moves"],
             "engine=small" => return &["engine=boxes", "engine=moves"],
             "engine=tracing" => return &TRACING,
             "engine=stepping" => return &["engine=plain", "engine=boxes"],
-            "engine=other" => return &["engine=plain", "engine=jps", "engine=block"],
+            "engine=other" => return &TABLELESS,
+            "engine=loading" => return &["engine=plus", "engine=plus states=cell"],
             "engine=plus" => return &["engine=plus"],
+            "engine=plus-by-cell" => return &["engine=plus states=cell"],
             "engine=plain" => return &["engine=plain"],
             "engine=boxes" => return &["engine=boxes"],
             "engine=moves" => return &["engine=moves"],
@@ -128,10 +174,10 @@ pub(crate) fn rules_of(words: &str) -> &'static [&'static str] {
 const SCRIPTED: [&str; 2] = ["solve m s", "live m"];
 
 const TABLED: [&str; 4] = [
-    "query m 0 0 2 0 tables=t engine=plus rule=any",
-    "solve m s engine=plus tables=t rule=any",
-    "live m rule=any engine=plus tables=t",
-    "scen m s engine=plus tables=t rule=any",
+    "query m 0 0 2 0 tables=t engine=loading rule=any",
+    "solve m s engine=loading tables=t rule=any",
+    "live m rule=any engine=loading tables=t",
+    "scen m s engine=loading tables=t rule=any",
 ];
 
 // The words with another name for the map.

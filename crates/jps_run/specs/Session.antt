@@ -9,34 +9,44 @@ use Rattle.edit_replay.specs.declared.reply.EditReply.{EditReply}
 use Rattle.edit_replay.specs.declared.reply.Reply.{Reply}
 use Rattle.edit_replay.specs.declared.engine.Engine.{Engine}
 use Rattle.edit_replay.specs.declared.engine.Engine.TheVariants as engine
+use Rattle.best_first.specs.declared.state.Layout.{Layout}
+use Rattle.best_first.specs.declared.state.Layout.TheVariants.{ByArrival, ByCell}
 use Rattle.word_list.specs.declared.request.Pick.{Pick}
 use Rattle.word_list.specs.declared.request.Pick.TheVariants.{Session, Small}
 use Rattle.word_list.specs.declared.request.SessionEngine.{SessionEngine}
 use Rattle.word_list.specs.declared.request.SessionEngine.TheVariants.{Plain, Jps, Block, Plus}
 use Rattle.word_list.specs.declared.request.Settings.{Settings}
+use Rattle.word_list.specs.declared.request.States.{States}
+use Rattle.word_list.specs.declared.request.States.TheVariants as states
 use Rattle.word_list.specs.Settings.{session_engine}
 use Rattle.call_files.specs.Layered.{layers_on}
 use Rattle.jps_run.specs.Who.{By, Who, by_session, by_small, who_is, IsReplyBy}
 
--- the engine of a session by its word
-abbrev pub engine_for : SessionEngine → Engine
-engine_for Plain = engine.Plain
-engine_for Jps = engine.Jps
-engine_for Block = engine.Block
-engine_for Plus = engine.Plus
+-- the states of a cell, by the word for how many there are
+abbrev pub layout_for : States → Layout
+layout_for states.Arrival = ByArrival
+layout_for states.Cell = ByCell
+
+-- the engine of a session by its word; how many states a cell has is asked of one that jumps
+abbrev pub engine_for : States → SessionEngine → Engine
+engine_for asked Plain = engine.Plain
+engine_for asked Jps = engine.Jps (layout_for asked)
+engine_for asked Block = engine.Block (layout_for asked)
+engine_for asked Plus = engine.Plus (layout_for asked)
 
 -- how the picked engine answers
-abbrev pub by_of : Pick → By
-by_of (Session engine) = by_session (engine_for engine)
-by_of (Small engine) = by_small engine
+abbrev pub by_of : States → Pick → By
+by_of asked (Session engine) = by_session (engine_for asked engine)
+by_of asked (Small engine) = by_small engine
 
 -- who answers on a map, as the settings ask
 abbrev pub who_on : Settings → Map → Who
-who_on set m = record { layers = layers_on set m; by = by_of set.pick }
+who_on set m = record { layers = layers_on set m; by = by_of set.states set.pick }
 
 -- the session on a map, as the settings ask
 abbrev pub session_on : Settings → Map → SessionData
-session_on set m = record { engine = engine_for (session_engine set.pick); layers = layers_on set m }
+session_on set m =
+    record { engine = engine_for set.states (session_engine set.pick); layers = layers_on set m }
 
 -- the session is this one
 abbrev pub IsSessionOn : Settings → Map → SessionData → Type 0

@@ -8,7 +8,7 @@ use Rattle.word_list.specs.declared.settings.Family.TheVariants.{Rule, TableFile
 
 -- how help tells of the settings of a family
 abbrev setting_text : Family → List ℕ
-setting_text Engine = codes " [engine=ENGINE]"
+setting_text Engine = codes " [engine=ENGINE] [states=arrival|cell]"
 setting_text SmallMap = []
 setting_text TableFile = codes " [tables=FILE]"
 setting_text Show = codes " [show=points|cells|trace]"
@@ -41,6 +41,8 @@ help_text =
     "its cells, show=trace each state that the search took as well: a cell, and how it was come to.\n"
     ++ codes "ENGINE is plain, where none is named, jps, block or plus. Walks cost the same by each: jps jumps cell by\n"
     ++ codes "cell, block over 512 cells at a time, plus by tables that are made when the map is read.\n"
+    ++ codes "Beside one of these three states=arrival, where none is named, has the search keep a state for each cell and\n"
+    ++ codes "direction of arrival, states=cell one for each cell: mostly in less time, and walks cost the same.\n"
     ++ codes "tables=FILE beside engine=plus takes the tables that `jps tables` wrote to FILE; those of another map, of\n"
     ++ codes "another rule, or with a wrong entry are refused.\n"
     ++ codes "For query and scen, on maps of at most 16384 cells, ENGINE may also be boxes, whose search leaves out moves\n"

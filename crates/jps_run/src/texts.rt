@@ -9,13 +9,13 @@ pub(crate) fn help_text() -> &'static [u8]
     ensures { result.now ≡ spec.help_text }
 {
     b"usage: jps COMMAND ...
-  jps query MAP SX SY GX GY [engine=ENGINE] [tables=FILE] [show=points|cells|trace] [rule=none|one|both]
+  jps query MAP SX SY GX GY [engine=ENGINE] [states=arrival|cell] [tables=FILE] [show=points|cells|trace] [rule=none|one|both]
       a least walk from the cell (SX,SY) to the cell (GX,GY) on the map
-  jps solve MAP SCRIPT [engine=ENGINE] [tables=FILE] [show=points|cells|trace] [rule=none|one|both]
+  jps solve MAP SCRIPT [engine=ENGINE] [states=arrival|cell] [tables=FILE] [show=points|cells|trace] [rule=none|one|both]
       one line for each command of the script: edits of the map, and queries
-  jps live MAP [engine=ENGINE] [tables=FILE] [show=points|cells|trace] [rule=none|one|both]
+  jps live MAP [engine=ENGINE] [states=arrival|cell] [tables=FILE] [show=points|cells|trace] [rule=none|one|both]
       the same for a script on standard input, each command answered as it comes
-  jps scen MAP SCEN [engine=ENGINE] [tables=FILE] [show=taken] [rule=none|one|both]
+  jps scen MAP SCEN [engine=ENGINE] [states=arrival|cell] [tables=FILE] [show=taken] [rule=none|one|both]
       a row for each entry of the scenario, its length judged by the least cost, and their sum; with show=taken
       also how many states each search took
   jps judge MAP SCEN WALKS [rule=none|one|both]
@@ -30,9 +30,9 @@ pub(crate) fn help_text() -> &'static [u8]
       whether the certificate proves what it claims on the map; nothing is searched
   jps make SEED W H P
       a map of W by H cells, P percent of them blocked, made from the number SEED
-  jps drill SEED [engine=ENGINE] [rule=none|one|both]
+  jps drill SEED [engine=ENGINE] [states=arrival|cell] [rule=none|one|both]
       150 edits and queries on the map of SEED, summed up in one line that is the same by each engine
-  jps draw MAP SX SY GX GY [engine=ENGINE] [show=points|trace] [rule=none|one|both]
+  jps draw MAP SX SY GX GY [engine=ENGINE] [states=arrival|cell] [show=points|trace] [rule=none|one|both]
       a picture (SVG) of the map and of a least walk, and with show=trace of the cells of the taken states
   jps costs MAP X Y [rule=none|one|both]
       the least cost from the cell (X,Y) to each cell, a line for each row: `A,B`, or `-` where no walk leads
@@ -53,6 +53,8 @@ which it turns, or by an engine that jumps each cell at which a jump stopped. sh
 its cells, show=trace each state that the search took as well: a cell, and how it was come to.
 ENGINE is plain, where none is named, jps, block or plus. Walks cost the same by each: jps jumps cell by
 cell, block over 512 cells at a time, plus by tables that are made when the map is read.
+Beside one of these three states=arrival, where none is named, has the search keep a state for each cell and
+direction of arrival, states=cell one for each cell: mostly in less time, and walks cost the same.
 tables=FILE beside engine=plus takes the tables that `jps tables` wrote to FILE; those of another map, of
 another rule, or with a wrong entry are refused.
 For query and scen, on maps of at most 16384 cells, ENGINE may also be boxes, whose search leaves out moves

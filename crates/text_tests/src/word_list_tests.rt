@@ -15,7 +15,7 @@ fn words_of(alloc: Global, line: &str) -> Result<Vec<String>, AllocError> {
 // Counted by hand, from the table of commands.
 #[test]
 fn the_first_word_of_no_call_is_named(rt: HostRuntime) -> Result<(), Fail> {
-    let lists: [(&str, u32); 58] = [
+    let lists: [(&str, u32); 76] = [
         ("mkae", 1),
         ("make", 2),
         ("make 7 0 2 0", 3),
@@ -74,6 +74,27 @@ fn the_first_word_of_no_call_is_named(rt: HostRuntime) -> Result<(), Fail> {
         ("drill 1 tables=f", 3),
         ("draw m 0 0 2 2 engine=plus tables=f", 8),
         ("judge m s w tables=f", 5),
+        ("query m 0 0 2 0 states=cell", 8),
+        ("query m 0 0 2 0 states=arrival rule=one", 9),
+        ("query m 0 0 2 0 states=cell engine=plain", 8),
+        ("query m 0 0 2 0 engine=plain states=arrival", 8),
+        ("query m 0 0 2 0 states=cell show=trace engine=boxes", 9),
+        ("query m 0 0 2 0 engine=boxes states=cell", 8),
+        ("query m 0 0 2 0 engine=moves states=cell", 8),
+        ("query m 0 0 2 0 states=cell states=arrival", 8),
+        (
+            "query m 0 0 2 0 engine=jps states=cell rule=one states=cell",
+            10,
+        ),
+        ("query m 0 0 2 0 states=both", 7),
+        ("query m 0 0 2 0 engine=jps states=", 8),
+        ("query m 0 0 2 0 states=cell tables=f", 9),
+        ("query m 0 0 2 0 states=cell tables=f engine=block", 9),
+        ("solve m s states=cell", 5),
+        ("live m states=arrival", 4),
+        ("scen m s states=cell engine=moves", 5),
+        ("drill 1 states=cell", 4),
+        ("prove m 0 0 2 0 states=cell", 7),
     ];
     for (line, number) in lists {
         let words = words_of(rt.alloc(), line)?;
@@ -105,6 +126,7 @@ fn a_query_is_read_with_its_settings(rt: HostRuntime) -> Result<(), Fail> {
             assert_eq!(rt; settings.pick, Pick::Session(SessionEngine::Jps));
             assert_eq!(rt; settings.show, Show::Trace);
             assert_eq!(rt; settings.rule, Corner::One);
+            assert_eq!(rt; settings.states, States::Arrival);
         }
         Err(_) => assert!(rt; false, "no query"),
     }
@@ -272,9 +294,60 @@ fn a_map_stands_before_its_script_or_scenario(rt: HostRuntime) -> Result<(), Fai
     for (line, files, chosen) in calls {
         let words = words_of(rt.alloc(), line)?;
         match read_words(&words) {
-            Ok((request, Settings { pick, show, rule })) => {
+            Ok(
+                (
+                    request,
+                    Settings {
+                        pick,
+                        show,
+                        rule,
+                        ..
+                    },
+                ),
+            ) => {
                 assert_eq!(rt; files_of(request), files, "{line}");
                 assert_eq!(rt; (pick, show, rule), chosen, "{line}");
+            }
+            Err(_) => assert!(rt; false, "{line}"),
+        }
+    }
+    Ok(())
+}
+
+// Each engine that jumps is asked how many states its search has of a cell, by each command that takes an
+// engine; the word may stand before the engine or behind it.
+#[test]
+fn states_stand_beside_engines_that_jump(rt: HostRuntime) -> Result<(), Fail> {
+    let block = Pick::Session(SessionEngine::Block);
+    let jps = Pick::Session(SessionEngine::Jps);
+    let plus = Pick::Session(SessionEngine::Plus);
+    let (arrival, cell) = (States::Arrival, States::Cell);
+    let calls: [(&str, (Pick, States)); 10] = [
+        ("query m 0 0 1 1 engine=jps", (jps, arrival)),
+        ("query m 0 0 1 1 engine=jps states=arrival", (jps, arrival)),
+        ("query m 0 0 1 1 states=cell engine=jps", (jps, cell)),
+        ("solve m s engine=block states=cell", (block, cell)),
+        ("live m show=cells states=cell engine=plus", (plus, cell)),
+        ("live m states=cell tables=f engine=plus", (plus, cell)),
+        (
+            "scen m s states=cell show=taken engine=block",
+            (block, cell),
+        ),
+        (
+            "scen m s tables=f engine=plus states=arrival",
+            (plus, arrival),
+        ),
+        (
+            "draw m 0 0 1 1 engine=plus rule=both states=cell",
+            (plus, cell),
+        ),
+        ("drill 1 states=cell engine=jps", (jps, cell)),
+    ];
+    for (line, chosen) in calls {
+        let words = words_of(rt.alloc(), line)?;
+        match read_words(&words) {
+            Ok((_, Settings { pick, states, .. })) => {
+                assert_eq!(rt; (pick, states), chosen, "{line}");
             }
             Err(_) => assert!(rt; false, "{line}"),
         }

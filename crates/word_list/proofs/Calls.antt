@@ -1,21 +1,22 @@
 -- A call and a bad word, from what the steps of the reading say.
 use Rattle.std.proofs.lemmas.Bool.Decides.{nat_tests}
 use Rattle.std.proofs.Common.{◌≡◌, ℕ, suc, ◌+◌, ◌<◌, ◌≤◌, Bool, true, false, List, [], ◌∷◌, length, take, drop}
-use Rattle.std.proofs.Common.{refl, ap, ◌∙◌, subst, add-one, ◌⊎◌, inl, inr, arith}
+use Rattle.std.proofs.Common.{refl, sym, ap, ◌∙◌, subst, add-one, ◌⊎◌, inl, inr, arith}
 use Rattle.std.specs.Prelude.{codes, Option, Some, None, Result, Ok, Err, MatchResult, IsOkAnd, IsErrAnd}
+use Rattle.std.specs.Prelude.{if◌then◌else◌, option_and_then}
 use Rattle.std.proofs.Math.Seq.{take-length}
 use Rattle.std.proofs.lemmas.Bool.{and_right}
 use Rattle.std.proofs.lemmas.List.{append-nil}
 use Rattle.word_list.specs.declared.request.Settings.{Settings}
 use Rattle.word_list.specs.declared.request.BadWord.{BadWord}
 use Rattle.word_list.specs.declared.rows.Command.{Command}
-use Rattle.word_list.specs.Request.{Asked, Call, Row, row_of}
-use Rattle.word_list.specs.Settings.{are_settings, can_load, is_complete, settings_of, tables_of}
+use Rattle.word_list.specs.Request.{Asked, Call, Row, asked_by, row_of}
+use Rattle.word_list.specs.Settings.{are_served, are_settings, can_load, is_complete, settings_of, tables_of}
 use Rattle.word_list.specs.Calls.{fits, call_of, is_call}
 use Rattle.word_list.specs.Rule.{Begins, EndsAfter, StopsAt, IsBadWord}
 use Rattle.word_list.specs.Steps.{AreOf, AreSettled}
 use Rattle.word_list.proofs.Rules.{one_stop, stops_behind, ends_at_once, ends_later}
-use Rattle.word_list.proofs.Completed.{nothing_stands}
+use Rattle.word_list.proofs.Completed.{loads, nothing_stands}
 use Rattle.word_list.proofs.Settled.{Settles, settles}
 use Rattle.word_list.proofs.Fitted.{taken_part, taken_whole}
 
@@ -35,11 +36,17 @@ names_first name words h = grind (arith, nat_tests, stops_behind, ends_at_once, 
 abbrev call_with : Asked → Settings → Call
 call_with request settings = record { request = request; settings = settings }
 
--- what is told of the table file and the settings of some words is told of these words
-pub told_by : {tables named : Option (List ℕ)} {set chosen : Settings} {b : Bool} → tables ≡ named
-    → set ≡ chosen
-    → b ≡ can_load tables set → can_load named chosen ≡ b
-told_by same also is = rw (← same, ← also, is) refl
+-- what is told of the settings of some words is told of these words
+pub told_by : (words : List (List ℕ)) {set : Settings} {b : Bool} → set ≡ settings_of words
+    → b ≡ are_served set.pick words → is_complete words ≡ b
+told_by words same is = ap (λ (set : Settings). are_served set.pick words) (sym same) ∙ sym is
+
+-- where none is missing, the engine for their table file is picked
+pub sound_by : (words : List (List ℕ)) {tables : Option (List ℕ)} {set : Settings} → tables ≡ tables_of words
+    → set ≡ settings_of words → is_complete words ≡ true → can_load tables set ≡ true
+sound_by words {tables} {set} named same complete =
+    ap (λ (t : Option (List ℕ)). can_load t set) named
+    ∙ ap (λ (s : Settings). can_load (tables_of words) s) same ∙ loads words complete
 
 -- what is asked for is told by the same words and the same table file
 pub asks_same : {command : Command} {words same : List (List ℕ)} {tables named : Option (List ℕ)} → words ≡ same
@@ -99,7 +106,15 @@ module _ (name : List ℕ) (words : List (List ℕ)) (row : Row) (is_row : row_o
     pub calls : length rest ≤ more → is_complete rest ≡ true → (request : Asked) (settings : Settings)
         → request ≡ record { command = row.command; words = take taken words; tables = tables_of rest }
         → settings ≡ settings_of rest → call_of (name ∷ words) ≡ Some (call_with request settings)
-    calls all complete request settings is chosen = grind (arith, nat_tests, refuses, rest_settles, apart)
+    calls all complete request settings is chosen =
+        ap (λ (o : Option Row). option_and_then (λ r. if fits r.takes r.allows words
+        then Some (call_with (asked_by r words) (settings_of (drop (length r.takes) words))) else None) o) is_row
+        ∙ ap (λ (b : Bool). if b
+        then Some (call_with (asked_by row words) (settings_of (drop (length row.takes) words))) else None)
+        (refuses ∙ rest_settles.right all ∙ complete)
+        ∙ ap (λ (r : Asked). Some (call_with r (settings_of (drop (length row.takes) words))))
+        (sym (is ∙ asks_same (ap (λ (n : ℕ). take n words) exact) (ap tables_of apart)))
+        ∙ ap (λ (s : Settings). Some (call_with request s)) (sym (chosen ∙ ap settings_of apart))
 
 -- all words of a call begin one
 pub stops_at_end : (words : List (List ℕ)) (call : Call) → call_of words ≡ Some call

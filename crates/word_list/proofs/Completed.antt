@@ -1,4 +1,4 @@
--- Settings of which one is missing: where a table file is named, the engine for it can still be picked.
+-- Settings of which one is missing: where one is served by some engines alone, one of these can still be picked.
 use Rattle.std.proofs.lemmas.Bool.Decides.{nat_tests}
 use Rattle.std.proofs.Common.{◌≡◌, ℕ, Bool, true, false, not, ◌&&◌, ◌||◌, List, [], ◌∷◌, ◌++◌, append-nil}
 use Rattle.std.proofs.Common.{⊎_elim, inl, inr, ◌⊎◌, refl, ap, ◌∙◌, arith}
@@ -6,43 +6,38 @@ use Rattle.std.specs.Prelude.{codes, is_none, Option, Some, None}
 use Rattle.std.specs.List.{list_any, fold}
 use Rattle.std.specs.Option.{option_or}
 use Rattle.std.proofs.lemmas.Bool.{and_from, and_parts, cases_Bool, or_cases, or_left, or_right, or_parts}
-use Rattle.std.proofs.lemmas.Bool.{not-false, not-true, true≢false, false_from_ne_true, true_from_ne_false}
-use Rattle.std.proofs.lemmas.List.Folds.{list_any-append}
+use Rattle.std.proofs.lemmas.Bool.{not-false, not-true, true≢false, false_from_ne_true}
+use Rattle.std.proofs.lemmas.List.Folds.{list_all-append, list_any-append}
 use Rattle.std.proofs.lemmas.List.Sums.{fold-append}
 use Rattle.word_list.specs.declared.request.Pick.{Pick}
 use Rattle.word_list.specs.declared.request.Pick.TheVariants.{Session}
-use Rattle.word_list.specs.declared.request.SessionEngine.TheVariants.{Plus}
+use Rattle.word_list.specs.declared.request.SessionEngine.TheVariants.{Plain, Plus}
 use Rattle.word_list.specs.declared.request.Settings.{Settings}
+use Rattle.word_list.specs.declared.request.Show.TheVariants.{Points, Cells, Trace, Taken}
 use Rattle.word_list.specs.declared.settings.Setting.{Setting}
 use Rattle.word_list.specs.declared.settings.Setting.TheVariants as setting
+use Rattle.word_list.specs.declared.settings.Choice.TheVariants as choice
 use Rattle.word_list.specs.declared.settings.Family.{Family}
-use Rattle.word_list.specs.Settings.{setting_of, has, has_tables, excludes, are_clashing, is_allowed}
+use Rattle.word_list.specs.Settings.{setting_of, choice_of, is_same, has, has_tables, excludes, are_clashing}
+use Rattle.word_list.specs.Settings.{is_served, is_word_served, are_served, can_load, is_allowed}
 use Rattle.word_list.specs.Settings.{may_follow, all_follow, settings_with, default_settings, settings_of}
 use Rattle.word_list.specs.Settings.{tables_in, tables_of, is_complete}
 use Rattle.word_list.specs.Rule.{Begins}
 
--- whether a word picks an engine, and whether it tells a table file
+-- whether a word picks an engine
 abbrev picks : Option Setting → Bool
 picks (Some (setting.Engine pick)) = true
 picks other = false
 
-abbrev tells : Option Setting → Bool
-tells (Some setting.TableFile) = true
-tells other = false
-
 abbrev any_pick : List (List ℕ) → Bool
 any_pick words = list_any (λ word. picks (setting_of word)) words
-
-abbrev any_file : List (List ℕ) → Bool
-any_file words = list_any (λ word. tells (setting_of word)) words
 
 abbrev any_clash : Setting → List (List ℕ) → Bool
 any_clash s words = list_any (λ word. are_clashing (setting_of word) (Some s)) words
 
--- the words tell a table file, the engine for it is allowed, and none is picked yet
+-- no engine is picked yet, and one that serves every setting is allowed
 pub record Waits (allows : List Family) (words : List (List ℕ)) : Type 0 where
   pub allowed : is_allowed allows (Some (setting.Engine (Session Plus))) ≡ true
-  pub named : any_file words ≡ true
   pub free : any_pick words ≡ false
 
 -- none is missing, or it may still come
@@ -62,84 +57,105 @@ none_from : {X : Type 0} (p q : X → Bool) → ((x : X) → p x ≡ true → q 
     → list_any q xs ≡ false → list_any p xs ≡ false
 none_from p q each xs none = grind (arith, nat_tests, false_from_ne_true, true≢false, any_from)
 
--- a word that spells another setting tells no table file
-unnamed : (word : List ℕ) → tells (setting_of word) ≡ false → is_none (tables_in word) ≡ true
-unnamed word h = grind (arith, nat_tests)
+-- jumps by tables serve every setting
+plus_serves : (s : Setting) → is_served s (Session Plus) ≡ true
+plus_serves (setting.Engine pick) = refl
+plus_serves (setting.Show Points) = refl
+plus_serves (setting.Show Cells) = refl
+plus_serves (setting.Show Trace) = refl
+plus_serves (setting.Show Taken) = refl
+plus_serves (setting.Rule rule) = refl
+plus_serves setting.TableFile = refl
+plus_serves (setting.States states) = refl
 
-none_named : (before : List (List ℕ)) (word : List ℕ) → is_none (tables_of before) ≡ true
-    → is_none (tables_in word) ≡ true → is_none (tables_of (before ++ word ∷ [])) ≡ true
-none_named [] word none last =
-    elim (tables_in word) as (λ t. is_none t ≡ true → is_none (option_or t None) ≡ true) [
-      | None ↦ λ is. refl
-      | Some name ↦ λ is. is
-    ] last
-none_named (other ∷ before) word none last =
-    elim (tables_in other) as (λ t. is_none (option_or t (tables_of before)) ≡ true
-    → is_none (option_or t (tables_of (before ++ word ∷ []))) ≡ true) [
-      | None ↦ λ is. none_named before word is last
-      | Some name ↦ λ is. is
-    ] none
+plus_serves_all : (words : List (List ℕ)) → are_served (Session Plus) words ≡ true
+plus_serves_all [] = refl
+plus_serves_all (word ∷ words) =
+    and_from (is_word_served (Session Plus) (setting_of word)) (are_served (Session Plus) words)
+    (one (setting_of word)) (plus_serves_all words)
+  where
+    one : (s : Option Setting) → is_word_served (Session Plus) s ≡ true
+    one None = refl
+    one (Some s) = plus_serves s
+
+-- an engine that clashes with none of the words serves each
+serves_one : (pick : Pick) (s : Option Setting) → are_clashing s (Some (setting.Engine pick)) ≡ false
+    → is_word_served pick s ≡ true
+serves_one pick None clear = refl
+serves_one pick (Some s) clear =
+    not-false (is_served s pick) (or_parts (is_same (choice_of s) choice.Engine) (not (is_served s pick))
+    (or_parts (is_same (choice_of s) choice.Engine || not (is_served s pick)) (excludes (setting.Engine pick) s)
+    clear).0).1
+
+serves_each : (pick : Pick) (words : List (List ℕ)) → any_clash (setting.Engine pick) words ≡ false
+    → are_served pick words ≡ true
+serves_each pick [] clear = refl
+serves_each pick (word ∷ words) clear =
+    let parts = or_parts (are_clashing (setting_of word) (Some (setting.Engine pick)))
+    (any_clash (setting.Engine pick) words) clear in
+    and_from (is_word_served pick (setting_of word)) (are_served pick words)
+    (serves_one pick (setting_of word) parts.0) (serves_each pick words parts.1)
 
 abbrev chosen_on : Settings → List (List ℕ) → Settings
 chosen_on set words = fold (λ set word. settings_with set (setting_of word)) set words
 
--- where no word picks an engine, that of before stays
-kept_pick : (words : List (List ℕ)) (set : Settings) → any_pick words ≡ false → (chosen_on set words).pick
-    ≡ set.pick
-kept_pick [] set none = refl
-kept_pick (word ∷ words) set none =
-    let parts = or_parts (picks (setting_of word)) (any_pick words) none in
-    kept_pick words (settings_with set (setting_of word)) parts.1 ∙ stays (setting_of word) parts.0
-  where
-    stays : (s : Option Setting) → picks s ≡ false → (settings_with set s).pick ≡ set.pick
-    stays None other = refl
-    stays (Some (setting.Engine pick)) other = cc
-    stays (Some (setting.Show show)) other = refl
-    stays (Some (setting.Rule rule)) other = refl
-    stays (Some setting.TableFile) other = refl
+-- where a word picks no engine, that of before stays
+stays : (set : Settings) (s : Option Setting) → picks s ≡ false → (settings_with set s).pick ≡ set.pick
+stays set None other = refl
+stays set (Some (setting.Engine pick)) other = absurd (cc)
+stays set (Some (setting.Show show)) other = refl
+stays set (Some (setting.Rule rule)) other = refl
+stays set (Some setting.TableFile) other = refl
+stays set (Some (setting.States states)) other = refl
 
--- where no engine clashes with a table file, one that is picked is the one for it
-sole_pick : (words : List (List ℕ)) (set : Settings) → any_clash setting.TableFile words ≡ false
-    → (has_tables set.pick || any_pick words) ≡ true → has_tables (chosen_on set words).pick ≡ true
-sole_pick [] set clear some =
-    ⊎_elim (λ here. here) (λ none. absurd (cc)) (or_cases (has_tables set.pick) false some)
-sole_pick (word ∷ words) set clear some =
-    let parts = or_parts (are_clashing (setting_of word) (Some setting.TableFile))
-    (any_clash setting.TableFile words) clear in
-    sole_pick words (settings_with set (setting_of word)) parts.1
-    (goes_on (setting_of word) parts.0 (or_cases (has_tables set.pick) (any_pick (word ∷ words)) some))
+-- where no engine clashes with a setting, one that is picked serves it
+sole_pick : (one : Setting) (words : List (List ℕ)) (set : Settings) → any_clash one words ≡ false
+    → (is_served one set.pick || any_pick words) ≡ true → is_served one (chosen_on set words).pick ≡ true
+sole_pick one [] set clear some =
+    ⊎_elim (λ here. here) (λ none. absurd (cc)) (or_cases (is_served one set.pick) false some)
+sole_pick one (word ∷ words) set clear some =
+    let parts = or_parts (are_clashing (setting_of word) (Some one)) (any_clash one words) clear in
+    sole_pick one words (settings_with set (setting_of word)) parts.1
+    (goes_on (setting_of word) parts.0 (or_cases (is_served one set.pick) (any_pick (word ∷ words)) some))
   where
-    goes_on : (s : Option Setting) → are_clashing s (Some setting.TableFile) ≡ false
-        → (has_tables set.pick ≡ true) ⊎ ((picks s || any_pick words) ≡ true)
-        → (has_tables (settings_with set s).pick || any_pick words) ≡ true
-    goes_on None clear (inl here) = or_left (has_tables set.pick) (any_pick words) here
-    goes_on None clear (inr there) = or_right (has_tables set.pick) (any_pick words) there
+    kept : (s : Option Setting) → picks s ≡ false
+        → (is_served one set.pick ≡ true) ⊎ ((picks s || any_pick words) ≡ true)
+        → (is_served one (settings_with set s).pick || any_pick words) ≡ true
+    kept s other (inl here) =
+        or_left (is_served one (settings_with set s).pick) (any_pick words)
+        (ap (is_served one) (stays set s other) ∙ here)
+    kept s other (inr there) =
+        or_right (is_served one (settings_with set s).pick) (any_pick words) (rw other at there)
+
+    goes_on : (s : Option Setting) → are_clashing s (Some one) ≡ false
+        → (is_served one set.pick ≡ true) ⊎ ((picks s || any_pick words) ≡ true)
+        → (is_served one (settings_with set s).pick || any_pick words) ≡ true
+    goes_on None clear some = kept None refl some
     goes_on (Some (setting.Engine pick)) clear some =
-        or_left (has_tables pick) (any_pick words) (not-false (has_tables pick)
-        (or_parts (excludes (setting.Engine pick) setting.TableFile) (not (has_tables pick)) clear).1)
-    goes_on (Some (setting.Show show)) clear (inl here) = or_left (has_tables set.pick) (any_pick words) here
-    goes_on (Some (setting.Show show)) clear (inr there) =
-        or_right (has_tables set.pick) (any_pick words) there
-    goes_on (Some (setting.Rule rule)) clear (inl here) = or_left (has_tables set.pick) (any_pick words) here
-    goes_on (Some (setting.Rule rule)) clear (inr there) =
-        or_right (has_tables set.pick) (any_pick words) there
-    goes_on (Some setting.TableFile) clear some = cc
+        or_left (is_served one pick) (any_pick words) (not-false (is_served one pick)
+        (or_parts (is_same choice.Engine (choice_of one) || excludes (setting.Engine pick) one)
+        (not (is_served one pick)) clear).1)
+    goes_on (Some (setting.Show show)) clear some = kept (Some (setting.Show show)) refl some
+    goes_on (Some (setting.Rule rule)) clear some = kept (Some (setting.Rule rule)) refl some
+    goes_on (Some setting.TableFile) clear some = kept (Some setting.TableFile) refl some
+    goes_on (Some (setting.States states)) clear some = kept (Some (setting.States states)) refl some
 
--- what clashes with what
-file_clash : (pick : Pick) → has_tables pick ≡ false → (s : Option Setting) → tells s ≡ true
-    → are_clashing s (Some (setting.Engine pick)) ≡ true
-file_clash pick h s i = grind (arith, nat_tests)
-
-pick_clash : (pick : Pick) (s : Option Setting) → picks s ≡ true
-    → are_clashing s (Some (setting.Engine pick)) ≡ true
-pick_clash pick s h = grind (arith, nat_tests)
-
+-- what clashes with the engine that serves every setting is an engine
 clash_pick : (s : Option Setting) → are_clashing s (Some (setting.Engine (Session Plus))) ≡ true → picks s ≡ true
-clash_pick s h = grind (arith, nat_tests)
+clash_pick None h = absurd (cc)
+clash_pick (Some (setting.Engine pick)) h = refl
+clash_pick (Some (setting.Show Points)) h = absurd (cc)
+clash_pick (Some (setting.Show Cells)) h = absurd (cc)
+clash_pick (Some (setting.Show Trace)) h = absurd (cc)
+clash_pick (Some (setting.Show Taken)) h = absurd (cc)
+clash_pick (Some (setting.Rule rule)) h = absurd (cc)
+clash_pick (Some setting.TableFile) h = absurd (cc)
+clash_pick (Some (setting.States states)) h = absurd (cc)
 
--- a family with the table file has the engine for it
-family_has : (f : Family) → has f setting.TableFile ≡ true → has f (setting.Engine (Session Plus)) ≡ true
-family_has f h = grind (arith, nat_tests)
+-- a family with a setting that the engine of silent words doesn't serve has that engine
+family_has : (s : Setting) → is_served s (Session Plain) ≡ false → (f : Family) → has f s ≡ true
+    → has f (setting.Engine (Session Plus)) ≡ true
+family_has s other f h = grind (arith, nat_tests)
 
 module _ (allows : List Family) (before : List (List ℕ)) (word : List ℕ) where
   abbrev now : List (List ℕ)
@@ -148,69 +164,63 @@ module _ (allows : List Family) (before : List (List ℕ)) (word : List ℕ) whe
   chosen_now : settings_of now ≡ settings_with (settings_of before) (setting_of word)
   chosen_now = grind (arith, nat_tests, fold-append)
 
-  loaded : has_tables (settings_with (settings_of before) (setting_of word)).pick ≡ true → Stand allows now
-  loaded is = grind (arith, nat_tests, or_right, chosen_now)
-
-  untold : is_none (tables_of now) ≡ true → Stand allows now
-  untold is = whole (or_left (is_none (tables_of now)) (has_tables (settings_of now).pick) is)
-
   -- the word is this setting, which is allowed and clashes with none before it
   module _ (s : Setting) (is : setting_of word ≡ Some s) (allowed : is_allowed allows (Some s) ≡ true)
       (clear : any_clash s before ≡ false) where
-    picks_now : any_pick now ≡ (any_pick before || (picks (Some s) || false))
-    picks_now = list_any-append (λ w. picks (setting_of w)) before (word ∷ []) ∙ rw is refl
+    pick_now : (settings_of now).pick ≡ (settings_with (settings_of before) (Some s)).pick
+    pick_now = ap (λ (set : Settings). set.pick) (chosen_now
+        ∙ ap (settings_with (settings_of before)) is)
 
-    tells_now : any_file now ≡ (any_file before || (tells (Some s) || false))
-    tells_now = list_any-append (λ w. tells (setting_of w)) before (word ∷ []) ∙ rw is refl
+    served_now : (pick : Pick) → (settings_of now).pick ≡ pick → are_served pick before ≡ true
+        → is_served s pick ≡ true → Stand allows now
+    served_now pick picked each served =
+        whole (ap (λ (p : Pick). are_served p now) picked
+        ∙ list_all-append (λ w. is_word_served pick (setting_of w)) before (word ∷ [])
+        ∙ rw (each, is, served) refl)
 
-    other_word : is_none (tables_of before) ≡ true → tells (Some s) ≡ false → Stand allows now
-    other_word none other = untold (none_named before word none (unnamed word (rw is other)))
+    none_picked : any_pick before ≡ false → picks (Some s) ≡ false → any_pick now ≡ false
+    none_picked free other =
+        list_any-append (λ w. picks (setting_of w)) before (word ∷ []) ∙ rw (free, is, other) refl
 
-    still_waits : Waits allows before → picks (Some s) ≡ false → Stand allows now
-    still_waits w other = grind (arith, tells_now, or_left, picks_now)
+    -- that the engine which is picked serves, or the one of silent words
+    goes_with : Stand allows before → picks (Some s) ≡ false
+        → (is_served s (Session Plain) || any_pick before) ≡ true → Stand allows now
+    goes_with (whole complete) other some =
+        served_now (settings_of before).pick (pick_now ∙ stays (settings_of before) (Some s) other) complete
+        (sole_pick s before default_settings clear some)
+    goes_with (waits w) other some = waits (record {
+      allowed = w.allowed;
+      free = none_picked w.free other;
+    })
 
-    still_loaded : has_tables (settings_of before).pick ≡ true
-        → (settings_with (settings_of before) (Some s)).pick ≡ (settings_of before).pick → Stand allows now
-    still_loaded has same = loaded (rw is (ap has_tables same ∙ has))
+    -- that some engines alone serve, of which none is picked yet
+    waits_for : picks (Some s) ≡ false → (is_served s (Session Plain) || any_pick before) ≡ false
+        → Stand allows now
+    waits_for other none =
+        let parts = or_parts (is_served s (Session Plain)) (any_pick before) none in
+        waits (record {
+          allowed = any_from (λ f. has f s) (λ f. has f (setting.Engine (Session Plus))) (family_has s parts.0)
+              allows allowed;
+          free = none_picked parts.1 other;
+        })
 
-  -- an engine behind one that is picked clashes
-  picked_twice : (pick : Pick) → any_clash (setting.Engine pick) before ≡ false
-      → has_tables (settings_of before).pick ≡ true → ⊥
-  picked_twice pick clear has = grind (arith, true≢false, kept_pick, none_from, pick_clash)
-
-  -- an engine behind a table file is the one for it
-  loads : (pick : Pick) → any_clash (setting.Engine pick) before ≡ false → any_file before ≡ true
-      → has_tables pick ≡ true
-  loads pick clear named = grind (arith, nat_tests, true_from_ne_false, true≢false, any_from, file_clash)
-
-  -- a table file stands behind the engine for it, or waits for it
-  file_told : setting_of word ≡ Some setting.TableFile → is_allowed allows (Some setting.TableFile) ≡ true
-      → any_clash setting.TableFile before ≡ false → Stand allows now
-  file_told is allowed clear = ⊎_elim
-      (λ picked. loaded (rw is (sole_pick before default_settings clear picked)))
-      (λ none. waits (record {
-        allowed = any_from (λ f. has f setting.TableFile) (λ f. has f (setting.Engine (Session Plus))) family_has
-            allows allowed;
-        named = tells_now setting.TableFile is allowed clear ∙ or_right (any_file before) true refl;
-        free = picks_now setting.TableFile is allowed clear ∙ rw none refl;
-      }))
-      (cases_Bool (any_pick before))
+    no_engine : Stand allows before → picks (Some s) ≡ false → Stand allows now
+    no_engine stand other = ⊎_elim (goes_with stand other) (waits_for other)
+        (cases_Bool (is_served s (Session Plain) || any_pick before))
 
   stands_with : Stand allows before → (s : Setting) → setting_of word ≡ Some s
       → is_allowed allows (Some s) ≡ true → any_clash s before ≡ false → Stand allows now
-  stands_with h s i j k =
-      grind (
-        arith,
-        nat_tests,
-        other_word,
-        picked_twice,
-        or_cases,
-        still_loaded,
-        file_told,
-        loaded,
-        loads,
-        still_waits,
-      )
+  stands_with stand (setting.Engine pick) is allowed clear =
+      served_now (setting.Engine pick) is allowed clear pick (pick_now (setting.Engine pick) is allowed clear)
+      (serves_each pick before clear) refl
+  stands_with stand (setting.Show show) is allowed clear =
+      no_engine (setting.Show show) is allowed clear stand refl
+  stands_with stand (setting.Rule rule) is allowed clear =
+      no_engine (setting.Rule rule) is allowed clear stand refl
+  stands_with stand setting.TableFile is allowed clear =
+      no_engine setting.TableFile is allowed clear stand refl
+  stands_with stand (setting.States states) is allowed clear =
+      no_engine (setting.States states) is allowed clear stand refl
 
   -- a word more that may follow
   pub stand_on : Stand allows before → may_follow allows before word ≡ true → Stand allows now
@@ -243,8 +253,8 @@ can_complete allows before (waits w) =
     and_from (is_allowed allows (Some (setting.Engine (Session Plus)))) (not (any_clash (setting.Engine (Session Plus)) before))
     w.allowed (rw clear refl) in
     let complete : is_complete (before ++ plus ∷ []) ≡ true =
-    or_right (is_none (tables_of (before ++ plus ∷ []))) (has_tables (settings_of (before ++ plus ∷ [])).pick)
-    (rw chosen refl) in (
+    ap (λ (set : Settings). are_served set.pick (before ++ plus ∷ [])) chosen
+    ∙ plus_serves_all (before ++ plus ∷ []) in (
       plus ∷ [],
       and_from (all_follow allows before (plus ∷ [])) (is_complete (before ++ plus ∷ []))
           (rw follows refl) complete,
@@ -252,3 +262,22 @@ can_complete allows before (waits w) =
 
 pub nothing_stands : (allows : List Family) → Stand allows []
 nothing_stands allows = whole refl
+
+-- where each word is served, a table file that one tells is
+loaded : (pick : Pick) (words : List (List ℕ)) → are_served pick words ≡ true
+    → (is_none (tables_of words) || has_tables pick) ≡ true
+loaded pick [] served = refl
+loaded pick (word ∷ words) served =
+    let parts = and_parts (is_word_served pick (setting_of word)) (are_served pick words) served in
+    by_file (tables_in word) refl parts.0 (loaded pick words parts.1)
+  where
+    by_file : (t : Option (List ℕ)) → tables_in word ≡ t → is_word_served pick (setting_of word) ≡ true
+        → (is_none (tables_of words) || has_tables pick) ≡ true
+        → (is_none (option_or t (tables_of words)) || has_tables pick) ≡ true
+    by_file None e here behind = behind
+    by_file (Some name) e here behind = rw e at here
+
+-- so the engine for a table file is picked where no word is missing
+pub loads : (words : List (List ℕ)) → is_complete words ≡ true
+    → can_load (tables_of words) (settings_of words) ≡ true
+loads words complete = loaded (settings_of words).pick words complete

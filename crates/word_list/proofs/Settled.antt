@@ -5,12 +5,12 @@ use Rattle.std.proofs.Common.{◌++◌, refl, sym, ap, ◌∙◌, length, take, 
 use Rattle.std.proofs.Common.{append-nil, string_bytes, add-one, arith}
 use Rattle.std.specs.Prelude.{String, Option, Some, None, if◌then◌else◌}
 use Rattle.std.specs.Global.{Global}
-use Rattle.std.specs.List.{list_any}
+use Rattle.std.specs.List.{list_all, list_any}
 use Rattle.std.specs.Option.{option_or}
 use Rattle.std.proofs.lemmas.Bool.{and_parts, or_parts, or_left, false_from_ne_true, true≢false}
 use Rattle.std.proofs.lemmas.List.{length-map, get_or-map, take_more}
 use Rattle.std.proofs.lemmas.List.Sums.{fold-append}
-use Rattle.std.proofs.lemmas.List.Folds.{list_any-append, list_any_at, list_any_more}
+use Rattle.std.proofs.lemmas.List.Folds.{list_all_at, list_all_more, list_any-append, list_any_at, list_any_more}
 use Rattle.word_list.specs.declared.settings.Setting.{Setting}
 use Rattle.word_list.specs.declared.settings.Setting.TheVariants as setting
 use Rattle.word_list.specs.declared.settings.Choice.{Choice}
@@ -39,6 +39,13 @@ module _ {A : Type 0} (test : A → Bool) (xs : List A) (place : ℕ) (x : A) (i
   pub none_yet : test x ≡ false → list_any test (take place xs) ≡ false
       → list_any test (take (place + 1) xs) ≡ false
   none_yet unmet none = list_any_more test xs place x inside ∙ rw (none, at, unmet) refl
+
+  pub one_fails : test x ≡ false → list_all test xs ≡ false
+  one_fails unmet = list_all_at test xs place x inside (ap test at ∙ unmet)
+
+  pub all_yet : test x ≡ true → list_all test (take place xs) ≡ true
+      → list_all test (take (place + 1) xs) ≡ true
+  all_yet met all = list_all_more test xs place x inside ∙ rw (all, at, met) refl
 
 -- behind settings, a list of settings ends after so many words; where these are all, it is one if no word is
 -- missing
@@ -95,9 +102,9 @@ made choice words = if list_any (λ word. is_made choice (setting_of word)) word
 -- how many choices the words make
 abbrev all_made : List (List ℕ) → ℕ
 all_made words = made choice.Engine words + made choice.Show words + made choice.Rule words
-    + made choice.TableFile words
+    + made choice.TableFile words + made choice.States words
 
-few_made : (words : List (List ℕ)) → all_made words ≤ 4
+few_made : (words : List (List ℕ)) → all_made words ≤ 5
 few_made words = grind arith
 
 -- what makes the same choice clashes
@@ -145,6 +152,7 @@ module _ (allows : List Family) (before : List (List ℕ)) (word : List ℕ) whe
       itself choice.Show = refl
       itself choice.Rule = refl
       itself choice.TableFile = refl
+      itself choice.States = refl
 
   one_more : may_follow allows before word ≡ true → all_made before + 1 ≤ all_made (before ++ word ∷ [])
   one_more follows =
@@ -155,6 +163,7 @@ module _ (allows : List Family) (before : List (List ℕ)) (word : List ℕ) whe
       let show = kept choice.Show in
       let rule = kept choice.Rule in
       let file = kept choice.TableFile in
+      let states = kept choice.States in
       elim (setting_of word) as (λ s. setting_of word ≡ s
       → all_made before + 1 ≤ all_made (before ++ word ∷ [])) [
         | None ↦ λ is. let no = rw is at parts.0 in cc (no)
@@ -164,6 +173,7 @@ module _ (allows : List Family) (before : List (List ℕ)) (word : List ℕ) whe
           show,
           rule,
           file,
+          states,
         )
         | Some (setting.Show what) ↦ λ is. omega (
           arith,
@@ -171,9 +181,32 @@ module _ (allows : List Family) (before : List (List ℕ)) (word : List ℕ) whe
           engine,
           rule,
           file,
+          states,
         )
-        | Some (setting.Rule what) ↦ λ is. omega (arith, grown (setting.Rule what) is none, engine, show, file)
-        | Some setting.TableFile ↦ λ is. omega (arith, grown setting.TableFile is none, engine, show, rule)
+        | Some (setting.Rule what) ↦ λ is. omega (
+          arith,
+          grown (setting.Rule what) is none,
+          engine,
+          show,
+          file,
+          states,
+        )
+        | Some setting.TableFile ↦ λ is. omega (
+          arith,
+          grown setting.TableFile is none,
+          engine,
+          show,
+          rule,
+          states,
+        )
+        | Some (setting.States what) ↦ λ is. omega (
+          arith,
+          grown (setting.States what) is none,
+          engine,
+          show,
+          rule,
+          file,
+        )
       ] refl
     where
       is_not : (b : Bool) → not b ≡ true → b ≡ false
@@ -181,7 +214,7 @@ module _ (allows : List Family) (before : List (List ℕ)) (word : List ℕ) whe
       is_not false is = refl
 
 pub few_settled : (allows : List Family) (before words : List (List ℕ)) (count : ℕ)
-    → AreSettled allows before words count → all_made before + count ≤ 4
+    → AreSettled allows before words count → all_made before + count ≤ 5
 few_settled allows before words zero are = omega (arith, few_made before)
 few_settled allows before [] (suc count) are = absurd (omega (arith, are.within))
 few_settled allows before (word ∷ words) (suc count) are =

@@ -2,7 +2,7 @@
 use Rattle.std.specs.Prelude.{ℕ, Bool, true, false, List, [], ◌∷◌, ◌++◌, not, ◌&&◌, ◌||◌, if◌then◌else◌}
 use Rattle.std.specs.Prelude.{nat_eq, nat_lt, bytes_eq, codes, length, drop, is_some, is_none, Option, Some}
 use Rattle.std.specs.Prelude.{None}
-use Rattle.std.specs.List.{list_any, fold, starts_with}
+use Rattle.std.specs.List.{list_all, list_any, fold, starts_with}
 use Rattle.std.specs.Option.{option_or}
 use Rattle.grid_moves.specs.declared.Corner.TheVariants.{Never, One, Both}
 use Rattle.word_list.specs.declared.request.Pick.{Pick}
@@ -11,6 +11,7 @@ use Rattle.word_list.specs.declared.request.SessionEngine.{SessionEngine}
 use Rattle.word_list.specs.declared.request.SessionEngine.TheVariants.{Plain, Jps, Block, Plus}
 use Rattle.word_list.specs.declared.request.SmallEngine.TheVariants.{Boxes, Moves}
 use Rattle.word_list.specs.declared.request.Show.TheVariants.{Points, Cells, Trace, Taken}
+use Rattle.word_list.specs.declared.request.States.TheVariants.{Arrival, Cell}
 use Rattle.word_list.specs.declared.request.Settings.{Settings}
 use Rattle.word_list.specs.declared.settings.Setting.{Setting}
 use Rattle.word_list.specs.declared.settings.Setting.TheVariants as setting
@@ -41,6 +42,8 @@ setting_of word =
     else if bytes_eq word (codes "rule=none") then Some (setting.Rule Never)
     else if bytes_eq word (codes "rule=one") then Some (setting.Rule One)
     else if bytes_eq word (codes "rule=both") then Some (setting.Rule Both)
+    else if bytes_eq word (codes "states=arrival") then Some (setting.States Arrival)
+    else if bytes_eq word (codes "states=cell") then Some (setting.States Cell)
     else None
 
 -- what a setting chooses
@@ -49,6 +52,7 @@ choice_of (setting.Engine pick) = choice.Engine
 choice_of (setting.Show show) = choice.Show
 choice_of (setting.Rule rule) = choice.Rule
 choice_of setting.TableFile = choice.TableFile
+choice_of (setting.States states) = choice.States
 
 -- whether two choices are the same
 abbrev pub is_same : Choice → Choice → Bool
@@ -56,6 +60,7 @@ is_same choice.Engine choice.Engine = true
 is_same choice.Show choice.Show = true
 is_same choice.Rule choice.Rule = true
 is_same choice.TableFile choice.TableFile = true
+is_same choice.States choice.States = true
 is_same one other = false
 
 -- whether an engine searches by tables
@@ -63,12 +68,30 @@ abbrev pub has_tables : Pick → Bool
 has_tables (Session Plus) = true
 has_tables other = false
 
--- whether a setting can't stand beside this one, which makes another choice: first moves take no states,
--- which a trace could list or a row could count, and tables serve one engine alone
+-- whether an engine searches by jumps
+abbrev pub jumps : Pick → Bool
+jumps (Session Jps) = true
+jumps (Session Block) = true
+jumps (Session Plus) = true
+jumps other = false
+
+-- whether an engine takes states: one that follows first moves searches nothing
+abbrev pub takes_states : Pick → Bool
+takes_states (Small Moves) = false
+takes_states other = true
+
+-- whether a setting is served by this engine: a trace lists the states that a search took, and a row counts
+-- them; tables serve one engine alone; how many states a search has of a cell is asked of engines that jump
+abbrev pub is_served : Setting → Pick → Bool
+is_served (setting.Show Trace) pick = takes_states pick
+is_served (setting.Show Taken) pick = takes_states pick
+is_served setting.TableFile pick = has_tables pick
+is_served (setting.States states) pick = jumps pick
+is_served other pick = true
+
+-- whether a setting can't stand beside this one, which is an engine that doesn't serve it
 abbrev pub excludes : Setting → Setting → Bool
-excludes (setting.Engine (Small Moves)) (setting.Show Trace) = true
-excludes (setting.Engine (Small Moves)) (setting.Show Taken) = true
-excludes setting.TableFile (setting.Engine pick) = not (has_tables pick)
+excludes one (setting.Engine pick) = not (is_served one pick)
 excludes one other = false
 
 -- whether two settings can't stand together, in whatever order
@@ -91,10 +114,12 @@ abbrev pub session_engine : Pick → SessionEngine
 session_engine (Session engine) = engine
 session_engine (Small engine) = Plain
 
--- whether a setting is of a family; a picture shows the points, and the states that the search took; rows
--- count these states; a table file stands beside the engine that searches by tables
+-- whether a setting is of a family; how many states a search has of a cell stands beside its engine; a
+-- picture shows the points, and the states that the search took; rows count these states; a table file stands
+-- beside the engine that searches by tables
 abbrev pub has : Family → Setting → Bool
 has family.Engine (setting.Engine pick) = not (is_for_small_maps pick)
+has family.Engine (setting.States states) = true
 has family.SmallMap (setting.Engine pick) = is_for_small_maps pick
 has family.Show (setting.Show Points) = true
 has family.Show (setting.Show Cells) = true
@@ -125,10 +150,15 @@ all_follow allows before (word ∷ words) =
 
 -- the settings with one more word
 abbrev pub settings_with : Settings → Option Setting → Settings
-settings_with set (Some (setting.Engine pick)) = record { pick = pick; show = set.show; rule = set.rule }
-settings_with set (Some (setting.Show show)) = record { pick = set.pick; show = show; rule = set.rule }
-settings_with set (Some (setting.Rule rule)) = record { pick = set.pick; show = set.show; rule = rule }
+settings_with set (Some (setting.Engine pick)) =
+    record { pick = pick; show = set.show; rule = set.rule; states = set.states }
+settings_with set (Some (setting.Show show)) =
+    record { pick = set.pick; show = show; rule = set.rule; states = set.states }
+settings_with set (Some (setting.Rule rule)) =
+    record { pick = set.pick; show = set.show; rule = rule; states = set.states }
 settings_with set (Some setting.TableFile) = set
+settings_with set (Some (setting.States states)) =
+    record { pick = set.pick; show = set.show; rule = set.rule; states = states }
 settings_with set None = set
 
 -- the engine of a call that picks none, and its settings where it is silent on all of them
@@ -136,7 +166,7 @@ abbrev pub default_pick : Pick
 default_pick = Session Plain
 
 abbrev pub default_settings : Settings
-default_settings = record { pick = default_pick; show = Points; rule = Never }
+default_settings = record { pick = default_pick; show = Points; rule = Never; states = Arrival }
 
 -- what the words choose
 abbrev pub settings_of : List (List ℕ) → Settings
@@ -151,9 +181,18 @@ tables_of (word ∷ words) = option_or (tables_in word) (tables_of words)
 abbrev pub can_load : Option (List ℕ) → Settings → Bool
 can_load tables set = is_none tables || has_tables set.pick
 
--- whether no word is missing: where one tells a table file, another picks the engine for it
+-- whether a word is served by this engine, where it is a setting
+abbrev pub is_word_served : Pick → Option Setting → Bool
+is_word_served pick (Some one) = is_served one pick
+is_word_served pick None = true
+
+-- whether each of the words is
+abbrev pub are_served : Pick → List (List ℕ) → Bool
+are_served pick words = list_all (λ word. is_word_served pick (setting_of word)) words
+
+-- whether no word is missing: where one is served by some engines alone, another picks one of these
 abbrev pub is_complete : List (List ℕ) → Bool
-is_complete words = can_load (tables_of words) (settings_of words)
+is_complete words = are_served (settings_of words).pick words
 
 -- whether the words are settings that are allowed, no two of which clash, and none is missing
 abbrev pub are_settings : List Family → List (List ℕ) → Bool

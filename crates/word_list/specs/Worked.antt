@@ -9,10 +9,14 @@ use Rattle.grid_moves.specs.declared.Corner.TheVariants.{Never, One, Both}
 use Rattle.text_line.specs.LongNumbers.{long_number_of}
 use Rattle.text_line.specs.Numbers.{number_of}
 use Rattle.word_list.specs.declared.request.Pick.TheVariants.{Session, Small}
-use Rattle.word_list.specs.declared.request.SessionEngine.TheVariants.{Plain, Jps, Plus}
+use Rattle.word_list.specs.declared.request.SessionEngine.TheVariants.{Plain, Jps, Block, Plus}
 use Rattle.word_list.specs.declared.request.SmallEngine.TheVariants.{Boxes, Moves}
 use Rattle.word_list.specs.declared.request.Show.{Show}
 use Rattle.word_list.specs.declared.request.Show.TheVariants.{Points, Cells, Trace, Taken}
+use Rattle.word_list.specs.declared.request.SessionEngine.{SessionEngine}
+use Rattle.word_list.specs.declared.request.States.{States}
+use Rattle.word_list.specs.declared.request.States.TheVariants.{Arrival, Cell}
+use Rattle.word_list.specs.declared.settings.Setting.{Setting}
 use Rattle.word_list.specs.declared.settings.Setting.TheVariants as setting
 use Rattle.word_list.specs.declared.rows.Command.{Command}
 use Rattle.word_list.specs.declared.rows.Command.TheVariants as command
@@ -37,7 +41,7 @@ query_with words = call_of (codes "query" ∷ codes "m" ∷ codes "0" ∷ codes 
 abbrev query_of : Show → Corner → Option Call
 query_of show rule = Some (record {
   request = asks command.Query corners;
-  settings = record { pick = Session Plain; show = show; rule = rule };
+  settings = record { pick = Session Plain; show = show; rule = rule; states = Arrival };
 })
 
 pub defaults : query_with [] ≡ query_of Points Never
@@ -47,7 +51,7 @@ defaults = refl
 -- another engine, and a word that is none
 pub jumping : query_with (codes "engine=jps" ∷ []) ≡ Some (record {
   request = asks command.Query corners;
-  settings = record { pick = Session Jps; show = Points; rule = Never };
+  settings = record { pick = Session Jps; show = Points; rule = Never; states = Arrival };
 })
 unfolding number_of tables_in
 jumping = refl
@@ -59,7 +63,7 @@ no_engine = refl
 -- an engine of small maps, and a call for edits, which takes none
 pub boxed : query_with (codes "engine=boxes" ∷ []) ≡ Some (record {
   request = asks command.Query corners;
-  settings = record { pick = Small Boxes; show = Points; rule = Never };
+  settings = record { pick = Small Boxes; show = Points; rule = Never; states = Arrival };
 })
 unfolding number_of tables_in
 boxed = refl
@@ -185,7 +189,7 @@ setting_for_name = refl
 abbrev loaded_query : Option Call
 loaded_query = Some (record {
   request = record { command = command.Query; words = corners; tables = Some (codes "t=x") };
-  settings = record { pick = Session Plus; show = Points; rule = Never };
+  settings = record { pick = Session Plus; show = Points; rule = Never; states = Arrival };
 })
 
 pub file_behind_engine : query_with (codes "engine=plus" ∷ codes "tables=t=x" ∷ []) ≡ loaded_query
@@ -221,11 +225,86 @@ pub drawn_by_file : call_of (codes "draw" ∷ codes "m" ∷ codes "0" ∷ codes 
 unfolding number_of tables_in
 drawn_by_file = refl
 
+-- how many states the search has of a cell stands beside an engine that jumps, before it or behind it, and
+-- with a table file
+abbrev stated_query : SessionEngine → States → Option Call
+stated_query engine states = Some (record {
+  request = asks command.Query corners;
+  settings = record { pick = Session engine; show = Points; rule = Never; states = states };
+})
+
+pub cell_behind_jps : query_with (codes "engine=jps" ∷ codes "states=cell" ∷ []) ≡ stated_query Jps Cell
+unfolding number_of tables_in
+cell_behind_jps = refl
+
+pub cell_before_block : query_with (codes "states=cell" ∷ codes "engine=block" ∷ []) ≡ stated_query Block Cell
+unfolding number_of tables_in
+cell_before_block = refl
+
+pub arrival_told : query_with (codes "states=arrival" ∷ codes "engine=plus" ∷ []) ≡ stated_query Plus Arrival
+unfolding number_of tables_in
+arrival_told = refl
+
+pub arrival_where_none_is_told : query_with (codes "engine=plus" ∷ []) ≡ stated_query Plus Arrival
+unfolding number_of tables_in
+arrival_where_none_is_told = refl
+
+pub cell_and_file : query_with (codes "states=cell" ∷ codes "tables=t=x" ∷ codes "engine=plus" ∷ [])
+    ≡ Some (record {
+      request = record { command = command.Query; words = corners; tables = Some (codes "t=x") };
+      settings = record { pick = Session Plus; show = Points; rule = Never; states = Cell };
+    })
+unfolding number_of tables_in
+cell_and_file = refl
+
+-- alone it lacks its engine, whichever it tells, and no other engine is one for it
+pub cell_alone : query_with (codes "states=cell" ∷ []) ≡ None
+unfolding number_of tables_in
+cell_alone = refl
+
+pub arrival_alone : query_with (codes "states=arrival" ∷ []) ≡ None
+unfolding number_of tables_in
+arrival_alone = refl
+
+pub cell_before_plain : query_with (codes "states=cell" ∷ codes "engine=plain" ∷ []) ≡ None
+unfolding number_of tables_in
+cell_before_plain = refl
+
+pub cell_behind_boxes : query_with (codes "engine=boxes" ∷ codes "states=cell" ∷ []) ≡ None
+unfolding number_of tables_in
+cell_behind_boxes = refl
+
+pub arrival_behind_moves : query_with (codes "engine=moves" ∷ codes "states=arrival" ∷ []) ≡ None
+unfolding number_of tables_in
+arrival_behind_moves = refl
+
+pub states_twice : query_with (codes "engine=jps" ∷ codes "states=cell" ∷ codes "states=arrival" ∷ []) ≡ None
+unfolding number_of tables_in
+states_twice = refl
+
+pub no_states : query_with (codes "engine=jps" ∷ codes "states=both" ∷ []) ≡ None
+unfolding number_of tables_in
+no_states = refl
+
+-- the commands that are asked how many states a search has of a cell are those that are asked for an engine
+-- of sessions
+abbrev allowing : Setting → List Named → List (List ℕ)
+allowing one [] = []
+allowing one (row ∷ others) =
+    if is_allowed row.row.allows (Some one) then row.name ∷ allowing one others else allowing one others
+
+pub stated_commands : allowing (setting.States Cell) rows ≡ codes "query" ∷ codes "solve" ∷ codes "live"
+    ∷ codes "scen" ∷ codes "drill" ∷ codes "draw" ∷ []
+stated_commands = refl
+
+pub engine_commands : allowing (setting.Engine (Session Plain)) rows ≡ allowing (setting.States Cell) rows
+engine_commands = refl
+
 -- a judge is asked with three files
 pub three_files : call_of (codes "judge" ∷ codes "m" ∷ codes "s" ∷ codes "w" ∷ codes "rule=one" ∷ [])
     ≡ Some (record {
       request = asks command.Judge (codes "m" ∷ codes "s" ∷ codes "w" ∷ []);
-      settings = record { pick = Session Plain; show = Points; rule = One };
+      settings = record { pick = Session Plain; show = Points; rule = One; states = Arrival };
     })
 unfolding tables_in
 three_files = refl
@@ -233,7 +312,7 @@ three_files = refl
 -- rows may tell counts, and nothing else is shown of them; no answer tells counts, and first moves have none
 pub counted_rows : call_of (codes "scen" ∷ codes "m" ∷ codes "s" ∷ codes "show=taken" ∷ []) ≡ Some (record {
   request = asks command.Scen (codes "m" ∷ codes "s" ∷ []);
-  settings = record { pick = Session Plain; show = Taken; rule = Never };
+  settings = record { pick = Session Plain; show = Taken; rule = Never; states = Arrival };
 })
 unfolding tables_in
 counted_rows = refl
@@ -300,7 +379,7 @@ more_than_all = refl
 pub scenario_again : call_of (codes "lengths" ∷ codes "m" ∷ codes "s" ∷ codes "rule=both" ∷ [])
     ≡ Some (record {
       request = asks command.Lengths (codes "m" ∷ codes "s" ∷ []);
-      settings = record { pick = Session Plain; show = Points; rule = Both };
+      settings = record { pick = Session Plain; show = Points; rule = Both; states = Arrival };
     })
 unfolding tables_in
 scenario_again = refl

@@ -5,13 +5,15 @@
 //! allows, and what help says of it:
 //!
 //! ```text
-//! query MAP SX SY GX GY [engine=ENGINE] [tables=FILE] [show=points|show=cells|show=trace] [rule=RULE]
+//! query MAP SX SY GX GY [engine=ENGINE] [states=arrival|states=cell] [tables=FILE]
+//!     [show=points|show=cells|show=trace] [rule=RULE]
 //! ```
 //!
 //! ENGINE is `plain`, `jps`, `block` or `plus`, RULE `none`, `one` or `both`. Names of files are any words;
 //! numbers are 1 to 9 decimal digits, N is 1 to 100000, and a seed has 1 to 20 digits. FILE is all behind the
 //! first `=`, at least one byte. Two settings clash that choose the same. A table file stands beside
-//! `engine=plus` alone: it clashes with every other engine, and where no engine is named a word is missing.
+//! `engine=plus` alone, `states=` beside `jps`, `block` and `plus` alone: they clash with every other engine,
+//! and where no engine is named a word is missing.
 //! `query` and `scen` allow `engine=boxes` and `engine=moves` besides, of engines for small maps; first moves
 //! clash with `show=trace` and `show=taken`. A list that is no call is refused at its first word with which
 //! no call can begin, or one word behind its end where only words are missing.
@@ -25,5 +27,5 @@ mod rows;
 mod settings;
 
 pub use reading::{first_bad, read_words};
-pub use request::{BadWord, Pick, SessionEngine, Settings, Show, SmallEngine};
+pub use request::{BadWord, Pick, SessionEngine, Settings, Show, SmallEngine, States};
 pub use rows::{Command, Request, command_name};

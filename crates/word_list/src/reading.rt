@@ -8,7 +8,7 @@ ghost use Rattle.word_list.specs.Steps.{AreOf};
 
 use crate::request::{BadWord, Settings};
 use crate::rows::{Kind, Request, row_named};
-use crate::settings::{can_load, chosen, settled, table_file};
+use crate::settings::{chosen, serves, settled, table_file};
 
 /// The call that the words spell, or the number of the word that no call has there.
 pub fn read_words(words: &[String]) -> Result<(Request<'_>, Settings), BadWord>
@@ -42,7 +42,7 @@ pub fn first_bad(words: &[String]) -> u32
 
 /// The call that the words spell, or the number of the bad word.
 fn read(words: &[String]) -> Result<(Request<'_>, Settings), BadWord>
-    ensures few { OnOk result (length words.now ≤ 13) }
+    ensures few { OnOk result (length words.now ≤ 14) }
     ensures sound { IfOk result (λ read. IsSound read.0 read.1) }
     ensures told { MatchResult result
         (λ read. call_of (map string_bytes words.now) ≡ Some (called read.0 read.1))
@@ -56,7 +56,7 @@ fn read(words: &[String]) -> Result<(Request<'_>, Settings), BadWord>
 
 /// The same of a command's name and the words after it.
 fn read_after<'a>(name: &str, words: &'a [String]) -> Result<(Request<'a>, Settings), BadWord>
-    ensures few { OnOk result (length words.now ≤ 12) }
+    ensures few { OnOk result (length words.now ≤ 13) }
     ensures sound { IfOk result (λ read. IsSound read.0 read.1) }
     ensures told { MatchResult result
         (λ read. call_of (name.now ∷ map string_bytes words.now) ≡ Some (called read.0 read.1))
@@ -73,7 +73,7 @@ fn read_after<'a>(name: &str, words: &'a [String]) -> Result<(Request<'a>, Setti
     let more = settled(row.allows, rest);
     let tables = table_file(rest);
     let settings = chosen(rest);
-    if more < rest.len() || !can_load(tables, settings) {
+    if more < rest.len() || !serves(settings.pick, rest) {
         return Err(BadWord((taken + more) as u32 + 2));
     }
     let request = Request {

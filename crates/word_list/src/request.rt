@@ -13,6 +13,8 @@ pub struct Settings {
     pub show: Show,
     /// What a diagonal move asks of the two cells beside it.
     pub rule: Corner,
+    /// How many states the search has of a cell, where its engine jumps; other engines don't look at it.
+    pub states: States,
 }
 
 /// Which engine answers.
@@ -83,6 +85,16 @@ pub enum Show {
     Trace,
     /// How many states the search took.
     Taken,
+}
+
+/// How many states a search has of a cell.
+#[derive(Clone, Copy, Debug, Default, PartialEq, Eq)]
+pub enum States {
+    /// One for each direction of arrival.
+    #[default]
+    Arrival,
+    /// One alone, with the arrival that was offered first at its least cost.
+    Cell,
 }
 
 /// The number of the word, from 1, with which no call begins; one more than there are words where

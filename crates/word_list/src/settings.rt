@@ -3,11 +3,10 @@
 ghost use Rattle.std.specs.Prelude.{◌≡◌, ◌≤◌, [], take, slice_get, map, string_bytes, Some};
 ghost use Rattle.std.specs.List.{list_any};
 ghost use Rattle.std.specs.Option.{option_copied};
-ghost use Rattle.word_list.specs.Settings.{setting_of, choice_of, has as member, has_tables, is_allowed, is_for_small_maps, excludes, is_clash, are_clashing, may_follow, settings_with, settings_of, tables_in, tables_of};
-ghost use Rattle.word_list.specs.Settings as spec;
+ghost use Rattle.word_list.specs.Settings.{setting_of, choice_of, has as member, has_tables, jumps, takes_states, is_allowed, is_for_small_maps, is_served, is_word_served, are_served, excludes, is_clash, are_clashing, may_follow, settings_with, settings_of, tables_in, tables_of};
 ghost use Rattle.word_list.specs.Steps.{AreSettled, one_follows};
 
-use crate::request::{Pick, SessionEngine, Settings, Show, SmallEngine};
+use crate::request::{Pick, SessionEngine, Settings, Show, SmallEngine, States};
 use grid_moves::Corner;
 
 /// A setting.
@@ -19,6 +18,8 @@ pub enum Setting {
     Rule(Corner),
     /// From which file the tables are loaded; its name stands in the word.
     TableFile,
+    /// How many states the search has of a cell.
+    States(States),
 }
 
 /// What a setting chooses. No choice is made twice.
@@ -32,12 +33,14 @@ enum Choice {
     Rule,
     /// From which file the tables are loaded.
     TableFile,
+    /// How many states the search has of a cell.
+    States,
 }
 
 /// Settings that a command allows, all of them or none.
 #[derive(Clone, Copy)]
 pub enum Family {
-    /// An engine that serves maps of any size, and edits.
+    /// An engine that serves maps of any size, and edits; and how many states the search has of a cell.
     Engine,
     /// An engine that serves small maps, without edits.
     SmallMap,
@@ -60,6 +63,7 @@ impl Family {
     {
         match (self, setting) {
             (Family::Engine, Setting::Engine(pick)) => !pick.is_for_small_maps(),
+            (Family::Engine, Setting::States(_)) => true,
             (Family::SmallMap, Setting::Engine(pick)) => pick.is_for_small_maps(),
             (Family::Show, Setting::Show(Show::Points)) => true,
             (Family::Show, Setting::Show(Show::Cells)) => true,
@@ -95,6 +99,28 @@ impl Pick {
             _ => false,
         }
     }
+
+    /// Whether the engine searches by jumps.
+    fn jumps(self) -> bool
+        ensures { result ≡ jumps self }
+    {
+        match self {
+            Pick::Session(SessionEngine::Jps) => true,
+            Pick::Session(SessionEngine::Block) => true,
+            Pick::Session(SessionEngine::Plus) => true,
+            _ => false,
+        }
+    }
+
+    /// Whether the engine takes states: one that follows first moves searches nothing.
+    fn takes_states(self) -> bool
+        ensures { result ≡ takes_states self }
+    {
+        match self {
+            Pick::Small(SmallEngine::Moves) => false,
+            _ => true,
+        }
+    }
 }
 
 impl Setting {
@@ -119,6 +145,8 @@ impl Setting {
             "rule=none" => Some(Setting::Rule(Corner::Never)),
             "rule=one" => Some(Setting::Rule(Corner::One)),
             "rule=both" => Some(Setting::Rule(Corner::Both)),
+            "states=arrival" => Some(Setting::States(States::Arrival)),
+            "states=cell" => Some(Setting::States(States::Cell)),
             _ => None,
         }
     }
@@ -132,6 +160,7 @@ impl Setting {
             Setting::Show(_) => Choice::Show,
             Setting::Rule(_) => Choice::Rule,
             Setting::TableFile => Choice::TableFile,
+            Setting::States(_) => Choice::States,
         }
     }
 
@@ -142,15 +171,26 @@ impl Setting {
         allows.iter().any(|family| family.has(self))
     }
 
-    /// Whether it can't stand beside this setting, which makes another choice: first moves take no
-    /// states, which a trace could list or a row could count, and tables serve one engine alone.
+    /// Whether this engine serves it: a trace lists the states that a search took, and a row counts them;
+    /// tables serve one engine alone; how many states a search has of a cell is asked of engines that jump.
+    fn is_served(self, pick: Pick) -> bool
+        ensures { result ≡ is_served self pick }
+    {
+        match self {
+            Setting::Show(Show::Trace) => pick.takes_states(),
+            Setting::Show(Show::Taken) => pick.takes_states(),
+            Setting::TableFile => pick.has_tables(),
+            Setting::States(_) => pick.jumps(),
+            _ => true,
+        }
+    }
+
+    /// Whether it can't stand beside this setting, which is an engine that doesn't serve it.
     fn excludes(self, other: Setting) -> bool
         ensures { result ≡ excludes self other }
     {
-        match (self, other) {
-            (Setting::Engine(Pick::Small(SmallEngine::Moves)), Setting::Show(Show::Trace)) => true,
-            (Setting::Engine(Pick::Small(SmallEngine::Moves)), Setting::Show(Show::Taken)) => true,
-            (Setting::TableFile, Setting::Engine(pick)) => !pick.has_tables(),
+        match other {
+            Setting::Engine(pick) => !self.is_served(pick),
             _ => false,
         }
     }
@@ -183,6 +223,7 @@ fn with_word(settings: Settings, word: &str) -> Settings
         Some(Setting::Show(show)) => Settings { show, ..settings },
         Some(Setting::Rule(rule)) => Settings { rule, ..settings },
         Some(Setting::TableFile) => settings,
+        Some(Setting::States(states)) => Settings { states, ..settings },
         None => settings,
     }
 }
@@ -210,18 +251,33 @@ pub fn table_file(words: &[String]) -> Option<&str>
     None
 }
 
-/// Whether the engine is picked that searches by tables, where a table file of this name is to be loaded.
-pub fn can_load(tables: Option<&str>, settings: Settings) -> bool
-    ensures { result ≡ spec.can_load (option_copied tables.entry) settings }
+/// Whether this engine serves each of the words that is a setting.
+pub fn serves(pick: Pick, words: &[String]) -> bool
+    ensures { result ≡ are_served pick (map string_bytes words.now) }
 {
-    tables.is_none() || settings.pick.has_tables()
+    for word in words {
+        if !serves_at(pick, word.as_str()) {
+            return false;
+        }
+    }
+    true
+}
+
+/// Whether this engine serves the word, where it is a setting.
+fn serves_at(pick: Pick, word: &str) -> bool
+    ensures { result ≡ is_word_served pick (setting_of word.now) }
+{
+    match Setting::spelled(word) {
+        Some(setting) => setting.is_served(pick),
+        None => true,
+    }
 }
 
 /// How many of the words, from the first on, are settings that are allowed and clash with none of
 /// the words before them.
 pub fn settled(allows: &[Family], words: &[String]) -> usize
     ensures count { AreSettled allows.now [] (map string_bytes words.now) result }
-    ensures few { result ≤ 4 }
+    ensures few { result ≤ 5 }
 {
     count_settled(allows, words)
 }

@@ -21,6 +21,7 @@ ghost use Rattle.call_files.specs.declared.kind.Kind.TheVariants as kinds;
 use crate::NoMemory;
 use crate::replies::answerer::Basis;
 use crate::replies::answers::Answers;
+use crate::replies::session::layout_for;
 use call_files::{Extent, MapTables, open_one, read_file, read_tables};
 use edit_replay::Session;
 use io_edge::Files;
@@ -42,7 +43,8 @@ fn session_with(
     ensures { IfOk result (spec.IsSessionOn settings (plain map.now)) }
 {
     let MapTables { land, water } = tables;
-    Session::with_tables(alloc, map, settings.rule, land, water)
+    let layout = layout_for(settings.states);
+    Session::with_tables(alloc, map, settings.rule, layout, land, water)
 }
 
 // The session on the map of the first file, with the tables of the second one.

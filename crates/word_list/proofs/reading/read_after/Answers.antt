@@ -2,9 +2,9 @@ use Rattle.std.proofs.Common.{refl, sym, ap, ◌∙◌, inl, inr}
 use Rattle.std.specs.Option.{option_map}
 use Rattle.std.proofs.lemmas.List.{drop-map, take-map, take_rest, length-map}
 use Rattle.word_list.specs.Request.{row_data}
-use Rattle.word_list.proofs.Calls.{names_first, names_taken, names_setting, asks_same, calls, told_by}
+use Rattle.word_list.proofs.Calls.{names_first, names_taken, names_setting, asks_same, calls, sound_by, told_by}
 use Rattle.word_list.proofs.reading.read_after.Goals.{then-more-rest-via-then-more-rest}
-use Rattle.word_list.proofs.reading.read_after.Goals.{then-more-rest-via-else-more-rest+then-not-can_load}
+use Rattle.word_list.proofs.reading.read_after.Goals.{then-more-rest-via-else-more-rest+then-not-serves}
 use Rattle.word_list.proofs.reading.read_after.Goals as goal
 
 pub returns-in_default-clause-told : goal.returns-in_default-clause-told
@@ -23,9 +23,9 @@ returns-then-more-rest-clause-told c =
     (rw (take_rest, drop-map) refl) c.settled-more.result c.settled-more.ensures.count in
     elim c.then-more-rest.branch [
       | then-more-rest-via-then-more-rest w ↦ named (inl (rw length-map w.if-more-rest.true))
-      | then-more-rest-via-else-more-rest+then-not-can_load w ↦ named
-          (inr (told_by c.table_file-tables.ensures c.chosen-settings.ensures w.can_load.ensures
-          ∙ w.if-not-can_load.true))
+      | then-more-rest-via-else-more-rest+then-not-serves w ↦ named
+          (inr (told_by _ c.chosen-settings.ensures w.serves.ensures
+          ∙ w.if-not-serves.true))
     ]
 
 pub returns-clause-told : goal.returns-clause-told
@@ -33,6 +33,10 @@ returns-clause-told c =
     calls c.args.name.now _ (row_data c.in-Some.row) (sym c.in-Some.ensures.row) c.fitting-taken.result
     c.fitting-taken.ensures.count c.if-taken-row.false _ (rw (take_rest, drop-map) refl) c.settled-more.result
     c.settled-more.ensures.count (rw length-map c.if-more-rest.false)
-    (told_by c.table_file-tables.ensures c.chosen-settings.ensures c.can_load.ensures
-    ∙ c.if-not-can_load.false) _ _ (asks_same (sym (take-map _ c.fitting-taken.result _)) c.table_file-tables.ensures)
+    (told_by _ c.chosen-settings.ensures c.serves.ensures ∙ c.if-not-serves.false) _ _ (asks_same (sym (take-map _ c.fitting-taken.result _)) c.table_file-tables.ensures)
     c.chosen-settings.ensures
+
+pub returns-clause-sound : goal.returns-clause-sound
+returns-clause-sound c =
+    sound_by _ c.table_file-tables.ensures c.chosen-settings.ensures
+    (told_by _ c.chosen-settings.ensures c.serves.ensures ∙ c.if-not-serves.false)
