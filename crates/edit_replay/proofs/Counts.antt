@@ -9,7 +9,8 @@ use Rattle.grid_moves.specs.declared.ends.Unsearched.{Unsearched}
 use Rattle.grid_moves.specs.declared.ends.Unsearched.TheVariants as why
 use Rattle.grid_moves.specs.Grid.{GridData, is_free}
 use Rattle.path_points.specs.declared.points.Walk.{Walk}
-use Rattle.best_first.specs.State.{state_number}
+use Rattle.best_first.specs.declared.state.Layout.{Layout}
+use Rattle.best_first.specs.State.{state_number, arrived_in}
 use Rattle.best_first.specs.Space.{SpaceData}
 use Rattle.plain_search.specs.Answer as plain
 use Rattle.search_core.specs.Answer.{IsFound, IsExhausted}
@@ -24,11 +25,12 @@ numbered : {A : Type 0} (number : A → ℕ) (x : A) (xs : List A)
 numbered number x xs = length-reverse (map number (x ∷ xs)) ∙ length-map (x ∷ xs) number
 
 -- a search that found a walk took a state, the last one
-some_taken : (g : GridData) (s t : Cell) (points : List Cell) (cost : Cost) (taken : List ℕ)
-    → IsFound g s t points cost taken → 0 < length taken
-some_taken g s t points cost taken found =
+some_taken : (l : Layout) (g : GridData) (s t : Cell) (points : List Cell) (cost : Cost) (taken : List ℕ)
+    → IsFound l g s t points cost taken → 0 < length taken
+some_taken l g s t points cost taken found =
     let all : length taken ≡ suc (length found.earlier) =
-    ap length found.numbered ∙ numbered (λ u. state_number g.width u.state) found.last found.earlier in
+    ap length found.numbered ∙ numbered (λ u. state_number g.width (arrived_in l u.parent u.state)) found.last
+    found.earlier in
     omega arith
 
 -- the last one is the goal's
@@ -40,13 +42,13 @@ but_the_last fewest old new (suc n) some rose =
     let less : suc n - 1 ≡ n = omega arith in
     rw less (omega arith)
 
-pub rose_away : (g : GridData) (s t : Cell) (walk : Option Walk) (taken : List ℕ) (fewest old new : ℕ)
-    → MatchOption walk (IsExhausted g s t taken) (λ v. IsFound g s t v.points v.cost taken)
+pub rose_away : (l : Layout) (g : GridData) (s t : Cell) (walk : Option Walk) (taken : List ℕ) (fewest old new : ℕ)
+    → MatchOption walk (IsExhausted l g s t taken) (λ v. IsFound l g s t v.points v.cost taken)
     → MatchOption walk (old + length taken * fewest ≤ new) (λ _. old + length taken * fewest ≤ new + fewest)
     → RoseByStates fewest old new (reply_with walk taken)
-rose_away g s t (Some w) taken fewest old new run rose =
-    but_the_last fewest old new (length taken) (some_taken g s t w.points w.cost taken run) rose
-rose_away g s t None taken fewest old new run rose = rose
+rose_away l g s t (Some w) taken fewest old new run rose =
+    but_the_last fewest old new (length taken) (some_taken l g s t w.points w.cost taken run) rose
+rose_away l g s t None taken fewest old new run rose = rose
 
 -- all states were taken
 pub all_taken : (walk : Option Walk) (taken : List ℕ) → states_taken (reply_with walk taken) ≡ length taken
@@ -54,11 +56,11 @@ all_taken (Some w) taken = refl
 all_taken None taken = refl
 
 -- the reply tells what was found by jumps
-pub found_by_jumps : (g : GridData) (s t : Cell) (walk : Option Walk) (taken : List ℕ)
-    → MatchOption walk (IsExhausted g s t taken) (λ v. IsFound g s t v.points v.cost taken)
-    → IsJumpReply g s t (reply_with walk taken)
-found_by_jumps g s t (Some w) taken run = run
-found_by_jumps g s t None taken run = run
+pub found_by_jumps : (l : Layout) (g : GridData) (s t : Cell) (walk : Option Walk) (taken : List ℕ)
+    → MatchOption walk (IsExhausted l g s t taken) (λ v. IsFound l g s t v.points v.cost taken)
+    → IsJumpReply l g s t (reply_with walk taken)
+found_by_jumps l g s t (Some w) taken run = run
+found_by_jumps l g s t None taken run = run
 
 -- or by the plain engine
 pub found_plainly : (g : GridData) (s t : Cell) (walk : Option Walk) (taken : List ℕ)
@@ -84,7 +86,5 @@ none_away fewest old (why.Apart ends) = omega arith
 -- memory for a grid serves each other one of its sides
 pub has_places : (g h : GridData) (width height : ℕ) (space : SpaceData) → width ≡ g.width → width ≡ h.width
     → height ≡ g.height → height ≡ h.height → HasPlaces g space → HasPlaces h space
-has_places g h width height space wide wide_too high high_too places = record {
-  layout = places.layout;
-  enough = rw (← wide_too, ← high_too, wide, high) places.enough;
-}
+has_places g h width height space wide wide_too high high_too places =
+    record { enough = rw (← wide_too, ← high_too, wide, high) places.enough }

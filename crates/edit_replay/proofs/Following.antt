@@ -110,7 +110,7 @@ edited_by g c of to e f = e ∙ ap (λ (b : Bool). grid_with g c b) (f ∙ told_
 pub places_stay : (g : GridData) {h : GridData} (c : Cell) (b : Bool) {space : SpaceData}
     → h ≡ grid_with g c b → HasPlaces g space → HasPlaces h space
 places_stay g c b {space = space} e p =
-    subst (λ (h : GridData). HasPlaces h space) (sym e) (record { layout = p.layout; enough = p.enough })
+    subst (λ (h : GridData). HasPlaces h space) (sym e) (record { enough = p.enough })
 
 pub no_less : (n : ℕ) → n ≤ n
 no_less n = omega arith

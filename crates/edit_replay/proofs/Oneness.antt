@@ -12,12 +12,13 @@ use Rattle.grid_moves.specs.Layers.{AreLayers, Layers, in_one_layer, is_on_map, 
 use Rattle.grid_moves.specs.Reply.{IsRight, are_free_ends}
 use Rattle.path_points.specs.declared.points.Walk as points
 use Rattle.best_first.specs.declared.found.Found.{Found}
+use Rattle.best_first.specs.declared.state.Layout.{Layout}
 use Rattle.plain_search.specs.Answer as plain
 use Rattle.plain_search.proofs.Answering as plainly
 use Rattle.search_core.specs.Answer as jump
 use Rattle.search_core.proofs.Answering as jumping
 use Rattle.edit_replay.proofs.Grounds.{ends_free, ends_on}
-use Rattle.edit_replay.specs.Kept.{is_plain}
+use Rattle.edit_replay.specs.Kept.{states_of}
 use Rattle.edit_replay.specs.Replies.{answer_of, Finds, Exhausts, IsRunOn}
 use Rattle.edit_replay.specs.Session.{SessionData}
 use Rattle.edit_replay.specs.Oneness.{IsReplyOf}
@@ -81,15 +82,16 @@ module _ (g : GridData) (s t : Cell) where
   plain_runs : AreOne (plain.IsFound g s t) (plain.IsExhausted g s t)
   plain_runs = one_reply_of (plain.IsFound g s t) (plain.IsExhausted g s t) (plainly.one_answer g s t)
 
-  jump_runs : AreOne (jump.IsFound g s t) (jump.IsExhausted g s t)
-  jump_runs = one_reply_of (jump.IsFound g s t) (jump.IsExhausted g s t) (jumping.one_answer g s t)
+  jump_runs : (l : Layout) → AreOne (jump.IsFound l g s t) (jump.IsExhausted l g s t)
+  jump_runs l =
+      one_reply_of (jump.IsFound l g s t) (jump.IsExhausted l g s t) (jumping.one_answer l g s t)
 
-  -- the plain engine's run is one, and so is that of all engines that jump
+  -- the plain engine's run is one, and so is that of all engines that jump with the same states
   runs_are_one : (e : Engine) → AreOne (Finds e g s t) (Exhausts e g s t)
   runs_are_one engine.Plain = plain_runs
-  runs_are_one engine.Jps = jump_runs
-  runs_are_one engine.Plus = jump_runs
-  runs_are_one engine.Block = jump_runs
+  runs_are_one (engine.Jps l) = jump_runs l
+  runs_are_one (engine.Plus l) = jump_runs l
+  runs_are_one (engine.Block l) = jump_runs l
 
 module _ (ls : Layers) (are : AreLayers ls) (s t : Cell) (e : Engine) where
   -- nothing was found by one run or nothing was searched
@@ -136,45 +138,45 @@ module _ (ls : Layers) (are : AreLayers ls) (s t : Cell) (e : Engine) where
   one_reply Blocked Outside p q = absurd (cc (p.right.0, q.right))
   one_reply Blocked Blocked p q = refl
 
--- one engine for all that jump, and the plain one
-like : Bool → Engine
-like true = engine.Plain
-like false = engine.Jps
+-- one engine for all that jump with the same states, and the plain one
+like : Option Layout → Engine
+like option.None = engine.Plain
+like (option.Some l) = engine.Jps l
 
 module _ (g : GridData) (s t : Cell) where
   finds_like : (e : Engine) (ps : List Cell) (c : Cost) (ms : List ℕ) → Finds e g s t ps c ms
-      → Finds (like (is_plain e)) g s t ps c ms
+      → Finds (like (states_of e)) g s t ps c ms
   unfolding like
   finds_like engine.Plain ps c ms is = is
-  finds_like engine.Jps ps c ms is = is
-  finds_like engine.Block ps c ms is = is
-  finds_like engine.Plus ps c ms is = is
+  finds_like (engine.Jps l) ps c ms is = is
+  finds_like (engine.Block l) ps c ms is = is
+  finds_like (engine.Plus l) ps c ms is = is
 
   exhausts_like : (e : Engine) (ms : List ℕ) (b : Bool) → MatchBool b (Exhausts e g s t ms) (ms ≡ [])
-      → MatchBool b (Exhausts (like (is_plain e)) g s t ms) (ms ≡ [])
+      → MatchBool b (Exhausts (like (states_of e)) g s t ms) (ms ≡ [])
   unfolding like
   exhausts_like engine.Plain ms b is = is
-  exhausts_like engine.Jps ms b is = is
-  exhausts_like engine.Block ms b is = is
-  exhausts_like engine.Plus ms b is = is
+  exhausts_like (engine.Jps l) ms b is = is
+  exhausts_like (engine.Block l) ms b is = is
+  exhausts_like (engine.Plus l) ms b is = is
 
   -- the run of an engine is that of each engine that is like it
-  run_like : (e : Engine) (reply : Reply) → IsRunOn e g s t reply → IsRunOn (like (is_plain e)) g s t reply
+  run_like : (e : Engine) (reply : Reply) → IsRunOn e g s t reply → IsRunOn (like (states_of e)) g s t reply
   run_like e (Walk ps c ms) is = finds_like e ps c ms is
   run_like e (None ms) is = exhausts_like e ms (is_free g s && is_free g t) is
   run_like e Outside is = is
   run_like e Blocked is = is
 
--- the replies of two sessions with the same layers, whose engines both jump or are both plain
+-- the replies of two sessions with the same layers, whose engines both jump with the same states or are both plain
 pub one_run_reply : (d e : SessionData) (s t : Cell) (one other : Reply) → d.layers ≡ e.layers
     → AreLayers d.layers
-    → is_plain d.engine ≡ is_plain e.engine → IsReplyOf d s t one → IsReplyOf e s t other → one ≡ other
+    → states_of d.engine ≡ states_of e.engine → IsReplyOf d s t one → IsReplyOf e s t other → one ≡ other
 one_run_reply d e s t one other same are alike p q =
-    one_reply d.layers are s t (like (is_plain d.engine)) one other
+    one_reply d.layers are s t (like (states_of d.engine)) one other
     (record { right = p.right; run = run_like (query_grid d.layers s) s t d.engine one p.run })
     (record {
       right = subst (λ (ls : Layers). IsRight ls s t (answer_of other)) (sym same) q.right;
-      run = subst (λ (ls : Layers). IsRunOn (like (is_plain d.engine)) (query_grid ls s) s t other) (sym same)
-          (subst (λ (b : Bool). IsRunOn (like b) (query_grid e.layers s) s t other) (sym alike)
+      run = subst (λ (ls : Layers). IsRunOn (like (states_of d.engine)) (query_grid ls s) s t other) (sym same)
+          (subst (λ (o : Option Layout). IsRunOn (like o) (query_grid e.layers s) s t other) (sym alike)
           (run_like (query_grid e.layers s) s t e.engine other q.run));
     })

@@ -45,15 +45,15 @@ module _ (ls : Layers) (s t : Cell) where
   searched engine.Plain free one from =
       let a = plainly.has_answer (query_grid ls s) s t from in
       by_answer engine.Plain free one a.answer.walk a.answer.taken a.run a.least
-  searched engine.Jps free one from =
-      let a = jumping.has_answer (query_grid ls s) s t from in
-      by_answer engine.Jps free one a.answer.walk a.answer.taken a.run a.least
-  searched engine.Block free one from =
-      let a = jumping.has_answer (query_grid ls s) s t from in
-      by_answer engine.Block free one a.answer.walk a.answer.taken a.run a.least
-  searched engine.Plus free one from =
-      let a = jumping.has_answer (query_grid ls s) s t from in
-      by_answer engine.Plus free one a.answer.walk a.answer.taken a.run a.least
+  searched (engine.Jps l) free one from =
+      let a = jumping.has_answer l (query_grid ls s) s t from in
+      by_answer (engine.Jps l) free one a.answer.walk a.answer.taken a.run a.least
+  searched (engine.Block l) free one from =
+      let a = jumping.has_answer l (query_grid ls s) s t from in
+      by_answer (engine.Block l) free one a.answer.walk a.answer.taken a.run a.least
+  searched (engine.Plus l) free one from =
+      let a = jumping.has_answer l (query_grid ls s) s t from in
+      by_answer (engine.Plus l) free one a.answer.walk a.answer.taken a.run a.least
 
   module _ (e : Engine) where
     -- by the layers of two free ends

@@ -9,16 +9,16 @@ use Rattle.edit_replay.specs.declared.reply.Reply.TheVariants.{Walk, None, Outsi
 -- the most steps that an engine counts for a state that it takes, where this is told
 abbrev pub most_of : Engine → Option ℕ
 most_of Plain = Some 0
-most_of Jps = Some 0
-most_of Block = option.None
-most_of Plus = Some 40
+most_of (Jps layout) = Some 0
+most_of (Block layout) = option.None
+most_of (Plus layout) = Some 40
 
 -- the fewest steps that it counts for a state that it takes away from the goal
 abbrev pub fewest_of : Engine → ℕ
 fewest_of Plain = 0
-fewest_of Jps = 0
-fewest_of Block = 3
-fewest_of Plus = 1
+fewest_of (Jps layout) = 0
+fewest_of (Block layout) = 3
+fewest_of (Plus layout) = 1
 
 -- how many states the search took
 abbrev pub states_taken : Reply → ℕ

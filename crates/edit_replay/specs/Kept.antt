@@ -1,5 +1,6 @@
 -- What a session keeps for its searches.
-use Rattle.std.specs.Prelude.{⊤, Bool, true, false, if◌then◌else◌}
+use Rattle.std.specs.Prelude.{⊤, Bool, if◌then◌else◌, Option, Some, None, is_none}
+use Rattle.best_first.specs.declared.state.Layout.{Layout}
 use Rattle.grid_moves.specs.Grid.{GridData}
 use Rattle.grid_moves.specs.Layers.{AreLayers, Layers}
 use Rattle.bit_grid.specs.Bits.{AreBitsOf}
@@ -15,23 +16,27 @@ use Rattle.edit_replay.specs.declared.engine.Engine.{Engine}
 use Rattle.edit_replay.specs.declared.engine.Engine.TheVariants.{Plain, Jps, Block, Plus}
 use Rattle.edit_replay.specs.declared.parts.Parts.{Parts}
 
--- the engine that finds its jumps so
-abbrev pub engine_with : Finder → Engine
-engine_with finder.Cells = Jps
-engine_with (finder.Bits bits) = Block
-engine_with (finder.Tables tables) = Plus
+-- the engine that finds its jumps so, with these states
+abbrev pub engine_with : Finder → Layout → Engine
+engine_with finder.Cells layout = Jps layout
+engine_with (finder.Bits bits) layout = Block layout
+engine_with (finder.Tables tables) layout = Plus layout
 
 -- the engine that keeps this
 abbrev pub engine_of : Kept → Engine
 engine_of (kept.Plain places) = Plain
-engine_of (kept.Jumps finder space) = engine_with finder
+engine_of (kept.Jumps finder space) = engine_with finder space.layout
 
--- the engine has one state for each cell
+-- the states that an engine's searches have, where it jumps
+abbrev pub states_of : Engine → Option Layout
+states_of Plain = None
+states_of (Jps layout) = Some layout
+states_of (Block layout) = Some layout
+states_of (Plus layout) = Some layout
+
+-- the engine goes by single moves
 abbrev pub is_plain : Engine → Bool
-is_plain Plain = true
-is_plain Jps = false
-is_plain Block = false
-is_plain Plus = false
+is_plain engine = is_none (states_of engine)
 
 -- two grids as layers
 abbrev pub as_layers : Both GridData → Layers

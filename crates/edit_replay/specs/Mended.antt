@@ -25,6 +25,6 @@ pub record AreMended (before after : Layers) (old new : ℕ) : Type 0 where
 -- the counter rose as an edit makes it, by the engine: only tables have to follow an edit by steps that count
 abbrev pub IsEditCounted : Engine → Layers → Layers → ℕ → ℕ → Type 0
 IsEditCounted Plain before after old new = new ≡ old
-IsEditCounted Jps before after old new = new ≡ old
-IsEditCounted Block before after old new = new ≡ old
-IsEditCounted Plus before after old new = AreMended before after old new
+IsEditCounted (Jps layout) before after old new = new ≡ old
+IsEditCounted (Block layout) before after old new = new ≡ old
+IsEditCounted (Plus layout) before after old new = AreMended before after old new

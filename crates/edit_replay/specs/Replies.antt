@@ -8,12 +8,13 @@ use Rattle.grid_moves.specs.Grid.{GridData, is_free, is_ground}
 use Rattle.grid_moves.specs.Layers.{Layers, ground_at, is_on_map, layers_with, query_grid}
 use Rattle.grid_moves.specs.Reply.{Answer, outside, blocked, none, walk, StandsForLeast}
 use Rattle.grid_moves.specs.Walk.{NoWalk}
+use Rattle.best_first.specs.declared.state.Layout.{Layout}
 use Rattle.plain_search.specs.Answer as plain
 use Rattle.search_core.specs.Answer as jump
 use Rattle.edit_replay.specs.Edited.{Edit, edited}
 use Rattle.edit_replay.specs.Session.{SessionData}
 use Rattle.edit_replay.specs.declared.engine.Engine.{Engine}
-use Rattle.edit_replay.specs.declared.engine.Engine.TheVariants.{Plain}
+use Rattle.edit_replay.specs.declared.engine.Engine.TheVariants.{Plain, Jps, Block, Plus}
 use Rattle.edit_replay.specs.declared.reply.EditReply.{EditReply}
 use Rattle.edit_replay.specs.declared.reply.EditReply.TheVariants as replied
 use Rattle.edit_replay.specs.declared.reply.Reply.{Reply}
@@ -33,23 +34,28 @@ IsShort blocked = ⊤
 IsShort none = ⊤
 IsShort (walk points cost) = cost.a + cost.b < 2 ^ 24
 
--- an engine's run on one grid found this walk: the plain engine's run, or that of all engines that jump
+-- an engine's run on one grid found this walk: the plain engine's run, or that of all engines that jump with
+-- the same states
 abbrev pub Finds : Engine → GridData → Cell → Cell → List Cell → Cost → List ℕ → Type 0
 Finds Plain g s t points cost taken = plain.IsFound g s t points cost taken
-Finds other g s t points cost taken = jump.IsFound g s t points cost taken
+Finds (Jps layout) g s t points cost taken = jump.IsFound layout g s t points cost taken
+Finds (Block layout) g s t points cost taken = jump.IsFound layout g s t points cost taken
+Finds (Plus layout) g s t points cost taken = jump.IsFound layout g s t points cost taken
 
 -- an engine's run on one grid ended without a walk
 abbrev pub Exhausts : Engine → GridData → Cell → Cell → List ℕ → Type 0
 Exhausts Plain g s t taken = plain.IsExhausted g s t taken
-Exhausts other g s t taken = jump.IsExhausted g s t taken
+Exhausts (Jps layout) g s t taken = jump.IsExhausted layout g s t taken
+Exhausts (Block layout) g s t taken = jump.IsExhausted layout g s t taken
+Exhausts (Plus layout) g s t taken = jump.IsExhausted layout g s t taken
 
--- points, cost and taken states are those of the run of all engines that jump, between free cells of this
--- grid
-abbrev pub IsJumpReply : GridData → Cell → Cell → Reply → Type 0
-IsJumpReply g s t (Walk points cost taken) = jump.IsFound g s t points cost taken
-IsJumpReply g s t (None taken) = jump.IsExhausted g s t taken
-IsJumpReply g s t Outside = ⊥
-IsJumpReply g s t Blocked = ⊥
+-- points, cost and taken states are those of the run of all engines that jump with these states, between free
+-- cells of this grid
+abbrev pub IsJumpReply : Layout → GridData → Cell → Cell → Reply → Type 0
+IsJumpReply layout g s t (Walk points cost taken) = jump.IsFound layout g s t points cost taken
+IsJumpReply layout g s t (None taken) = jump.IsExhausted layout g s t taken
+IsJumpReply layout g s t Outside = ⊥
+IsJumpReply layout g s t Blocked = ⊥
 
 -- points, cost and taken states are those of the engine's run on this grid; where an end is not free on it
 -- nothing is searched, and no state is taken

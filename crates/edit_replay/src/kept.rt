@@ -47,16 +47,17 @@ pub(crate) enum Finder {
 pub(crate) enum Kept {
     /// A state for each cell.
     Plain(Workspace),
-    /// A state for each cell and direction.
+    /// The memory of searches by jumps tells which states a cell has.
     Jumps { finder: Finder, space: Space },
 }
 
-/// The memory of an engine that jumps, for maps of the grid's sides.
-pub(crate) fn space_of(alloc: Global, grid: &Grid) -> Result<Space, NoMemory>
-    ensures { IfOk result (HasPlaces grid.now) }
+/// The memory of an engine that jumps, with these states, for maps of the grid's sides.
+pub(crate) fn space_of(alloc: Global, layout: Layout, grid: &Grid) -> Result<Space, NoMemory>
+    ensures layout { IfOk result (λ space. space.layout ≡ layout) }
+    ensures places { IfOk result (HasPlaces grid.now) }
 {
     let cells = grid.height() as usize * grid.width() as usize;
-    Space::new(alloc, Layout::ByArrival, cells)
+    Space::new(alloc, layout, cells)
 }
 
 // The bits of both grids.
@@ -84,13 +85,13 @@ impl Kept {
         ensures engine { IfOk result (λ kept. engine_of kept ≡ engine) }
         ensures serves { IfOk result (Serves grids.now) }
     {
-        let finder = match engine {
+        let (finder, layout) = match engine {
             Engine::Plain => return Ok(Kept::Plain(Workspace::of_grid(alloc, &grids.land)?)),
-            Engine::Jps => Finder::Cells,
-            Engine::Block => Finder::Bits(bits_of(alloc, grids)?),
-            Engine::Plus => Finder::Tables(tables_of(alloc, grids)?),
+            Engine::Jps(layout) => (Finder::Cells, layout),
+            Engine::Block(layout) => (Finder::Bits(bits_of(alloc, grids)?), layout),
+            Engine::Plus(layout) => (Finder::Tables(tables_of(alloc, grids)?), layout),
         };
-        let space = space_of(alloc, &grids.land)?;
+        let space = space_of(alloc, layout, &grids.land)?;
         Ok(Kept::Jumps { finder, space })
     }
 }

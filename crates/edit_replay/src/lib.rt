@@ -12,6 +12,7 @@ mod reply;
 mod search;
 mod session;
 
+pub use best_first::Layout;
 pub use engine::Engine;
 pub use plain_search::Taken;
 pub use reply::{EditReply, Reply};

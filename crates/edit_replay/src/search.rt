@@ -59,10 +59,11 @@ fn search_by_jumps<J: JumpSource, L: Ledger>(
     requires to { is_free _grid.now to ≡ true }
     requires places { HasPlaces _grid.now space.old }
     ensures right { IfOk result (IsRightOn _grid.now from to) }
-    ensures run { IfOk result (IsJumpReply _grid.now from to) }
+    ensures run { IfOk result (IsJumpReply space.old.layout _grid.now from to) }
     ensures most { IfOk result (λ reply. IsWithin (J.most j.now)
         (λ told. states_taken reply * most_for_state told) steps.old steps.new) }
     ensures fewest { IfOk result (RoseByStates (J.fewest j.now) steps.old steps.new) }
+    ensures layout { space.new.layout ≡ space.old.layout }
     ensures places { HasPlaces _grid.now space.new }
 {
     // (by their clauses these are the sides of every grid that the source stands for, which is whole)
@@ -88,9 +89,10 @@ pub(crate) fn jump<L: Ledger>(
     requires finder { IsFinderOn is_water grid.now finder.now }
     requires places { HasPlaces grid.now space.old }
     ensures right { IfOk result (IsRightOn grid.now from to) }
-    ensures run { IfOk result (IsJumpReply grid.now from to) }
-    ensures most { IfOk result (RoseWithin (most_of (engine_with finder.now)) steps.old steps.new) }
-    ensures fewest { IfOk result (RoseByStates (fewest_of (engine_with finder.now)) steps.old steps.new) }
+    ensures run { IfOk result (IsJumpReply space.old.layout grid.now from to) }
+    ensures most { IfOk result (RoseWithin (most_of (engine_with finder.now space.old.layout)) steps.old steps.new) }
+    ensures fewest { IfOk result (RoseByStates (fewest_of (engine_with finder.now space.old.layout)) steps.old steps.new) }
+    ensures layout { space.new.layout ≡ space.old.layout }
     ensures places { HasPlaces grid.now space.new }
 {
     match finder {

@@ -13,7 +13,7 @@ ghost use Rattle.edit_replay.specs.Replies.{answer_of, AddsEdit, EditsSo, IsRunR
 
 use crate::kept::{Both, Finder, Kept, space_of};
 use crate::parts::Parts;
-use crate::{EditReply, Engine, NoMemory, Reply};
+use crate::{EditReply, Engine, Layout, NoMemory, Reply};
 use grid_moves::{Cell, Corner, Grid, Ground, Terrain, cell_at, ends_between, ground_at};
 use map_text::MapText;
 use plus_tables::Tables;
@@ -78,12 +78,13 @@ impl Session {
         Ok(Session { parts })
     }
 
-    /// A session of the engine `plus` on a map's layers, which get this corner rule, with tables that are
-    /// there already: those of its land grid and of its water grid. None are built, and edits mend these.
+    /// A session of the engine `plus`, with these states, on a map's layers, which get this corner rule, with
+    /// tables that are there already: those of its land grid and of its water grid. None are built, and edits mend these.
     pub fn with_tables(
         alloc: Global,
         map: &MapText,
         corner: Corner,
+        layout: Layout,
         land: Tables,
         water: Tables,
     ) -> Result<Session, NoMemory>
@@ -92,12 +93,12 @@ impl Session {
         requires water { AreTablesOf water
             (layer_of Ground.Water corner map.now.width map.now.height map.now.cells) }
         ensures { IfOk result (λ s. s ≡ record {
-          engine = Engine.Plus;
+          engine = Engine.Plus layout;
           layers = spec.layers_of corner map.now.width map.now.height map.now.cells;
         }) }
     {
         let grids = grids_of(alloc, map, corner)?;
-        let space = space_of(alloc, &grids.land)?;
+        let space = space_of(alloc, layout, &grids.land)?;
         let tables = Both { land, water };
         let finder = Finder::Tables(tables);
         let kept = Kept::Jumps { finder, space };

@@ -47,10 +47,7 @@ returns-in-Jumps-Bits-default-clause-serves g c =
     let bits = c.in-Jumps-Bits-default in
     let found = found_by_bits c.args.self.now.grids _ _ _ _ bits.is bits.finder-is c.requires.kept.serves in
     let kept = rw bits.is at c.requires.kept.serves in (
-      record {
-        layout = kept.0.layout;
-        enough = rw (c.set.ensures.height, c.set.ensures.width) kept.0.enough;
-      },
+      record { enough = rw (c.set.ensures.height, c.set.ensures.width) kept.0.enough },
       (
         (rw c.set.ensures.edited
             (c.set-in-Jumps-Bits-default-2.ensures.edited _ found.0 c.requires.inside)),
@@ -86,7 +83,7 @@ returns-in-Jumps-Tables-default-clause-serves g c =
 
 pub returns-in-Jumps-Tables-default-clause-engine : goal.returns-in-Jumps-Tables-default-clause-engine
 returns-in-Jumps-Tables-default-clause-engine g c =
-    let arm = c.in-Jumps-Tables-default in sym (ap engine_of arm.is ∙ ap engine_with arm.finder-is)
+    let arm = c.in-Jumps-Tables-default in sym (ap engine_of arm.is ∙ ap (λ f. engine_with f arm.space.layout) arm.finder-is)
 
 pub returns-in-Jumps-Tables-default-clause-later : goal.returns-in-Jumps-Tables-default-clause-later
 returns-in-Jumps-Tables-default-clause-later g c =
@@ -104,7 +101,7 @@ returns-in-Jumps-Bits-default-clause-water g c =
 
 pub returns-in-Jumps-Bits-default-clause-engine : goal.returns-in-Jumps-Bits-default-clause-engine
 returns-in-Jumps-Bits-default-clause-engine g c =
-    let arm = c.in-Jumps-Bits-default in sym (ap engine_of arm.is ∙ ap engine_with arm.finder-is)
+    let arm = c.in-Jumps-Bits-default in sym (ap engine_of arm.is ∙ ap (λ f. engine_with f arm.space.layout) arm.finder-is)
 
 pub returns-in-Jumps-Bits-default-clause-counted : goal.returns-in-Jumps-Bits-default-clause-counted
 returns-in-Jumps-Bits-default-clause-counted g c =
@@ -112,7 +109,7 @@ returns-in-Jumps-Bits-default-clause-counted g c =
     subst (λ (e : Engine). IsEditCounted e (as_layers c.args.self.now.grids) (record {
       land = c.set.new.self;
       water = c.set-in-Jumps-Bits-default.new.self;
-    }) c.args.steps.now c.args.steps.now) (sym (ap engine_of arm.is ∙ ap engine_with arm.finder-is)) refl
+    }) c.args.steps.now c.args.steps.now) (sym (ap engine_of arm.is ∙ ap (λ f. engine_with f arm.space.layout) arm.finder-is)) refl
 
 pub returns-in-Jumps-Bits-default-clause-later : goal.returns-in-Jumps-Bits-default-clause-later
 returns-in-Jumps-Bits-default-clause-later g c = no_less c.args.steps.now

@@ -20,9 +20,9 @@ use Rattle.edit_replay.proofs.session.Session.edit.Goals as goal
 -- nothing is counted where the layers stay
 uncounted : (engine : Engine) (ls : Layers) (n : ℕ) → IsEditCounted engine ls ls n n
 uncounted Plain ls n = refl
-uncounted Jps ls n = refl
-uncounted Block ls n = refl
-uncounted Plus ls n = record {
+uncounted (Jps l) ls n = refl
+uncounted (Block l) ls n = refl
+uncounted (Plus l) ls n = record {
   land = 0;
   water = 0;
   mends_land = nothing refl refl;
