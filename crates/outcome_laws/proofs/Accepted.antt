@@ -17,6 +17,7 @@ use Rattle.edit_replay.specs.declared.reply.Reply.{Reply}
 use Rattle.word_list.specs.Kinds.{word_at}
 use Rattle.word_list.specs.Settings.{is_for_small_maps}
 use Rattle.word_list.specs.declared.request.Pick.{Pick}
+use Rattle.word_list.specs.declared.request.States.{States}
 use Rattle.word_list.specs.declared.request.Pick.TheVariants.{Session, Small}
 use Rattle.word_list.specs.declared.request.SmallEngine.TheVariants.{Boxes, Moves}
 use Rattle.word_list.specs.declared.request.Settings.{Settings}
@@ -103,15 +104,15 @@ module _ (holds : List ℕ → Held) where
 
 -- whoever answers has a reply
 module _ (ls : Layers) (s t : Cell) where
-  reply_by : (p : Pick)
-      → (reply : Reply) × IsReplyBy (record { layers = ls; by = by_of p }) s t reply
-  reply_by (Session engine) = reply_exists (record { engine = engine_for engine; layers = ls }) s t
-  reply_by (Small Boxes) = boxed_exists ls s t
-  reply_by (Small Moves) = let m = moves_exist (query_grid ls s) in led_exists ls s t m.0 m.1
+  reply_by : (states : States) (p : Pick)
+      → (reply : Reply) × IsReplyBy (record { layers = ls; by = by_of states p }) s t reply
+  reply_by states (Session engine) = reply_exists (record { engine = engine_for states engine; layers = ls }) s t
+  reply_by states (Small Boxes) = boxed_exists ls s t
+  reply_by states (Small Moves) = let m = moves_exist (query_grid ls s) in led_exists ls s t m.0 m.1
 
 who_replies : (set : Settings) (m : Map) (s t : Cell)
     → (reply : Reply) × IsReplyBy (who_on set m) s t reply
-who_replies set m s t = reply_by (layers_on set m) s t set.pick
+who_replies set m s t = reply_by (layers_on set m) s t set.states set.pick
 
 -- a task has an answer, on these texts
 abbrev pub HasAnswer : Task → List (List ℕ) → Type 0

@@ -6,7 +6,6 @@ use Rattle.map_text.specs.Map.{Map}
 use Rattle.map_text.specs.Faults.{map_of}
 use Rattle.scen_text.specs.Faults.{scen_of}
 use Rattle.walk_judge.specs.Walks.{walks_of}
-use Rattle.word_list.specs.declared.request.Pick.{Pick}
 use Rattle.word_list.specs.declared.request.Settings.{Settings}
 use Rattle.word_list.specs.declared.rows.Command.{Command}
 use Rattle.word_list.specs.declared.rows.Command.TheVariants.{Drill, Judge, Scen}
@@ -113,13 +112,13 @@ prints_one {K} {L} {texts} {lines} {same} {status} {code} p q one =
     (subst (λ (m : Map). L m q.printed code) (sym map) q.known) in
     (p.all ∙ ap (λ (text : List ℕ). text ∷ []) e.0 ∙ sym q.all, e.1)
 
--- settings that pick another engine
-abbrev pub picking : Settings → Pick → Settings
-picking set pick = record { pick = pick; show = set.show; rule = set.rule }
+-- settings that pick the engine of others, and how many states of a cell its search has
+abbrev pub picking : Settings → Settings → Settings
+picking set like = record { pick = like.pick; show = set.show; rule = set.rule; states = like.states }
 
-module _ (set : Settings) (pick : Pick) (words : List (List ℕ)) (tables : Option (List ℕ)) where
+module _ (set like : Settings) (words : List (List ℕ)) (tables : Option (List ℕ)) where
   abbrev other : Settings
-  other = picking set pick
+  other = picking set like
 
   pub one_judged : (texts lines same : List (List ℕ)) (status code : ℕ)
       → (task set Judge words tables).IsRight texts lines status

@@ -3,7 +3,6 @@
 use Rattle.std.proofs.Common.{◌≡◌, ◌∙◌, refl, sym, ℕ, false, List, [], ◌∷◌}
 use Rattle.potential_check.specs.Text.{certificate_of, plain}
 use Rattle.word_list.specs.Kinds.{count_at, percent_at, seed_at, side_at, word_at}
-use Rattle.word_list.specs.declared.request.Pick.{Pick}
 use Rattle.word_list.specs.declared.request.Settings.{Settings}
 use Rattle.word_list.specs.declared.rows.Command.{Command}
 use Rattle.word_list.specs.declared.rows.Command.TheVariants as command
@@ -44,10 +43,10 @@ use Rattle.outcome_laws.proofs.Alike.{made_one, on_last, on_map, on_one, on_valu
 use Rattle.outcome_laws.proofs.Alike.{one_line, picking, prints_one, says_one}
 
 abbrev IsOnly : Settings → Command → List (List ℕ) → Option (List ℕ) → Type 0
-IsOnly set command words tables = (pick : Pick) (texts lines same : List (List ℕ)) (status code : ℕ)
-    → way_of (by_of set.pick) ≡ way_of (by_of pick)
+IsOnly set command words tables = (like : Settings) (texts lines same : List (List ℕ)) (status code : ℕ)
+    → way_of (by_of set.states set.pick) ≡ way_of (by_of like.states like.pick)
     → (task set command words tables).IsRight texts lines status
-    → (task (picking set pick) command words tables).IsRight texts same code
+    → (task (picking set like) command words tables).IsRight texts same code
     → (lines ≡ same) × (status ≡ code)
 
 abbrev IsThere : Settings → Command → List (List ℕ) → Option (List ℕ) → Type 0
@@ -62,18 +61,18 @@ IsCalled set command words tables =
 pub answers : (set : Settings) (command : Command) (words : List (List ℕ)) (tables : Option (List ℕ))
     → IsOnly set command words tables × IsThere set command words tables × IsCalled set command words tables
 answers set command.Help words tables = (
-  λ pick texts lines same status code way p q. says_one p q,
+  λ like texts lines same status code way p q. says_one p q,
   λ holds texts p silent. says help_text texts (nothing holds [] texts p),
   refl,
 )
 answers set command.Version words tables = (
-  λ pick texts lines same status code way p q. says_one p q,
+  λ like texts lines same status code way p q. says_one p q,
   λ holds texts p silent. says version_text texts (nothing holds [] texts p),
   refl,
 )
 answers set command.Query words tables = (
-  λ pick texts lines same status code way p q. (
-    on_map p.0 q.0 (λ text m behind read a b. one_line a b (one_line_on set (picking set pick) m refl
+  λ like texts lines same status code way p q. (
+    on_map p.0 q.0 (λ text m behind read a b. one_line a b (one_line_on set (picking set like) m refl
         (are_layers-text set text m read) way set.show (cell_at words 1) (cell_at words 3)
         a.one b.one a.known b.known)),
     p.1 ∙ sym q.1,
@@ -82,9 +81,9 @@ answers set command.Query words tables = (
   refl,
 )
 answers set command.Solve words tables = (
-  λ pick texts lines same status code way p q. (
+  λ like texts lines same status code way p q. (
     on_map p.0 q.0 (λ text m behind read a b. on_last a b (λ second c d. on_value c d (λ commands k l.
-        one_answers_on set (picking set pick) m refl (are_layers-text set text m read) way set.show commands
+        one_answers_on set (picking set like) m refl (are_layers-text set text m read) way set.show commands
         lines same k l))),
     p.1 ∙ sym q.1,
   ),
@@ -92,26 +91,26 @@ answers set command.Solve words tables = (
   refl,
 )
 answers set command.Live words tables = (
-  λ pick texts lines same status code way p q. absurd (p),
+  λ like texts lines same status code way p q. absurd (p),
   λ holds texts p silent. absurd (cc),
   refl,
 )
 answers set command.Scen words tables = (
-  λ pick texts lines same status code way p q.
+  λ like texts lines same status code way p q.
       on_map p q (λ text m behind read a b. on_last a b (λ second c d. on_value c d (λ entries k l.
-      made_one k l (one_rows_on set (picking set pick) m refl (are_layers-text set text m read) way entries
+      made_one k l (one_rows_on set (picking set like) m refl (are_layers-text set text m read) way entries
       k.from l.from k.known l.known)))),
   λ holds texts p silent. scen_has holds set words tables texts p,
   refl,
 )
 answers set command.Judge words tables = (
-  λ pick texts lines same status code way p q.
-      one_judged set pick words tables texts lines same status code p q,
+  λ like texts lines same status code way p q.
+      one_judged set like words tables texts lines same status code p q,
   λ holds texts p silent. judge_has holds set words tables texts p,
   refl,
 )
 answers set command.Prove words tables = (
-  λ pick texts lines same status code way p q.
+  λ like texts lines same status code way p q.
       prints_one p q (λ text m read a b k l. one_proof (layers_on set m) (cell_at words 1)
       (cell_at words 3) a b status code (are_layers-text set text m read) k l),
   λ holds texts p silent.
@@ -120,7 +119,7 @@ answers set command.Prove words tables = (
   refl,
 )
 answers set command.Check words tables = (
-  λ pick texts lines same status code way p q. on_map p q (λ text m behind read a b. on_one a b (λ second k l.
+  λ like texts lines same status code way p q. on_map p q (λ text m behind read a b. on_one a b (λ second k l.
       let v = verdicts.one_checked (layers_on set m) k.0 l.0 k.2.one l.2.one status code
       (ok_same (plain k.0) (plain l.0) (certificate_of second) k.1 l.1) k.2.known l.2.known in
       (one_line k.2 l.2 v.0, v.1))),
@@ -128,7 +127,7 @@ answers set command.Check words tables = (
   refl,
 )
 answers set command.Make words tables = (
-  λ pick texts lines same status code way p q. says_one p q,
+  λ like texts lines same status code way p q. says_one p q,
   λ holds texts p silent.
       says (canonical_text
       (made_map (seed_at words 0) (side_at words 1) (side_at words 2) (percent_at words 3))) texts
@@ -136,8 +135,8 @@ answers set command.Make words tables = (
   refl,
 )
 answers set command.Drill words tables = (
-  λ pick texts lines same status code way p q.
-      made_one p.1 q.1 (one_drill set (picking set pick) (seed_at words 0) p.1.from q.1.from refl p.1.known
+  λ like texts lines same status code way p q.
+      made_one p.1 q.1 (one_drill set (picking set like) (seed_at words 0) p.1.from q.1.from refl p.1.known
       q.1.known),
   λ holds texts p silent. let d = session_on set (made_map (seed_at words 0) 256 256 25) in
       let all = findings_exist d (drill_commands (seed_at words 0)) in (
@@ -156,8 +155,8 @@ answers set command.Drill words tables = (
   refl,
 )
 answers set command.Draw words tables = (
-  λ pick texts lines same status code way p q.
-      prints_one p q (λ text m read a b k l. one_drawing_on set (picking set pick) m refl (are_layers-text
+  λ like texts lines same status code way p q.
+      prints_one p q (λ text m read a b k l. one_drawing_on set (picking set like) m refl (are_layers-text
       set text m read)
       way (cell_at words 1) (cell_at words 3) set.show a b status code k l),
   λ holds texts p silent.
@@ -175,7 +174,7 @@ answers set command.Draw words tables = (
   refl,
 )
 answers set command.Costs words tables = (
-  λ pick texts lines same status code way p q. (
+  λ like texts lines same status code way p q. (
     on_map p.0 q.0 (λ text m behind read a b. costs.one_costs (layers_on set m) (cell_at words 1)
         lines same (are_layers-text set text m read) a.1 b.1),
     p.1 ∙ sym q.1,
@@ -199,7 +198,7 @@ answers set command.Costs words tables = (
   refl,
 )
 answers set command.Tables words tables = (
-  λ pick texts lines same status code way p q.
+  λ like texts lines same status code way p q.
       prints_one p q (λ text m read a b k l. (k.0 ∙ sym l.0, k.1 ∙ sym l.1)),
   λ holds texts p silent.
       prints holds set (alone holds set (word_at words 0) texts p) (λ text m read. (
@@ -213,7 +212,7 @@ answers set command.Tables words tables = (
   refl,
 )
 answers set command.Boxes words tables = (
-  λ pick texts lines same status code way p q. prints_one p q (λ text m read a b k l. (
+  λ like texts lines same status code way p q. prints_one p q (λ text m read a b k l. (
     boxes.one_text (layers_on set m) (cell_at words 1) a b (are_layers-text set text m read) k.0
         l.0,
     k.1 ∙ sym l.1,
@@ -223,7 +222,7 @@ answers set command.Boxes words tables = (
   refl,
 )
 answers set command.Moves words tables = (
-  λ pick texts lines same status code way p q. prints_one p q (λ text m read a b k l. (
+  λ like texts lines same status code way p q. prints_one p q (λ text m read a b k l. (
     runs.one_text (layers_on set m) (cell_at words 1) a b (are_layers-text set text m read) k.0
         l.0,
     k.1 ∙ sym l.1,
@@ -233,7 +232,7 @@ answers set command.Moves words tables = (
   refl,
 )
 answers set command.Lengths words tables = (
-  λ pick texts lines same status code way p q.
+  λ like texts lines same status code way p q.
       on_map p q (λ text m behind read a b. on_one a b (λ second c d. on_value c d (λ entries k l.
       measured.one_scenario (layers_on set m) second entries lines same status code
       (are_layers-text set text m read) k l))),
@@ -241,7 +240,7 @@ answers set command.Lengths words tables = (
   refl,
 )
 answers set command.Problems words tables = (
-  λ pick texts lines same status code way p q.
+  λ like texts lines same status code way p q.
       prints_one p q (λ text m read a b k l. posed.one_scenario (layers_on set m) (word_at words 0)
       (seed_at words 1) (count_at words 2) a b status code k l),
   λ holds texts p silent.

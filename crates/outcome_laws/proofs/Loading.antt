@@ -2,6 +2,7 @@
 use Rattle.std.proofs.Common.{◌≡◌, refl, ap, subst, ℕ, Bool, true, false, List, [], ◌∷◌, length, drop}
 use Rattle.std.specs.Prelude.{Option, Some, None, if◌then◌else◌, option_and_then}
 use Rattle.std.proofs.lemmas.Bool.{and_parts}
+use Rattle.word_list.proofs.Completed as complete
 use Rattle.word_list.specs.Calls.{fits}
 use Rattle.word_list.specs.Kinds.{is_of}
 use Rattle.word_list.specs.Request.{Call, Row, asked_by, row_of}
@@ -37,7 +38,7 @@ by_row words row call true fit is =
     let e : call_with (asked_by row words) (settings_of (drop (length row.takes) words)) ≡ call =
     ap (call_or call) is in
     subst (λ (c : Call). can_load c.request.tables c.settings ≡ true) e
-    (none_missing row.takes row.allows words fit)
+    (complete.loads (drop (length row.takes) words) (none_missing row.takes row.allows words fit))
 
 pub loads : (words : List (List ℕ)) (call : Call) → Spell words call
     → can_load call.request.tables call.settings ≡ true

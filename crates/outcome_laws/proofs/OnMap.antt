@@ -30,7 +30,7 @@ module _ (set other : Settings) (m : Map) (rule : set.rule ≡ other.rule)
   alike_rows_on entries rows others =
       alike_rows (who_on set m) (who_on other m) entries rows others are (layers_alike set other m rule)
 
-  module _ (way : way_of (by_of set.pick) ≡ way_of (by_of other.pick)) where
+  module _ (way : way_of (by_of set.states set.pick) ≡ way_of (by_of other.states other.pick)) where
     pub one_line_on : (show : Show) (s t : Cell) (line same : List ℕ)
         → IsReplyLine (who_on set m) show s t line
         → IsReplyLine (who_on other m) show s t same → line ≡ same

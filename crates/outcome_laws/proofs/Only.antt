@@ -17,6 +17,7 @@ use Rattle.word_list.specs.Settings.{is_for_small_maps}
 use Rattle.word_list.specs.declared.request.Pick.{Pick}
 use Rattle.word_list.specs.declared.request.Pick.TheVariants as pick
 use Rattle.word_list.specs.declared.request.SessionEngine.TheVariants.{Plain, Jps, Block, Plus}
+use Rattle.word_list.specs.declared.request.States.{States}
 use Rattle.word_list.specs.declared.request.SmallEngine.TheVariants.{Boxes, Moves}
 use Rattle.word_list.specs.declared.request.Settings.{Settings}
 use Rattle.word_list.specs.declared.request.Show.{Show}
@@ -30,7 +31,7 @@ use Rattle.call_files.specs.MapFiles.{map_files}
 use Rattle.call_files.specs.declared.kind.Extent.TheVariants as extent
 use Rattle.call_files.specs.declared.kind.Kind.TheVariants as kind
 use Rattle.jps_run.specs.Heard.{AnswerHeard}
-use Rattle.jps_run.specs.Session.{IsSessionOn, by_of}
+use Rattle.jps_run.specs.Session.{IsSessionOn, by_of, layout_for}
 use Rattle.jps_run.specs.Who.{By, by_session, by_boxes, by_moves}
 use Rattle.outcome_laws.specs.Alike.{way_of}
 use Rattle.outcome_laws.proofs.Kept.{are_layers-text}
@@ -186,26 +187,29 @@ is_small (by_session engine) = false
 is_small by_boxes = true
 is_small by_moves = true
 
-small_by : (p : Pick) → is_for_small_maps p ≡ is_small (way_of (by_of p))
+small_by : (states : States) (p : Pick) → is_for_small_maps p ≡ is_small (way_of (by_of states p))
 unfolding is_small
-small_by (pick.Session Plain) = refl
-small_by (pick.Session Jps) = refl
-small_by (pick.Session Block) = refl
-small_by (pick.Session Plus) = refl
-small_by (pick.Small Boxes) = refl
-small_by (pick.Small Moves) = refl
+small_by states (pick.Session Plain) = refl
+small_by states (pick.Session Jps) = refl
+small_by states (pick.Session Block) = refl
+small_by states (pick.Session Plus) = refl
+small_by states (pick.Small Boxes) = refl
+small_by states (pick.Small Moves) = refl
 
-same_small : (p q : Pick) → way_of (by_of p) ≡ way_of (by_of q) → is_for_small_maps p ≡ is_for_small_maps q
-same_small p q way = small_by p ∙ ap is_small way ∙ sym (small_by q)
+same_small : (one other : Settings)
+    → way_of (by_of one.states one.pick) ≡ way_of (by_of other.states other.pick)
+    → is_for_small_maps one.pick ≡ is_for_small_maps other.pick
+same_small one other way = small_by one.states one.pick ∙ ap is_small way ∙ sym (small_by other.states other.pick)
 
 -- those that jump do
-jump_way : (p : Pick) → is_jump p ≡ true → way_of (by_of p) ≡ by_session engine.Jps
-jump_way (pick.Session Jps) e = refl
-jump_way (pick.Session Block) e = refl
-jump_way (pick.Session Plus) e = refl
-jump_way (pick.Session Plain) e = absurd (cc)
-jump_way (pick.Small Boxes) e = absurd (cc)
-jump_way (pick.Small Moves) e = absurd (cc)
+jump_way : (states : States) (p : Pick) → is_jump p ≡ true
+    → way_of (by_of states p) ≡ by_session (engine.Jps (layout_for states))
+jump_way states (pick.Session Jps) e = refl
+jump_way states (pick.Session Block) e = refl
+jump_way states (pick.Session Plus) e = refl
+jump_way states (pick.Session Plain) e = absurd (cc)
+jump_way states (pick.Small Boxes) e = absurd (cc)
+jump_way states (pick.Small Moves) e = absurd (cc)
 
 -- a call that reads the input has no answer by its files alone
 pub live_call : {A : Type 0} (holds : List ℕ → Held) {K : SessionData → Show → Type 0} (c d : Call)
@@ -327,16 +331,16 @@ module _ (holds : List ℕ → Held) (script : List ℕ) (call like : Call) (ali
   -- an answer by the settings of the second call is one by those of the first with its engine
   so_picked : (texts lines : List (List ℕ)) (status : ℕ)
       → IsAnswered as_like texts lines status
-      → IsAnswered (call_with call.request (picking call.settings like.settings.pick)) texts lines status
+      → IsAnswered (call_with call.request (picking call.settings like.settings)) texts lines status
   so_picked texts lines status p = rw (alike.show, alike.rule) p
 
   -- where engines come to answers in one way
-  module _ (way : way_of (by_of call.settings.pick) ≡ way_of (by_of like.settings.pick)) where
+  module _ (way : way_of (by_of call.settings.states call.settings.pick) ≡ way_of (by_of like.settings.states like.settings.pick)) where
     one_way : Same
     unfolding Same IsAnswered
     one_way texts lines same status code p q =
         (answers call.settings call.request.command call.request.words call.request.tables).0
-        like.settings.pick texts lines same status code way p (so_picked texts same code q)
+        like.settings texts lines same status code way p (so_picked texts same code q)
 
     heard_one_way : HeardSame
     unfolding HeardSame
@@ -349,7 +353,7 @@ module _ (holds : List ℕ → Held) (script : List ℕ) (call like : Call) (ali
     files_one_way : files_of call ≡ files_of like
     files_one_way =
         same_files call.settings like.settings alike.rule
-        (same_small call.settings.pick like.settings.pick way) call.request ∙ like_files
+        (same_small call.settings like.settings way) call.request ∙ like_files
 
     one_outcome : (one other : Outcome) → CallComes call holds (Some script) one
         → CallComes like holds (Some script) other
@@ -362,7 +366,7 @@ module _ (holds : List ℕ → Held) (script : List ℕ) (call like : Call) (ali
     one_cost : Same
     unfolding Same IsAnswered
     one_cost texts lines same status code p q =
-        one_cost_answer call.settings like.settings.pick call.request.words call.request.tables
+        one_cost_answer call.settings like.settings call.request.words call.request.tables
         call.request.command texts lines same status code costs p (so_picked texts same code q)
 
     not_live : {A : Type 0} {K : SessionData → Show → Type 0} (c : Call)
@@ -465,10 +469,13 @@ outcomes_one words holds script one other told p q =
 pub jumps_same : (words others : List (List ℕ)) (call like : Call) (holds : List ℕ → Held) (script : List ℕ)
     (one other : Outcome) → AreTold holds (files_of call) → Spell words call → Spell others like
     → DifferInEngine call like → is_jump call.settings.pick ≡ true → is_jump like.settings.pick ≡ true
+    → call.settings.states ≡ like.settings.states
     → IsOutcome words holds (Some script) one → IsOutcome others holds (Some script) other → one ≡ other
-jumps_same words others call like holds script one other told spelled also alike jump jumps p q =
+jumps_same words others call like holds script one other told spelled also alike jump jumps as_many p q =
     one_outcome holds script call like alike told
-    (jump_way call.settings.pick jump ∙ sym (jump_way like.settings.pick jumps)) one other
+    (jump_way call.settings.states call.settings.pick jump
+    ∙ ap (λ (states : States). by_session (engine.Jps (layout_for states))) as_many
+    ∙ sym (jump_way like.settings.states like.settings.pick jumps)) one other
     (call_comes words holds (Some script) call one spelled p)
     (call_comes others holds (Some script) like other also q)
 

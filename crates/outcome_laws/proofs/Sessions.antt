@@ -11,6 +11,7 @@ use Rattle.word_list.specs.Settings.{session_engine}
 use Rattle.word_list.specs.declared.request.Pick.{Pick}
 use Rattle.word_list.specs.declared.request.Pick.TheVariants as pick
 use Rattle.word_list.specs.declared.request.SessionEngine.TheVariants.{Plain, Jps, Block, Plus}
+use Rattle.word_list.specs.declared.request.States.{States}
 use Rattle.word_list.specs.declared.request.SmallEngine.TheVariants.{Boxes, Moves}
 use Rattle.jps_run.specs.Session.{IsSessionOn, by_of, engine_for, who_on}
 use Rattle.jps_run.specs.Who.{By, by_boxes, by_moves, by_session, who_is}
@@ -22,14 +23,15 @@ session_way (by_session engine) = by_session engine
 session_way by_boxes = by_session engine.Plain
 session_way by_moves = by_session engine.Plain
 
-way_by_pick : (p : Pick) → way_of (by_session (engine_for (session_engine p))) ≡ session_way (way_of (by_of p))
+way_by_pick : (states : States) (p : Pick) → way_of (by_session (engine_for states (session_engine p)))
+    ≡ session_way (way_of (by_of states p))
 unfolding session_way
-way_by_pick (pick.Session Plain) = refl
-way_by_pick (pick.Session Jps) = refl
-way_by_pick (pick.Session Block) = refl
-way_by_pick (pick.Session Plus) = refl
-way_by_pick (pick.Small Boxes) = refl
-way_by_pick (pick.Small Moves) = refl
+way_by_pick states (pick.Session Plain) = refl
+way_by_pick states (pick.Session Jps) = refl
+way_by_pick states (pick.Session Block) = refl
+way_by_pick states (pick.Session Plus) = refl
+way_by_pick states (pick.Small Boxes) = refl
+way_by_pick states (pick.Small Moves) = refl
 
 module _ (set other : Settings) (m : Map) (rule : set.rule ≡ other.rule) where
   -- the grids are the same under one corner rule
@@ -37,7 +39,7 @@ module _ (set other : Settings) (m : Map) (rule : set.rule ≡ other.rule) where
   layers_alike = ap (λ (corner : Corner). layers_of corner m.width m.height m.cells) rule
 
   -- and the answers are alike where the ways of the picked engines are
-  pub who_alike : way_of (by_of set.pick) ≡ way_of (by_of other.pick)
+  pub who_alike : way_of (by_of set.states set.pick) ≡ way_of (by_of other.states other.pick)
       → AnswerAlike (who_on set m) (who_on other m)
   who_alike way = record { layers = layers_alike; way = way }
 
@@ -47,12 +49,12 @@ module _ (set other : Settings) (m : Map) (rule : set.rule ≡ other.rule) where
         ap (λ (k : SessionData). k.layers) is ∙ layers_alike
         ∙ sym (ap (λ (k : SessionData). k.layers) also)
 
-    pub sessions_alike : way_of (by_of set.pick) ≡ way_of (by_of other.pick)
+    pub sessions_alike : way_of (by_of set.states set.pick) ≡ way_of (by_of other.states other.pick)
         → AnswerAlike (who_is d) (who_is e)
     sessions_alike way = record {
       layers = sessions_layers;
-      way = ap (λ (k : SessionData). way_of (by_session k.engine)) is ∙ way_by_pick set.pick
-          ∙ ap session_way way ∙ sym (way_by_pick other.pick)
+      way = ap (λ (k : SessionData). way_of (by_session k.engine)) is ∙ way_by_pick set.states set.pick
+          ∙ ap session_way way ∙ sym (way_by_pick other.states other.pick)
           ∙ sym (ap (λ (k : SessionData). way_of (by_session k.engine)) also);
     }
 

@@ -1,14 +1,15 @@
 -- Who answers alike.
 use Rattle.std.specs.Prelude.{◌≡◌, refl, ℕ, List, ◌++◌}
+use Rattle.best_first.specs.declared.state.Layout.{Layout}
 use Rattle.edit_replay.specs.declared.engine.Engine.TheVariants as engine
 use Rattle.jps_run.specs.Who.{By, Who, by_session, by_boxes, by_moves}
 
--- the way in which replies are come to, where all engines that jump have one
+-- the way in which replies are come to, where all engines that jump with as many states of a cell have one
 abbrev pub way_of : By → By
 way_of (by_session engine.Plain) = by_session engine.Plain
-way_of (by_session engine.Jps) = by_session engine.Jps
-way_of (by_session engine.Block) = by_session engine.Jps
-way_of (by_session engine.Plus) = by_session engine.Jps
+way_of (by_session (engine.Jps layout)) = by_session (engine.Jps layout)
+way_of (by_session (engine.Block layout)) = by_session (engine.Jps layout)
+way_of (by_session (engine.Plus layout)) = by_session (engine.Jps layout)
 way_of by_boxes = by_boxes
 way_of by_moves = by_moves
 
@@ -22,8 +23,10 @@ abbrev pub BeginWith : List (List ℕ) → List (List ℕ) → Type 0
 BeginWith all first = (more : List (List ℕ)) × (all ≡ first ++ more)
 
 -- the engines that jump answer alike
-pub jps_like_plus : way_of (by_session engine.Jps) ≡ way_of (by_session engine.Plus)
-jps_like_plus = refl
+pub jps_like_plus : (layout : Layout) → way_of (by_session (engine.Jps layout))
+    ≡ way_of (by_session (engine.Plus layout))
+jps_like_plus layout = refl
 
-pub block_like_plus : way_of (by_session engine.Block) ≡ way_of (by_session engine.Plus)
-block_like_plus = refl
+pub block_like_plus : (layout : Layout) → way_of (by_session (engine.Block layout))
+    ≡ way_of (by_session (engine.Plus layout))
+block_like_plus layout = refl

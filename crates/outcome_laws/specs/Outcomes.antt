@@ -8,7 +8,7 @@ use Rattle.map_text.specs.Map.{Map}
 use Rattle.map_text.specs.Faults.{map_of}
 use Rattle.word_list.specs.Kinds.{word_at}
 use Rattle.word_list.specs.Request.{Asked, Call}
-use Rattle.word_list.specs.Settings.{is_for_small_maps}
+use Rattle.word_list.specs.Settings.{is_for_small_maps, jumps}
 use Rattle.word_list.specs.declared.request.Pick.{Pick}
 use Rattle.word_list.specs.declared.request.Show.{Show}
 use Rattle.word_list.specs.declared.request.Settings.{Settings}
@@ -22,8 +22,6 @@ use Rattle.outcome_laws.specs.Files.{AreTold}
 use Rattle.jps_run.specs.Calls.{files_of, task}
 use Rattle.jps_run.specs.Ending.{HasFailed, HasLines, HasPart}
 use Rattle.jps_run.specs.Outcome.{IsOutcome, Outcome, Spell}
-use Rattle.jps_run.specs.Session.{by_of}
-use Rattle.outcome_laws.specs.Oneness.{is_by_jumps}
 
 -- of each file that the words name it is told what stands under its name
 abbrev pub FilesAreTold : List (List ℕ) → (List ℕ → Held) → Type 0
@@ -39,7 +37,7 @@ OutcomesAreOne = (words : List (List ℕ)) (holds : List ℕ → Held) (script :
 
 -- the engines that jump
 abbrev pub is_jump : Pick → Bool
-is_jump pick = is_by_jumps (by_of pick)
+is_jump pick = jumps pick
 
 -- two commands with their words ask for the same, however numbers are spelled: whatever the settings and the
 -- table file, the same files are read, and the same is right
@@ -54,19 +52,22 @@ pub record AskTheSame (one other : Asked) : Type 0 where
       → (task set other.command other.words tables).IsRight texts lines status
       → (task set one.command one.words tables).IsRight texts lines status
 
--- two calls ask for the same, but that each may pick an engine of its own
+-- two calls ask for the same, but that each may pick an engine of its own, and how many states of a cell its
+-- search has
 pub record DifferInEngine (call other : Call) : Type 0 where
   pub same : AskTheSame call.request other.request
   pub tables : call.request.tables ≡ other.request.tables
   pub show : call.settings.show ≡ other.settings.show
   pub rule : call.settings.rule ≡ other.settings.rule
 
--- Calls that differ in which of the engines `jps`, `block` and `plus` they pick come to the same outcome.
+-- Calls that differ in which of the engines `jps`, `block` and `plus` they pick come to the same outcome, where
+-- their searches have as many states of a cell.
 abbrev pub JumpEnginesPrintTheSame : Type 0
 JumpEnginesPrintTheSame = (words others : List (List ℕ)) (call like : Call) (holds : List ℕ → Held)
     (script : List ℕ) (one other : Outcome) → AreTold holds (files_of call)
     → Spell words call → Spell others like → DifferInEngine call like
     → is_jump call.settings.pick ≡ true → is_jump like.settings.pick ≡ true
+    → call.settings.states ≡ like.settings.states
     → IsOutcome words holds (Some script) one → IsOutcome others holds (Some script) other → one ≡ other
 
 -- a scenario is judged without its counts of taken states, or a drill is asked for
@@ -80,7 +81,7 @@ abbrev pub HoldsSmallMap : Held → Type 0
 HoldsSmallMap held = (text : List ℕ) (m : Map) → held ≡ holding text → map_of text ≡ Ok m
     → takes Small m ≡ true
 
--- Of calls that ask for costs alone this is so for all engines, where these take the same maps, or neither
+-- Of calls that ask for costs alone this is so for all engines, by however many states of a cell, where these take the same maps, or neither
 -- call is refused, or the text for the map, which the first word names, is that of a small one, or of none.
 abbrev pub EnginesPrintTheSameCosts : Type 0
 EnginesPrintTheSameCosts = (words others : List (List ℕ)) (call like : Call) (holds : List ℕ → Held)

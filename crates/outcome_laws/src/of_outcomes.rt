@@ -13,17 +13,17 @@ pub fn outcomes_are_one()
     ensures { OutcomesAreOne }
 {}
 
-/// Two calls that differ in which of the engines `jps`, `block` and `plus` they pick come to the same
-/// outcome, for every command and whatever they show, where the files and the input are told.
+/// Two calls that differ in which of the engines `jps`, `block` and `plus` they pick, and ask for as many
+/// states of a cell, come to the same outcome, for every command and whatever they show, where the files and
+/// the input are told.
 pub fn jump_engines_print_the_same()
     ensures { JumpEnginesPrintTheSame }
 {}
 
 /// Two calls of `scen` that don't show counts of taken states, or two of `drill`, come to the same outcome
-/// whatever engines they pick, where the files and the input are told, and if these engines take the same
-/// maps (`boxes` and
-/// `moves` take small ones alone), or neither call is refused, or the text for the map of `scen` is that of a
-/// small one, or of none.
+/// whatever engines they pick, and however many states of a cell they ask for, where the files and the input
+/// are told, and if these engines take the same maps (`boxes` and `moves` take small ones alone), or neither
+/// call is refused, or the text for the map of `scen` is that of a small one, or of none.
 pub fn engines_print_the_same_costs()
     ensures { EnginesPrintTheSameCosts }
 {}
