@@ -9,7 +9,7 @@ ghost use Rattle.edit_replay.specs.Edited.{edit_at, edited};
 ghost use Rattle.edit_replay.specs.Replies.{answer_of};
 
 use anyhow::Result;
-use edit_replay::{Engine, NoMemory, Reply, Session};
+use edit_replay::{Engine, Layout, NoMemory, Reply, Session};
 use grid_moves::{Corner, Ground};
 use map_text::read_map;
 use std::alloc::Global;
@@ -58,7 +58,7 @@ fn print_reply(rt: &impl Print, reply: &Reply) -> io::Result<()> {
 
 fn main(rt: HostRuntime) -> Result<()> {
     let map = read_map(rt.alloc(), MAP)?;
-    let mut session = Session::new(rt.alloc(), &map, Engine::Block, Corner::Never)?;
+    let mut session = Session::new(rt.alloc(), &map, Engine::Block(Layout::ByCell), Corner::Never)?;
     let reply = reply_with_door::<Brand>(rt.alloc(), &mut session, Blank::new(1))?;
     print_reply(&rt, &reply)?;
     Ok(())

@@ -10,6 +10,7 @@ use Rattle.grid_moves.specs.Reply.{IsRight, are_free_ends}
 use Rattle.edit_replay.proofs.Replying.{has_reply}
 use Rattle.edit_replay.specs.Replies.{answer_of}
 use Rattle.edit_replay.specs.Session.{SessionData}
+use Rattle.best_first.specs.declared.state.Layout.TheVariants.{ByCell}
 use Rattle.edit_replay.specs.declared.engine.Engine.TheVariants.{Block}
 use Rattle.edit_replay.specs.declared.reply.Reply.{Reply}
 use Rattle.edit_replay.specs.declared.reply.Reply.TheVariants as reply
@@ -83,7 +84,7 @@ module _ (ls : Layers) (entry : Entry) where
   to = goal_of entry
 
   abbrev session : SessionData
-  session = record { engine = Block; layers = ls }
+  session = record { engine = Block ByCell; layers = ls }
 
   settled-inside : has_sides ls entry ≡ true → (is_on_map ls from && is_on_map ls to) ≡ true
       → (b : Bool) → are_free_ends ls from to ≡ b → (how : Settled) × IsSettled ls entry how

@@ -8,7 +8,7 @@ ghost use Rattle.scen_maker.specs.Settling as spec;
 
 use crate::NoMemory;
 use call_files::{Extent, OfMap};
-use edit_replay::{Engine, Reply, Session};
+use edit_replay::{Engine, Layout, Reply, Session};
 use grid_moves::{Cell, Ends, Grid, Layers, Unsearched};
 use map_text::MapText;
 use root2_cost::Cost;
@@ -52,7 +52,7 @@ impl OfMap for LeastCosts {
     }
 
     fn of_map(alloc: Global, map: MapText, settings: Settings) -> Result<LeastCosts, NoMemory> {
-        let session = Session::new(alloc, &map, Engine::Block, settings.rule)?;
+        let session = Session::new(alloc, &map, Engine::Block(Layout::ByCell), settings.rule)?;
         let layers = Layers::of_map(alloc, map, settings)?;
         Ok(LeastCosts { session, layers })
     }

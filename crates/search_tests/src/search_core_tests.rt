@@ -6,7 +6,7 @@ use crate::paper::cell;
 use grid_moves::{Cell, Corner, Grid, Terrain};
 use jump_plain::PlainJumps;
 use root2_cost::Cost;
-use search_core::{NoMemory, search};
+use search_core::{Layout, NoMemory, search};
 use std::alloc::Global;
 use std::marker::Brand;
 use std::sync::ledger::{Blank, Ledger};
@@ -17,6 +17,7 @@ use steps::Steps;
 fn is_told<L: Ledger>(
     alloc: Global,
     grid: &Grid,
+    layout: Layout,
     to: Cell,
     walk: Option<(&[Cell], Cost)>,
     states: &[u32],
@@ -31,7 +32,8 @@ fn is_told<L: Ledger>(
         return Ok(false);
     }
     let mut steps = Steps::<L>::new(blank);
-    let found = search(alloc, &PlainJumps { terrain: grid }, from, to, &mut steps)?;
+    let jumps = PlainJumps { terrain: grid };
+    let found = search(alloc, &jumps, layout, from, to, &mut steps)?;
     let same = match &found.walk {
         Some(told) => walk == Some((told.points.as_slice(), told.cost)),
         None => walk.is_none(),
@@ -48,7 +50,19 @@ fn is_answer(
     walk: Option<(&[Cell], Cost)>,
     states: &[u32],
 ) -> Result<bool, NoMemory> {
-    is_told::<Brand>(alloc, grid, to, walk, states, Blank::new(1))
+    is_told::<Brand>(alloc, grid, Layout::ByArrival, to, walk, states, Blank::new(1))
+}
+
+// The same with one state for each cell, where it is told by the number of the arrival that it has when it is
+// taken.
+fn is_answer_by_cell(
+    alloc: Global,
+    grid: &Grid,
+    to: Cell,
+    walk: Option<(&[Cell], Cost)>,
+    states: &[u32],
+) -> Result<bool, NoMemory> {
+    is_told::<Brand>(alloc, grid, Layout::ByCell, to, walk, states, Blank::new(1))
 }
 
 // Round the pillar in the middle. The state that offers the goal first is (2,0), but (0,2) is taken
@@ -78,6 +92,27 @@ fn the_earlier_of_equal_offers_stands(rt: HostRuntime) -> Result<(), Fail> {
     let walk = Some((points.as_slice(), Cost { a: 5, b: 0 }));
     let states = [8, 58, 20, 74, 76, 103];
     assert!(rt; is_answer(rt.alloc(), &grid, cell(2, 3), walk, &states)?);
+    Ok(())
+}
+
+// With one state for each cell the goal keeps the arrival from (2,0), which is taken first: that from (0,2)
+// costs as much, and comes later.
+#[test]
+fn the_first_arrival_of_a_cell_stays(rt: HostRuntime) -> Result<(), Fail> {
+    let grid = Grid::of_cells(rt.alloc(), 3, 3, b"....@....", Corner::Never)?;
+    let points = [cell(0, 0), cell(2, 0), cell(2, 2)];
+    let walk = Some((points.as_slice(), Cost { a: 4, b: 0 }));
+    assert!(rt; is_answer_by_cell(rt.alloc(), &grid, cell(2, 2), walk, &[8, 20, 58, 76])?);
+    Ok(())
+}
+
+// On the map above (2,2) is taken once, come to from (0,2).
+#[test]
+fn a_cell_that_is_come_to_twice_is_taken_once(rt: HostRuntime) -> Result<(), Fail> {
+    let grid = Grid::of_cells(rt.alloc(), 3, 4, b"....@....@@.", Corner::Never)?;
+    let points = [cell(0, 0), cell(0, 2), cell(2, 2), cell(2, 3)];
+    let walk = Some((points.as_slice(), Cost { a: 5, b: 0 }));
+    assert!(rt; is_answer_by_cell(rt.alloc(), &grid, cell(2, 3), walk, &[8, 58, 20, 74, 103])?);
     Ok(())
 }
 

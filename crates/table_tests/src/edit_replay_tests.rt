@@ -2,7 +2,7 @@
 
 ghost use Rattle.std.specs.Prelude.{◌≡◌, ◌<◌};
 
-use edit_replay::{EditReply, Engine, NoMemory, Reply, Session, Taken};
+use edit_replay::{EditReply, Engine, Layout, NoMemory, Reply, Session, Taken};
 use grid_moves::{Corner, Ground, Layers};
 use map_text::{MapText, read_map};
 use plus_tables::Tables;
@@ -89,14 +89,14 @@ fn session_on(
     engine: Engine,
     corner: Corner,
 ) -> Result<Session, NoMemory> {
-    if engine != Engine::Plus {
+    let Engine::Plus(layout) = engine else {
         return Session::new(alloc, map, engine, corner);
-    }
+    };
     let cells = map.cells.as_slice();
     let layers = Layers::of_cells(alloc, map.width, map.height, cells, corner)?;
     let (land, water) = layers.both();
     let (first, second) = (Tables::build(alloc, land)?, Tables::build(alloc, water)?);
-    Session::with_tables(alloc, map, corner, first, second)
+    Session::with_tables(alloc, map, corner, layout, first, second)
 }
 
 // The script's lines on the map of this text.
@@ -124,8 +124,10 @@ fn a_script_is_answered_in_turn(rt: HostRuntime) -> Result<(), Fail> {
     for (corner, by_jumps) in [(Corner::Never, 2), (Corner::One, 3), (Corner::Both, 3)] {
         let engines = [
             (Engine::Plain, 3, 3),
-            (Engine::Jps, by_jumps, 1),
-            (Engine::Plus, by_jumps, 1),
+            (Engine::Jps(Layout::ByArrival), by_jumps, 1),
+            (Engine::Plus(Layout::ByArrival), by_jumps, 1),
+            (Engine::Jps(Layout::ByCell), by_jumps, 1),
+            (Engine::Plus(Layout::ByCell), by_jumps, 1),
         ];
         for (engine, taken, taken_apart) in engines {
             let across = Line::Query((0, 1, 2, 1), (3, 2, 0, taken));
@@ -159,8 +161,10 @@ fn moves_between_blocked_cells(rt: HostRuntime) -> Result<(), Fail> {
         Line::Edit(1, 1, Ground::Land, EditReply::Done),
         Line::Query((0, 0, 2, 2), (3, 0, 2, 3)),
     ];
-    for engine in [Engine::Jps, Engine::Block, Engine::Plus] {
-        check_script(rt.alloc(), &rt, text, engine, Corner::Both, &lines)?;
+    for layout in [Layout::ByArrival, Layout::ByCell] {
+        for engine in [Engine::Jps(layout), Engine::Block(layout), Engine::Plus(layout)] {
+            check_script(rt.alloc(), &rt, text, engine, Corner::Both, &lines)?;
+        }
     }
     Ok(())
 }
