@@ -3,11 +3,11 @@
 
     same_rows.py PROGRAM FOLDER ENGINE ENGINE .. [--walks] [--rule RULE] [--queries N]
 
-For each map of the folder with a scenario beside it (X.map with X.map.scen or X.scen) N of its entries (300), evenly spread,
-are answered by each engine. Without --walks they are judged by `scen`: a row shows the cost of a walk, so
-equal output is equal costs. With --walks they are asked by `solve` with show=trace: each line has the points
-and every state that the search took. Prints a line for each map and ends with status 1 where two engines
-differ, or where the folder has no such pair of files.
+For each map of the folder with a scenario beside it (X.map with X.map.scen or X.scen) N of its entries (300), evenly
+spread, are answered by each engine. Without --walks they are judged by `scen`: a row shows the cost of a walk, so
+equal output is equal costs. With --walks they are asked by `solve` with show=trace: each line has the points and
+every state that the search took. ENGINE+cell is the engine with one state for each cell. Prints a line for each map
+and ends with status 1 where two engines differ, or where the folder has no such pair of files.
 """
 
 import argparse
@@ -34,6 +34,12 @@ def script_of(entries):
     """A query for each entry: its start and its goal are the fields before the listed length."""
     ends = (entry.split()[-5:-1] for entry in entries)
     return "".join(f"query {' '.join(four)}\n" for four in ends)
+
+
+def picked(engine):
+    """The settings that pick an engine: `block`, or `block+cell` for one state for each cell."""
+    name, _, states = engine.partition("+")
+    return [f"engine={name}", *([f"states={states}"] if states else [])]
 
 
 def digest_of(words):
@@ -70,7 +76,7 @@ def main():
             call = [given.program, "solve" if given.walks else "scen", map_file, asked.name]
             shown = ["show=trace"] if given.walks else []
             told = {
-                engine: digest_of([*call, f"engine={engine}", f"rule={given.rule}", *shown])
+                engine: digest_of([*call, *picked(engine), f"rule={given.rule}", *shown])
                 for engine in given.engines
             }
         first = told[given.engines[0]]

@@ -16,7 +16,7 @@ pub struct State {
 /// Which states a cell has.
 #[derive(Clone, Copy, Debug, PartialEq, Eq)]
 pub enum Layout {
-    /// One, the start's; a node's place tells besides in which direction its parent's move leads.
+    /// One, the start's; a node's place tells besides in which direction it lies from its parent.
     ByCell,
     /// Nine: the start's, and one for each direction of arrival.
     ByArrival,
