@@ -87,6 +87,13 @@ def times_of(name):
     return [(path, it.st_ino, it.st_size, it.st_mtime_ns, it.st_ctime_ns) for path, it in told]
 
 
+def into_group(pid):
+    """The words by which Popen puts a new process into the group of this one (0: one of its own) before all else."""
+    if sys.version_info >= (3, 11):
+        return {"process_group": pid}
+    return {"preexec_fn": lambda: os.setpgid(0, pid)}
+
+
 class Group:
     """The compilers as a group of processes, which ends with this one, however that ends."""
 
@@ -97,12 +104,8 @@ class Group:
             stdin=subprocess.PIPE,
             stdout=subprocess.DEVNULL,
             stderr=subprocess.DEVNULL,
-            preexec_fn=os.setpgrp,
+            **into_group(0),
         )
-
-    def enter(self):
-        """Puts a new process into the group, before it is a compiler."""
-        os.setpgid(0, self.shell.pid)
 
     def kill(self):
         """Ends all that runs."""
@@ -217,7 +220,7 @@ class Build:
                 stdin=subprocess.DEVNULL,
                 stdout=subprocess.PIPE,
                 stderr=subprocess.STDOUT,
-                preexec_fn=self.group.enter,
+                **into_group(self.group.shell.pid),
             )
 
     def call(self, name, words, nice, folder):
@@ -265,6 +268,9 @@ class Build:
         went_well = False
         try:
             went_well = self.make(name, jobs, nice)
+        except OSError as error:
+            # (as where a source is taken away while it is read)
+            self.why = self.why or f"{name}: {error}\n".encode()
         finally:
             with self.changed:
                 self.running.pop(name, None)

@@ -158,7 +158,8 @@ build() {
     fi
     if [ ! -d "$out/libs" ]; then first="; the first time this takes 14 to 24 minutes on four processors"; fi
     tell "proving and building the program$first (log: $log)"
-    rm -rf "${top:?}/$looked" "$out"/looked.?????? "$out"/*.tmp-* "$out"/libs/*.tmp-*
+    # (without the program's own sum, so that the program is linked again, whatever became of it)
+    rm -rf "${top:?}/$looked" "$out"/looked.??????* "$out"/*.tmp-* "$out"/libs/*.tmp-* "$out/libs/jps.sum"
     while true; do
         before=$sources status=0
         : >"$log"
@@ -186,7 +187,7 @@ why_not_handed() {
 tell_proved() {
     local kit
     read -r _ _ kit <"$made"
-    echo "proved and built from these sources: $program"
+    echo "proved and built from these sources: $(realpath -- "$program")"
     if [ ! -f "$manifest" ]; then
         echo "there is no program in dist/"
     elif [ "$(told sources)" != "$sources" ]; then
