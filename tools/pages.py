@@ -141,7 +141,7 @@ def map_lines():
     means = table(section("RULES.md", "Map and grids"), "| Byte | The format's meaning | Here |")
     return [
         *((f"line {number}" if number[0].isdigit() else number, fields) for number, fields in form),
-        *((byte.replace("`", ""), f"{here} ({meaning})") for byte, meaning, here in means),
+        *((byte.replace("`", ""), here if meaning == "none" else f"{here} ({meaning})") for byte, meaning, here in means),
     ]
 
 
@@ -168,6 +168,7 @@ def man_page(told, version, name, docs, printed):
     lines = [
         f'.TH {roff(name.upper())} 1 "" "{roff(version)}" "User Commands"',
         ".ad l",
+        ".nh",
         ".SH NAME",
         rf"{roff(name)} \- least walks (shortest paths) on grid maps, each proved to be least",
         ".SH SYNOPSIS",
@@ -196,7 +197,8 @@ def man_page(told, version, name, docs, printed):
         "Words of this page, the field's words for them, and what they mean.",
         *items(glossary()),
         ".SH SEE ALSO",
-        roff(f"{docs}/RULES.md has the rules, {docs}/FORMATS.md each file, line and status; {docs}/../examples has examples."),
+        roff(f"{docs}/RULES.md has the rules, {docs}/FORMATS.md each file, line and status; there are"),
+        roff(f"examples in {pathlib.Path(docs).parent}/examples."),
     ]
     return "\n".join(it for it in lines if it) + "\n"
 
