@@ -7,6 +7,8 @@ built=$out/jps
 made=$out/made
 log=$out/build.log
 manifest=$top/dist/MANIFEST
+# The program that the manifest tells of.
+handed=""
 
 # A status that is none of the program's own: nothing was run.
 not_run=126
@@ -21,8 +23,14 @@ fail() {
     exit "$not_run"
 }
 
-# What dist/MANIFEST says of a word.
-told() { sed -n "s/^$1 //p" "$manifest"; }
+# Reads what dist/MANIFEST says, by its words. Returns whether there is one.
+read_manifest() {
+    local word value
+    declare -gA told=()
+    [ -f "$manifest" ] || return 1
+    while read -r word value; do told[$word]=$value; done <"$manifest"
+    handed=$top/dist/${told[program]-}
+}
 
 sum_of() {
     local sum
@@ -34,9 +42,12 @@ note_made() { echo "$sources $(sum_of "$built") $(rt version)" >"$made.new" && m
 
 # Which source was changed since the lock of `rt ci` was taken.
 newer_than_lock() {
+    local list
+    list=$(mktemp)
+    "$top/tools/sources" "$list" >/dev/null
     CDPATH='' cd -- "$top" || return
-    tools/sources --files |
-        find -files0-from - -maxdepth 0 \( -type f -o -path '*/*/*' \) -cnewer .git/rt-ci.lock -print -quit 2>&1
+    find -files0-from "$list" -maxdepth 0 \( -type f -o -path '*/*/*' \) -cnewer .git/rt-ci.lock -print -quit 2>&1
+    rm -f "$list"
 }
 
 # Whether `rt ci` built the program from the sources as they stand: it leaves no sum, but takes its lock first.
@@ -56,24 +67,24 @@ is_built() {
 # Whether the program in dist/ was made from these sources. If so it has to be whole, and to run here.
 is_handed() {
     local said
-    [ -f "$manifest" ] && [ "$(told sources)" = "$sources" ] || return 1
-    handed=$top/dist/$(told program)
-    [ "$(sum_of "$handed" 2>/dev/null)" = "$(told sha256)" ] ||
-        fail "dist/$(told program) is damaged, as its sum is not that of dist/MANIFEST, and was not run:" \
+    read_manifest && [ "${told[sources]-}" = "$sources" ] || return 1
+    [ "$(sum_of "$handed" 2>/dev/null)" = "${told[sha256]-}" ] ||
+        fail "dist/${told[program]-} is damaged, as its sum is not that of dist/MANIFEST, and was not run:" \
             "'git checkout dist' gets it back, './jps --prove' makes it again"
-    said=$("$handed" --version 2>&1) && [ "$said" = "jps $(told version)" ] ||
-        fail "dist/$(told program) does not run here: it needs glibc $(told glibc) or later and a processor with" \
-            "$(told processor), and said: $(head -n 1 <<<"${said#*: line * }")"
+    said=$("$handed" --version 2>&1) && [ "$said" = "jps ${told[version]-}" ] ||
+        fail "dist/${told[program]} does not run here: it needs glibc ${told[glibc]-} or later and a processor with" \
+            "${told[processor]-}, and said: $(head -n 1 <<<"${said#*: line * }")"
 }
 
-# Keeps what was found, so that the next call need not look. $1 tells when this look began.
+# Keeps what was found, so that the next call need not look. $1 tells when this look began, $1.list what it looked at.
 keep_look() {
+    local of=$made
+    if [ "$program" = "$handed" ]; then of=$manifest; fi
     {
-        printf '%s\0' "${program#"$top"/}"
-        [ "$program" = "$built" ] && printf '%s\0' "${made#"$top"/}" || printf '%s\0' "${manifest#"$top"/}"
-        "$top/tools/sources" --files
-    } >"$1.list" && touch -r "$1" "$1.list" && mv -f "$1.list" "$top/$looked"
-    rm -f "$1"
+        printf '%s\0' "${program#"$top"/}" "${of#"$top"/}"
+        cat "$1.list"
+    } >"$1.kept" && touch -r "$1" "$1.kept" && mv -f "$1.kept" "$top/$looked"
+    rm -f "$1" "$1.list"
 }
 
 # Finds the program that is as the sources stand. Returns whether there is one.
@@ -83,13 +94,13 @@ look() {
         # (What is changed from now on has a later time than that file, if the clock ticks once.)
         sleep 0.02
     fi
-    sources=$("$top/tools/sources") || fail "the sources cannot be read"
+    sources=$("$top/tools/sources" ${began:+"$began.list"}) || fail "the sources cannot be read"
     if is_built; then
         program=$built
     elif is_handed; then
         program=$handed
     else
-        rm -f "$began"
+        if [ "$began" ]; then rm -f "$began" "$began.list"; fi
         return 1
     fi
     if [ "$began" ]; then keep_look "$began" 2>/dev/null || true; fi
@@ -188,16 +199,16 @@ tell_proved() {
     local kit
     read -r _ _ kit <"$made"
     echo "proved and built from these sources: $(realpath -- "$program")"
-    if [ ! -f "$manifest" ]; then
+    if ! read_manifest; then
         echo "there is no program in dist/"
-    elif [ "$(told sources)" != "$sources" ]; then
+    elif [ "${told[sources]-}" != "$sources" ]; then
         echo "the program in dist/ was made from other sources"
-    elif cmp -s "$program" "$top/dist/$(told program)"; then
+    elif cmp -s "$program" "$handed"; then
         echo "the program in dist/ is the same, byte by byte"
-    elif [ "$kit" != "$(told kit)" ]; then
-        echo "the program in dist/ was made with another kit, $(told kit): its bytes were not compared"
+    elif [ "$kit" != "${told[kit]-}" ]; then
+        echo "the program in dist/ was made with another kit, ${told[kit]-}: its bytes were not compared"
     else
-        fail "dist/$(told program) is not the program that was built"
+        fail "dist/${told[program]-} is not the program that was built"
     fi
 }
 
