@@ -11,8 +11,8 @@ With --keep rt proves each crate below the program, and keeps its proofs in the 
 change rt check proves what changed alone. This is for who works on the crates; the program is left to rt run.
 
 With more than two processors, the crate with the longest chain of others behind it comes first: it waits for no lane,
-gives way to none, and gets the processors that are free. The others get one each while all processors are busy, since several jobs of one check take
-more time in all.
+gives way to none, and gets the processors that are free. The others get one each while all processors are busy, since
+several jobs of one check take more time in all.
 """
 import contextlib
 import hashlib

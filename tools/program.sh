@@ -167,7 +167,9 @@ build() {
     if ! mkdir -p "$out" 2>/dev/null || ! : 2>/dev/null >>"$log"; then
         fail "the program cannot be built, as $out cannot be written"
     fi
-    if [ ! -d "$out/libs" ] && [ ! -d "$out/incremental" ]; then first="; the first time this takes 14 to 24 minutes on four processors"; fi
+    if [ ! -d "$out/libs" ] && [ ! -d "$out/incremental" ]; then
+        first="; the first time this takes 14 to 24 minutes on four processors"
+    fi
     tell "proving and building the program$first (log: $log)"
     # (without the program's own sum, so that the program is linked again, whatever became of it)
     rm -rf "${top:?}/$looked" "$out"/looked.??????* "$out"/*.tmp-* "$out"/libs/*.tmp-* "$out/libs/jps.sum"
