@@ -11,8 +11,8 @@ With --keep rt proves each crate below the program, and keeps its proofs in the 
 change rt check proves what changed alone. This is for who works on the crates; the program is left to rt run.
 
 With more than two processors, the crate with the longest chain of others behind it comes first: it waits for no lane,
-gives way to none, and gets the processors that are free. The others get one each while all processors are busy, since several jobs of one check take
-more time in all.
+gives way to none, and gets the processors that are free. The others get one each while all processors are busy, since
+several jobs of one check take more time in all.
 """
 import contextlib
 import hashlib
@@ -38,6 +38,9 @@ MOST_JOBS = 4
 
 # The priorities of the check with the longest chain behind it, and of the others.
 FIRST_NICE, OTHER_NICE = 0, 10
+
+# The status where all went well, but a source was changed while it was read.
+CHANGED = 3
 
 # The system that the program is for.
 TARGET = "x86_64-unknown-linux-gnu"
@@ -75,7 +78,46 @@ def files_of(name):
     for part in ("src", "specs", "proofs"):
         for at, folders, names in os.walk(f"{TOP}/crates/{name}/{part}"):
             folders.sort()
-            yield from (f"{at}/{it}" for it in sorted(names))
+            yield from (f"{at}/{it}" for it in sorted(names) if it.endswith((".rt", ".antt")))
+
+
+def times_of(name):
+    """What changes with each change of a crate's files, whatever time they are given."""
+    told = [(path, os.stat(path)) for path in files_of(name)]
+    return [(path, it.st_ino, it.st_size, it.st_mtime_ns, it.st_ctime_ns) for path, it in told]
+
+
+def into_group(pid):
+    """The words by which Popen puts a new process into the group of this one (0: one of its own) before all else."""
+    if sys.version_info >= (3, 11):
+        return {"process_group": pid}
+    return {"preexec_fn": lambda: os.setpgid(0, pid)}
+
+
+class Group:
+    """The compilers as a group of processes, which ends with this one, however that ends."""
+
+    def __init__(self):
+        # The shell's read ends when this process does, or asks for it; then the shell kills all of the group.
+        self.shell = subprocess.Popen(
+            ["sh", "-c", "read told || kill -s KILL 0"],
+            stdin=subprocess.PIPE,
+            stdout=subprocess.DEVNULL,
+            stderr=subprocess.DEVNULL,
+            **into_group(0),
+        )
+
+    def kill(self):
+        """Ends all that runs."""
+        with contextlib.suppress(ProcessLookupError):
+            os.killpg(self.shell.pid, signal.SIGKILL)
+
+    def leave(self):
+        """Ends the shell, where nothing runs."""
+        with contextlib.suppress(OSError):
+            self.shell.stdin.write(b"done\n")
+            self.shell.stdin.close()
+        self.shell.wait()
 
 
 def guessed_seconds(name):
@@ -106,6 +148,8 @@ class Build:
         self.took, self.wanted, self.began, self.said = {}, 0, time.monotonic(), 0
         self.failed, self.why = None, b""
         self.changed = threading.Condition()
+        self.group, self.starting, self.ends = None, threading.Lock(), False
+        self.is_changed = False
 
     def below(self, name):
         """All crates that a crate stands on, lowest first, without itself."""
@@ -165,18 +209,26 @@ class Build:
         words += ["-o", f"{self.out}/{self.program}", f"{self.out}/{self.program}.o"]
         return [*words, f"{self.kit}/c/libos_c.a", f"{self.kit}/c/liblibc_c.a"]
 
+    def begin(self, words, nice, folder):
+        """Starts a command, unless the build ends: none may start behind the others' end."""
+        with self.starting:
+            if self.ends:
+                return None
+            return subprocess.Popen(
+                ["nice", "-n", str(nice), *words],
+                cwd=folder,
+                stdin=subprocess.DEVNULL,
+                stdout=subprocess.PIPE,
+                stderr=subprocess.STDOUT,
+                **into_group(self.group.shell.pid),
+            )
+
     def call(self, name, words, nice, folder):
         """Runs a command for a crate, and puts what it tells into the log. Returns whether it went well."""
-        with subprocess.Popen(
-            ["nice", "-n", str(nice), *words],
-            cwd=folder,
-            stdin=subprocess.DEVNULL,
-            stdout=subprocess.PIPE,
-            stderr=subprocess.STDOUT,
-            start_new_session=True,
-        ) as ran:
-            with self.changed:
-                self.running[name][1].append(ran.pid)
+        started = self.begin(words, nice, folder)
+        if not started:
+            return False
+        with started as ran:
             told = ran.stdout.read()
             # (not ran.wait(), which tells no times)
             _, status, usage = os.wait4(ran.pid, 0)
@@ -195,12 +247,18 @@ class Build:
         kept = f"{self.out}/libs/{name}.sum"
         if os.path.exists(kept):
             os.remove(kept)
+        times = times_of(name)
+        self.sums.pop(name, None)
         stood = self.sum_of(name)
         folder = f"{TOP}/crates/{name}"
         if not self.call(name, [f"{self.kit}/bin/rattle", "build", *self.words(name, jobs)], nice, folder):
             return False
         if name == self.program and not self.call(name, self.links(), nice, folder):
             return False
+        if times != times_of(name):
+            # What was read is not known: no sum stands for it, here and in the crates above.
+            self.sums[name], self.is_changed = os.urandom(32).hex(), True
+            return True
         with open(kept, "w", encoding="ascii") as file:
             file.write(stood)
         return True
@@ -210,6 +268,9 @@ class Build:
         went_well = False
         try:
             went_well = self.make(name, jobs, nice)
+        except OSError as error:
+            # (as where a source is taken away while it is read)
+            self.why = self.why or f"{name}: {error}\n".encode()
         finally:
             with self.changed:
                 self.running.pop(name, None)
@@ -224,14 +285,14 @@ class Build:
         done = sum(self.seconds[it] for it in self.took if it in self.done)
         pace = sum(self.took[it] for it in self.took if it in self.done) / done if done else 1
         todo = [it for it in self.names if it not in self.done]
-        spent = {it: time.monotonic() - began for it, (_, _, began) in self.running.items()}
+        spent = {it: time.monotonic() - began for it, (_, began) in self.running.items()}
         chain = max((self.chain[it] * pace - spent.get(it, 0) for it in todo), default=0)
         work = sum(self.seconds[it] * pace for it in todo) - sum(spent.values())
         return max(chain, work / self.lanes, 0)
 
     def tell(self):
         """Tells on standard error how far it is: on a terminal over the line before, elsewhere each half a minute."""
-        is_terminal = sys.stderr.isatty()
+        is_terminal = is_on_terminal()
         now = time.monotonic()
         if not is_terminal and now < self.said + 30:
             return
@@ -239,8 +300,7 @@ class Build:
         minutes = round(self.left() / 60)
         left = f"about {minutes} minute{'s' * (minutes != 1)} left" if minutes else "less than a minute left"
         begin, end = ("\r", "  ") if is_terminal else ("", "\n")
-        sys.stderr.write(f"{begin}jps: {len(self.done)} of {len(self.names)} crates proved, {left}{end}")
-        sys.stderr.flush()
+        write(f"{begin}jps: {len(self.done)} of {len(self.names)} crates proved, {left}{end}")
 
     def start(self):
         """Starts what can be started: one crate a lane, and the one with the longest chain behind it at once."""
@@ -256,13 +316,14 @@ class Build:
             share = min(MOST_JOBS, (free + others) // (others + 1))
             jobs = max(2 if is_first else 1, share)
             self.waiting.remove(name)
-            self.running[name] = (jobs, [], time.monotonic())
+            self.running[name] = (jobs, time.monotonic())
             nice = FIRST_NICE if is_first or share > 1 else OTHER_NICE
             threading.Thread(target=self.work, args=(name, jobs, nice), daemon=True).start()
 
     def run(self):
         """Proves all, and builds the program. Returns whether it went well."""
         os.makedirs(f"{self.out}/libs", exist_ok=True)
+        self.group = Group()
         self.done = {it for it in self.names if self.is_kept(it)}
         self.waiting = [it for it in self.waiting if it not in self.done]
         try:
@@ -272,18 +333,31 @@ class Build:
                     self.tell()
                     self.changed.wait(1)
         finally:
-            for pid in [it for _, pids, _ in self.running.values() for it in pids]:
-                with contextlib.suppress(ProcessLookupError):
-                    os.killpg(pid, signal.SIGKILL)
-        with self.changed:
-            while self.running:
-                self.changed.wait(1)
+            with self.starting:
+                self.ends = True
+            if self.running:
+                self.group.kill()
+            with self.changed:
+                while self.running:
+                    self.changed.wait(1)
+            self.group.leave()
         # The log ends with what stopped the build, whatever ended behind it.
         with open(self.log, "ab") as log:
             log.write(self.why)
-        if sys.stderr.isatty():
-            sys.stderr.write("\n")
+        if is_on_terminal():
+            write("\n")
         return not self.failed
+
+
+def is_on_terminal():
+    return sys.stderr is not None and sys.stderr.isatty()
+
+
+def write(text):
+    """Writes to standard error, if it takes it."""
+    with contextlib.suppress(OSError, ValueError, AttributeError):
+        sys.stderr.write(text)
+        sys.stderr.flush()
 
 
 def link_crate(crate, to, with_rlib):
@@ -336,4 +410,5 @@ if __name__ == "__main__":
     KEEPS = sys.argv[4:] == ["--keep"]
     PROGRAM, LOG, LANES = sys.argv[1:4] if KEEPS else sys.argv[1:]
     BUILD = (KeptBuild if KEEPS else Build)(PROGRAM, LOG, int(LANES))
-    sys.exit(0 if BUILD.run() else 1)
+    IS_BUILT = BUILD.run()
+    sys.exit(CHANGED if IS_BUILT and BUILD.is_changed else not IS_BUILT)

@@ -5,9 +5,10 @@
 
 writes them below FOLDER, each at its usual place, for a program that is called NAME and whose docs will stand
 in the folder DOCS. Commands with their words and settings, statuses and faults are the rows of `--help`; the
-words beside those of the field are the table of docs/RULES.md. What those leave open is asked of the program, which refuses words that it
-does not know with status 2: whether a word is a file's name or a number, and which values a setting such as
-`engine=ENGINE` has.
+words beside those of the field, the form of a map with its example, and the codes of faults stand in docs/RULES.md and
+docs/FORMATS.md. What those leave open is asked of the program, which refuses words that it does not know with status 2:
+whether a word is a file's name or a number, and which values a setting such as `engine=ENGINE` has. So is what the
+example prints.
 """
 
 import concurrent.futures
@@ -18,7 +19,8 @@ import sys
 import tempfile
 
 WORDS_REFUSED = 2
-RULES = pathlib.Path(__file__).resolve().parent.parent / "docs/RULES.md"
+DOCS = pathlib.Path(__file__).resolve().parent.parent / "docs"
+EXAMPLE = ["query", "pillar.map", "0", "0", "2", "2"]
 
 
 def alternatives(text):
@@ -62,8 +64,9 @@ class Program:
     def __init__(self, path, nowhere):
         self.path, self.nowhere = path, nowhere
 
-    def says(self, word):
-        return subprocess.run([self.path, word], check=True, capture_output=True, text=True).stdout
+    def says(self, *words, folder=None):
+        ran = subprocess.run([self.path, *words], check=True, capture_output=True, text=True, cwd=folder)
+        return ran.stdout
 
     def accepts(self, *words):
         quiet = {"stdin": subprocess.DEVNULL, "stdout": subprocess.DEVNULL, "stderr": subprocess.DEVNULL}
@@ -110,20 +113,62 @@ def man_row(row, name):
     return rf"\fB{roff(name)} {roff(row.name)}\fR " + re.sub(r"\b([A-Z]+)\b", r"\\fI\1\\fR", roff(words))
 
 
+def section(page, heading):
+    """What stands below a heading of a page of the docs."""
+    return (DOCS / page).read_text().split(f"\n## {heading}\n")[1].split("\n## ")[0]
+
+
+def table(text, head):
+    """The rows of the table with this head in the text, without links."""
+    lines = re.sub(r"\[([^]]*)\]\([^)]*\)", r"\1", text).split("\n")
+    rows = []
+    for line in lines[lines.index(head) + 2 :]:
+        if not line.startswith("|"):
+            break
+        rows.append([it.strip() for it in line.strip("|").split("|")])
+    return rows
+
+
 def glossary():
-    """The rows of the table `Words` of docs/RULES.md: a word, and the field's with what it is."""
-    told = RULES.read_text().split("\n## Words\n")[1].split("\n## ")[0]
-    rows = [[it.strip() for it in line.strip("|").split("|")] for line in told.split("\n") if line.startswith("|")]
-    return [(here.replace("`", ""), f"{field}: {what}") for here, field, what in rows[2:]]
+    """A word of the pages, and the field's with what it is."""
+    rows = table(section("RULES.md", "Words"), "| Here | In the field | What it is |")
+    return [(here.replace("`", ""), f"{field}: {what}") for here, field, what in rows]
 
 
-def man_page(told, version, name, docs):
+def map_lines():
+    """The form of a map: each line's number with its fields, and each byte with what it means."""
+    form = table(section("FORMATS.md", "Map file"), "| Line | Fields |")
+    means = table(section("RULES.md", "Map and grids"), "| Byte | The format's meaning | Here |")
+    return [
+        *((f"line {number}" if number[0].isdigit() else number, fields) for number, fields in form),
+        *((byte.replace("`", ""), here if meaning == "none" else f"{here} ({meaning})") for byte, meaning, here in means),
+    ]
+
+
+def map_file():
+    """The whole map that the docs show."""
+    return re.search(r"^```text\n(type octile\n.*?)^```$", section("FORMATS.md", "Map file"), re.M | re.S)[1]
+
+
+def codes():
+    """The code of each fault of a text, with where it comes."""
+    head = "| Fault | Where |"
+    found = re.findall(r"^## (.*)\n", (DOCS / "FORMATS.md").read_text(), re.M)
+    texts = [(it, section("FORMATS.md", it)) for it in found]
+    return [(code, f"{name}: {where}") for name, text in texts if head in text for code, where in table(text, head)]
+
+
+def man_page(told, version, name, docs, printed):
     def items(pairs):
         return [line for head, body in pairs for line in (".TP", rf"\fB{roff(head)}\fR", roff(body))]
+
+    def as_it_is(text):
+        return [".PP", ".nf", *(roff(it) for it in text.splitlines()), ".fi"]
 
     lines = [
         f'.TH {roff(name.upper())} 1 "" "{roff(version)}" "User Commands"',
         ".ad l",
+        ".nh",
         ".SH NAME",
         rf"{roff(name)} \- least walks (shortest paths) on grid maps, each proved to be least",
         ".SH SYNOPSIS",
@@ -137,11 +182,23 @@ def man_page(told, version, name, docs):
         ".SH DIAGNOSTICS",
         "A fault is told by one line on standard error.",
         *items((it[0], it[1] if len(it) > 1 else "") for it in told.faults),
+        ".PP",
+        "The codes of a text's faults:",
+        *items(codes()),
+        ".SH MAP FILE",
+        *items(map_lines()),
+        ".SH EXAMPLE",
+        roff(f"Let {EXAMPLE[1]} be the file"),
+        *as_it_is(map_file()),
+        ".PP",
+        "Then a least walk round the blocked cell is found so:",
+        *as_it_is(f"$ {name} {' '.join(EXAMPLE)}\n{printed}"),
         ".SH WORDS",
         "Words of this page, the field's words for them, and what they mean.",
         *items(glossary()),
         ".SH SEE ALSO",
-        roff(f"{docs}/RULES.md has the rules, {docs}/FORMATS.md each file, line and status."),
+        roff(f"{docs}/RULES.md has the rules, {docs}/FORMATS.md each file, line and status; there are"),
+        roff(f"examples in {pathlib.Path(docs).parent}/examples."),
     ]
     return "\n".join(it for it in lines if it) + "\n"
 
@@ -270,8 +327,10 @@ def main():
         told = Help(program.says("--help"))
         ask = Answers(program, told)
         version = program.says("--version").strip()
+        (pathlib.Path(nowhere) / EXAMPLE[1]).write_text(map_file())
+        printed = program.says(*EXAMPLE, folder=nowhere)
     for place, text in {
-        f"share/man/man1/{name}.1": man_page(told, version, name, docs),
+        f"share/man/man1/{name}.1": man_page(told, version, name, docs, printed),
         f"share/bash-completion/completions/{name}": bash(told.rows, ask),
         f"share/zsh/site-functions/_{name}": zsh(told.rows, ask),
         f"share/fish/vendor_completions.d/{name}.fish": fish(told.rows, ask),

@@ -1,7 +1,7 @@
 #!/usr/bin/env python3
 """Changes each byte of certificates of small maps, and judges what `jps check` accepts.
 
-    python3 bench/certificates/change_each_byte.py crates/jps/out/jps [MAPS [SEED]]
+    python3 bench/certificates/change_each_byte.py $(./jps --program) [MAPS [SEED]]
 
 For each of MAPS random maps, `jps prove` writes a certificate between two cells. Each of its bytes is
 replaced in turn by other bytes and left out, and `jps check` judges the text. Where it accepts, the

@@ -1,0 +1,268 @@
+# Which program ./jps runs, and how it is proved and built. Read by ./jps and tools/ship, with `top`, the checkout's
+# folder, and `looked`, where a look is kept.
+# shellcheck shell=bash
+out=$top/crates/jps/out
+built=$out/jps
+# Beside the program: the sum of its sources, its own sum, and the kit's line.
+made=$out/made
+log=$out/build.log
+manifest=$top/dist/MANIFEST
+# The program that the manifest tells of.
+handed=""
+
+# A status that is none of the program's own: nothing was run.
+not_run=126
+# The status of tools/build.py where a source was changed while it was proved.
+changed_meanwhile=3
+
+# Tells a line, if standard error takes it.
+tell() { echo "jps: $*" >&2 || true; }
+
+fail() {
+    tell "$@"
+    exit "$not_run"
+}
+
+# Reads what dist/MANIFEST says, by its words. Returns whether there is one.
+read_manifest() {
+    local word value
+    declare -gA told=()
+    [ -f "$manifest" ] || return 1
+    while read -r word value; do told[$word]=$value; done <"$manifest"
+    handed=$top/dist/${told[program]-}
+}
+
+sum_of() {
+    local sum
+    sum=$(sha256sum <"$1")
+    echo "${sum%% *}"
+}
+
+note_made() { echo "$sources $(sum_of "$built") $(rt version)" >"$made.new" && mv -f "$made.new" "$made"; }
+
+# Which source was changed since the lock of `rt ci` was taken.
+newer_than_lock() {
+    local list
+    list=$(mktemp)
+    "$top/tools/sources" "$list" >/dev/null
+    CDPATH='' cd -- "$top" || return
+    find -files0-from "$list" -maxdepth 0 \( -type f -o -path '*/*/*' \) -cnewer .git/rt-ci.lock -print -quit 2>&1
+    rm -f "$list"
+}
+
+# Whether `rt ci` built the program from the sources as they stand: it leaves no sum, but takes its lock first.
+is_of_gate() {
+    [ -f "$top/.git/rt-ci.lock" ] && [ "$built" -nt "$top/.git/rt-ci.lock" ] &&
+        [ ! -e "$made" ] && [ ! -e "$log" ] && [ -z "$(newer_than_lock)" ]
+}
+
+# Whether the program was proved and built here from the sources whose sum is $sources.
+is_built() {
+    local of sum
+    [ -x "$built" ] || return 1
+    if is_of_gate && command -v rt >/dev/null; then note_made || return 1; fi
+    read -r of sum _ 2>/dev/null <"$made" && [ "$of" = "$sources" ] && [ "$sum" = "$(sum_of "$built")" ]
+}
+
+# Whether the program in dist/ was made from these sources. If so it has to be whole, and to run here.
+is_handed() {
+    local said
+    read_manifest && [ "${told[sources]-}" = "$sources" ] || return 1
+    [ "$(sum_of "$handed" 2>/dev/null)" = "${told[sha256]-}" ] ||
+        fail "dist/${told[program]-} is damaged, as its sum is not that of dist/MANIFEST, and was not run:" \
+            "'git checkout dist' gets it back, './jps --prove' makes it again"
+    said=$("$handed" --version 2>&1) && [ "$said" = "jps ${told[version]-}" ] ||
+        fail "dist/${told[program]} does not run here: it needs glibc ${told[glibc]-} or later and a processor with" \
+            "${told[processor]-}, and said: $(head -n 1 <<<"${said#*: line * }")"
+}
+
+# Keeps what was found, so that the next call need not look. $1 tells when this look began, $1.list what it looked at.
+keep_look() {
+    local of=$made
+    if [ "$program" = "$handed" ]; then of=$manifest; fi
+    {
+        printf '%s\0' "${program#"$top"/}" "${of#"$top"/}"
+        cat "$1.list"
+    } >"$1.kept" && touch -r "$1" "$1.kept" && mv -f "$1.kept" "$top/$looked"
+    rm -f "$1" "$1.list"
+}
+
+# Finds the program that is as the sources stand. Returns whether there is one.
+look() {
+    local began=''
+    if mkdir -p "$out" 2>/dev/null && began=$(mktemp "$out/looked.XXXXXX" 2>/dev/null); then
+        # (What is changed from now on has a later time than that file, if the clock ticks once.)
+        sleep 0.02
+    fi
+    sources=$("$top/tools/sources" ${began:+"$began.list"}) || fail "the sources cannot be read"
+    if is_built; then
+        program=$built
+    elif is_handed; then
+        program=$handed
+    else
+        if [ "$began" ]; then rm -f "$began" "$began.list"; fi
+        return 1
+    fi
+    if [ "$began" ]; then keep_look "$began" 2>/dev/null || true; fi
+}
+
+# How many checks run side by side: one for each processor, where memory is free for them.
+at_once() {
+    awk -v most="$(nproc)" '/^MemAvailable:/ { fit = int($2 / 2500000) - 1; if (fit < 1) fit = 1 }
+        END { if (fit > 8) fit = 8; print fit < most ? fit : most }' /proc/meminfo
+}
+
+# Ends the build that this command waits for, and then the command, by a signal.
+end_by() {
+    trap '' INT TERM HUP
+    kill "$builder" 2>/dev/null || true
+    wait "$builder" || true
+    trap - "$1" EXIT
+    kill "-$1" $$
+}
+
+# Runs a command in the background and waits for it, so that a signal to this command ends both.
+await() {
+    local it status=0
+    "$@" &
+    builder=$!
+    for it in INT TERM HUP; do
+        # shellcheck disable=SC2064
+        trap "end_by $it" "$it"
+    done
+    wait "$builder" || status=$?
+    trap - INT TERM HUP
+    return "$status"
+}
+
+# Proves what is left and builds the program. Where rt keeps a developer's work beside the crate, rt does it, which
+# proves what changed alone, and leaves of the rest what it needs for the next change; else tools/build.py, which
+# keeps no proofs, and is quicker from nothing. Either ends with this command, also where that is killed.
+prove_and_make() {
+    local bound=()
+    if setpriv --pdeathsig TERM true 2>/dev/null; then bound=(setpriv --pdeathsig TERM); fi
+    if [ -d "$out/incremental" ]; then
+        await env -C "$top/crates/jps" "${bound[@]}" rt run -- --version >>"$log" 2>&1
+    else
+        await "${bound[@]}" "$top/tools/build.py" jps "$log" "$(at_once)"
+    fi
+}
+
+# Keeps other calls from building at the same time: the second one waits. (Not crates/jps itself, which rt locks.)
+take_lock() {
+    local status=0
+    exec 9<"$top/crates/jps/src"
+    flock -n -E 75 9 2>/dev/null || status=$?
+    if [ "$status" = 75 ]; then
+        tell "another call is proving and building the program, and this one waits for it"
+        await flock 9
+    fi
+}
+
+# Proves and builds the program from the sources as they stand at the end of it.
+build() {
+    local before status first=""
+    command -v rt >/dev/null || fail "the toolchain's command rt is not on the PATH$(why_not_handed)" \
+        "(README.md, 'The two commands', says what to do without it)"
+    if ! mkdir -p "$out" 2>/dev/null || ! : 2>/dev/null >>"$log"; then
+        fail "the program cannot be built, as $out cannot be written"
+    fi
+    if [ ! -d "$out/libs" ] && [ ! -d "$out/incremental" ]; then
+        first="; the first time this takes 14 to 24 minutes on four processors"
+    fi
+    tell "proving and building the program$first (log: $log)"
+    # (without the program's own sum, so that the program is linked again, whatever became of it)
+    rm -rf "${top:?}/$looked" "$out"/looked.??????* "$out"/*.tmp-* "$out"/libs/*.tmp-* "$out/libs/jps.sum"
+    while true; do
+        before=$sources status=0
+        : >"$log"
+        prove_and_make || status=$?
+        sources=$("$top/tools/sources") || fail "the sources cannot be read"
+        if [ "$status,$before" = "0,$sources" ]; then break; fi
+        if [ "$status" != 0 ] && [ "$status" != "$changed_meanwhile" ]; then tell_log; fi
+        tell "a source was changed meanwhile, so what it changes is proved again"
+    done
+    note_made || fail "$made cannot be written"
+}
+
+tell_log() {
+    tell "not built; the end of the log says why:"
+    tail -n 20 "$log" >&2 || true
+    exit "$not_run"
+}
+
+# Why the program in dist/ does not serve, where there is one.
+why_not_handed() {
+    if [ -f "$manifest" ]; then echo ", and the program in dist/ was made from other sources"; fi
+}
+
+# Says what became of `./jps --prove`, also whether the program in dist/ is the same.
+tell_proved() {
+    local kit
+    read -r _ _ kit <"$made"
+    echo "proved and built from these sources: $(realpath -- "$program")"
+    if ! read_manifest; then
+        echo "there is no program in dist/"
+    elif [ "${told[sources]-}" != "$sources" ]; then
+        echo "the program in dist/ was made from other sources"
+    elif cmp -s "$program" "$handed"; then
+        echo "the program in dist/ is the same, byte by byte"
+    elif [ "$kit" != "${told[kit]-}" ]; then
+        echo "the program in dist/ was made with another kit, ${told[kit]-}: its bytes were not compared"
+    else
+        fail "dist/${told[program]-} is not the program that was built"
+    fi
+}
+
+# `./jps --prove`
+prove_here() {
+    take_lock
+    sources=$("$top/tools/sources") || fail "the sources cannot be read"
+    if ! is_built; then build; fi
+    program=$built
+    tell_proved
+    trap - EXIT
+    exit 0
+}
+
+answer_from() {
+    trap - EXIT
+    exec "$top/tools/text-of" "$1"
+}
+
+# Finds the program, or builds it.
+find_program() {
+    if [ "$(uname -sm)" = "Linux x86_64" ] && look; then return; fi
+    # Before the first build these two answer from the program's source; the gate compares that with the program.
+    case $#,${1-} in
+        1,--help) answer_from help_text ;;
+        1,--version) answer_from version_text ;;
+    esac
+    [ "$(uname -sm)" = "Linux x86_64" ] ||
+        fail "the program in dist/ and Rattle's kit need Linux on x86-64, and this is $(uname -sm)"
+    take_lock
+    if ! look; then
+        build
+        look || fail "a source was changed while the program was built"
+    fi
+    exec 9<&-
+}
+
+# What `./jps` does where the last look does not hold.
+main() {
+    local is_silent=""
+    trap 'exit "$not_run"' EXIT
+    if [ -d /proc/self/fd ] && [ ! -e /proc/self/fd/2 ]; then
+        is_silent=yes
+        exec 2>/dev/null
+    fi
+    if [ "$#,${1-}" = 1,--prove ]; then prove_here; fi
+    find_program "$@"
+    trap - EXIT
+    if [ "$#,${1-}" = 1,--program ]; then
+        realpath -- "$program"
+        exit 0
+    fi
+    if [ "$is_silent" ]; then exec 2>&-; fi
+    exec "$program" "$@"
+}
