@@ -8,7 +8,7 @@
 WORK: the program, the maps, pieces of at most N entries' lines (1000), and `list`, one line for each piece,
 its map and its name. Each piece is a scenario of its own. `./piece` answers one, in WORK, and leaves
 rows/NAME there, whose last line is jps's status. What has no partner, a map or a scenario, is told on standard
-error and left out. Names with a tab or an end of line are refused, as `list` is cut there.
+error and left out. Names with a tab or an end of line, and names that are no UTF-8, are refused.
 
 `join` writes joined/X.rows, the bytes that `jps scen` would print for the whole scenario, and prints the sum
 of each and of all. Its status is that of the whole: the one that a single process would end with, the first
@@ -57,6 +57,8 @@ def pairs_in(folder):
     for map_file, _ in pairs:
         if re.search(r"[\t\r\n]", map_file.name):
             sys.exit(f"{map_file.name!r}: a name with a tab or an end of line can't be listed")
+        if re.search(r"[\udc80-\udcff]", map_file.name):
+            sys.exit(f"{map_file.name!r}: a name that is no UTF-8 is no word for jps")
     return pairs
 
 
@@ -159,7 +161,7 @@ def positive(word):
 
 
 def main():
-    # names need not be UTF-8
+    # names of folders need not be UTF-8
     for stream in (sys.stdout, sys.stderr):
         stream.reconfigure(errors="surrogateescape")
     words = argparse.ArgumentParser(description=__doc__, formatter_class=argparse.RawDescriptionHelpFormatter)
