@@ -7,7 +7,8 @@
 `cut` takes each X.map of FOLDER that has a scenario beside it, X.map.scen or X.scen, and makes the folder
 WORK: the program, the maps, pieces of at most N entries' lines (1000), and `list`, one line for each piece,
 its map and its name. Each piece is a scenario of its own. `./piece` answers one, in WORK, and leaves
-rows/NAME there, whose last line is jps's status.
+rows/NAME there, whose last line is jps's status. What has no partner, a map or a scenario, is told on standard
+error and left out. Names with a tab or an end of line, and names that are no UTF-8, are refused.
 
 `join` writes joined/X.rows, the bytes that `jps scen` would print for the whole scenario, and prints the sum
 of each and of all. Its status is that of the whole: the one that a single process would end with, the first
@@ -40,13 +41,41 @@ def pieces_of(text, size):
     return [head + b"".join(lines[k : k + size]) for k in range(0, max(len(lines), 1), size)]
 
 
-def cut(given):
-    pairs = [(it, scenario_of(it)) for it in sorted(given.folder.glob("*.map"))]
+def pairs_in(folder):
+    """The maps with a scenario beside them; what has no partner is told."""
+    pairs = [(it, scenario_of(it)) for it in sorted(folder.glob("*.map"))]
+    used = {scenario for _, scenario in pairs}
+    for map_file, scenario in pairs:
+        if not scenario:
+            print(f"{map_file}: left out, as no scenario is beside it", file=sys.stderr)
+    for scenario in sorted(folder.glob("*.scen")):
+        if scenario not in used:
+            print(f"{scenario}: left out, as no map is beside it", file=sys.stderr)
     pairs = [pair for pair in pairs if pair[1]]
     if not pairs:
-        sys.exit(f"{given.folder}: no map with a scenario beside it")
+        sys.exit(f"{folder}: no map with a scenario beside it")
+    for map_file, _ in pairs:
+        if re.search(r"[\t\r\n]", map_file.name):
+            sys.exit(f"{map_file.name!r}: a name with a tab or an end of line can't be listed")
+        if re.search(r"[\udc80-\udcff]", map_file.name):
+            sys.exit(f"{map_file.name!r}: a name that is no UTF-8 is no word for jps")
+    return pairs
+
+
+def cut(given):
+    pairs = pairs_in(given.folder)
     # made beside WORK and renamed in the end, so that WORK is whole where it is there
     made = pathlib.Path(tempfile.mkdtemp(prefix=f"{given.work.name}.", dir=given.work.resolve().parent))
+    try:
+        fill(made, pairs, given)
+        os.rename(made, given.work)
+    except BaseException:
+        shutil.rmtree(made, ignore_errors=True)
+        raise
+
+
+def fill(made, pairs, given):
+    """Makes what WORK has to have."""
     for name in ("maps", "pieces", "rows"):
         (made / name).mkdir()
     shutil.copy(given.program, made / "jps")
@@ -60,9 +89,8 @@ def cut(given):
             name = f"{map_file.stem}.{number:05}"
             (made / "pieces" / name).write_bytes(piece)
             listed.append(f"{map_file.stem}\t{name}\n")
-    (made / "list").write_text("".join(listed))
+    (made / "list").write_bytes(os.fsencode("".join(listed)))
     made.chmod(0o755)
-    os.rename(made, given.work)
 
 
 def fault_of_whole(fault, number, size):
@@ -102,7 +130,7 @@ def join(given):
     size = int((given.work / "size").read_text())
     (given.work / "joined").mkdir(exist_ok=True)
     names, lacking, statuses, totals = {}, [], [], []
-    for line in (given.work / "list").read_text().splitlines():
+    for line in os.fsdecode((given.work / "list").read_bytes()).split("\n")[:-1]:
         stem, name = line.split("\t")
         names.setdefault(stem, []).append(given.work / "rows" / name)
     for stem, files in names.items():
@@ -125,11 +153,21 @@ def join(given):
     sys.exit(next((it for it in statuses if it > 1), max(statuses)))
 
 
+def positive(word):
+    value = int(word)
+    if value < 1:
+        raise argparse.ArgumentTypeError("a piece has one entry at least")
+    return value
+
+
 def main():
+    # names of folders need not be UTF-8
+    for stream in (sys.stdout, sys.stderr):
+        stream.reconfigure(errors="surrogateescape")
     words = argparse.ArgumentParser(description=__doc__, formatter_class=argparse.RawDescriptionHelpFormatter)
     verbs = words.add_subparsers(required=True)
     cutting, joining = verbs.add_parser("cut"), verbs.add_parser("join")
-    cutting.add_argument("--size", type=int, default=1000)
+    cutting.add_argument("--size", type=positive, default=1000)
     cutting.add_argument("program", type=pathlib.Path)
     cutting.add_argument("folder", type=pathlib.Path)
     for verb in (cutting, joining):

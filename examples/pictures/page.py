@@ -14,7 +14,7 @@ import sys
 ENGINES = ["plain", "jps", "block", "plus"]
 
 # The colours of `jps draw`, and those in which the page shows them, so that the walk and the states stand out
-# from each ground (docs/FORMATS.md, "Other colours").
+# from each ground (README.md, "Other colours").
 COLOURS = {"#5c8a57": "#b9d3b3", "#f2b84b": "#a85400", "#d1352b": "#3d0000"}
 KEYS = [
     ("#f4f1e8", "land"),
