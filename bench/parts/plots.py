@@ -1,0 +1,167 @@
+"""Pictures of the results as SVG, written with the standard library alone."""
+
+import html
+import math
+
+import inputs
+import numbers_of as told
+
+# Colours that people who see few colours tell apart (Okabe and Ito).
+COLOURS = {"plain": "#0072B2", "jps": "#E69F00", "block": "#009E73", "plus": "#CC79A7"}
+INK, PALE = "#333", "#ddd"
+
+
+def colour_of(row):
+    return COLOURS[row["engine"]]
+
+
+class Panel:
+    """A box with axes, each of them plain or logarithmic; values are put in as they are."""
+
+    def __init__(self, left, top, width, height, across, down, log=(False, True)):
+        self.box = (left, top, width, height)
+        self.across, self.down, self.log = across, down, log
+        self.parts = [f'<rect x="{left}" y="{top}" width="{width}" height="{height}" fill="none" stroke="{INK}"/>']
+
+    def place(self, value, axis):
+        low, high = (self.across, self.down)[axis]
+        if self.log[axis]:
+            value, low, high = math.log10(value), math.log10(low), math.log10(high)
+        share = (value - low) / (high - low or 1)
+        left, top, width, height = self.box
+        return round(left + share * width if axis == 0 else top + height - share * height, 1)
+
+    def line_across(self, value, label):
+        left, _, width, _ = self.box
+        y = self.place(value, 1)
+        self.parts.append(f'<path d="M{left} {y}h{width}" stroke="{PALE}"/>')
+        self.text(left - 5, y + 4, label, "end")
+
+    def line_down(self, value, label):
+        _, top, _, height = self.box
+        x = self.place(value, 0)
+        self.parts.append(f'<path d="M{x} {top}v{height}" stroke="{PALE}"/>')
+        self.text(x, top + height + 15, label, "middle")
+
+    def text(self, x, y, words, anchor="start"):
+        self.parts.append(f'<text x="{x}" y="{y}" text-anchor="{anchor}">{html.escape(words)}</text>')
+
+    def dot(self, across, down, colour, size=4, hollow=False):
+        x, y = self.place(across, 0), self.place(down, 1)
+        fill = "none" if hollow else colour
+        self.parts.append(f'<circle cx="{x}" cy="{y}" r="{size}" fill="{fill}" stroke="{colour}"/>')
+
+    def curve(self, points, colour, dashed=False):
+        places = " ".join(f"{self.place(x, 0)},{self.place(y, 1)}" for x, y in points)
+        dash = ' stroke-dasharray="5 3"' if dashed else ""
+        self.parts.append(f'<polyline points="{places}" fill="none" stroke="{colour}" stroke-width="1.5"{dash}/>')
+
+
+def powers(low, high):
+    """The powers of ten from the first at or below one number to the first at or above another."""
+    first, last = math.floor(math.log10(low)), math.ceil(math.log10(high))
+    return [10.0**power for power in range(first, max(last, first + 1) + 1)]
+
+
+def svg(width, height, parts):
+    head = f'<svg xmlns="http://www.w3.org/2000/svg" viewBox="0 0 {width} {height}" width="{width}" height="{height}"'
+    return f'{head} font-family="sans-serif" font-size="12" fill="{INK}">\n<rect width="100%" height="100%" fill="white"/>\n' + "\n".join(parts) + "\n</svg>\n"
+
+
+def legend(panel, rows, x, y, marks="dot"):
+    """The engines beside each other, each with its mark."""
+    for engine, states in dict.fromkeys((row["engine"], row["states"]) for row in rows):
+        colour, is_cell = COLOURS[engine], states == "cell"
+        if marks == "dot":
+            fill = "none" if is_cell else colour
+            panel.parts.append(f'<circle cx="{x}" cy="{y - 4}" r="4" fill="{fill}" stroke="{colour}"/>')
+        else:
+            dash = ' stroke-dasharray="5 3"' if is_cell else ""
+            panel.parts.append(f'<path d="M{x - 8} {y - 4}h16" stroke="{colour}" stroke-width="1.5"{dash}/>')
+        words = f"{engine}, a state a cell" if is_cell else engine
+        panel.text(x + 12, y, words)
+        x += 32 + 7 * len(words)
+
+
+def times_picture(results):
+    """Time by engine and map: a row for each map, a dot for each engine."""
+    rows = [row for row in results["queries"] if row["program"] == "jps"]
+    names = list(dict.fromkeys(row["map"] for row in rows))
+    values = [told.median(row["per_query"]) for row in rows]
+    ticks = powers(min(values), max(values))
+    height = 34 * len(names)
+    panel = Panel(300, 40, 480, height, (ticks[0], ticks[-1]), (0, len(names)), (True, False))
+    for tick in ticks:
+        panel.line_down(tick, told.seconds(tick))
+    for place, name in enumerate(names):
+        panel.line_across(len(names) - place - 0.5, inputs.TOLD.get(name, name))
+        for row in rows:
+            if row["map"] == name:
+                panel.dot(told.median(row["per_query"]), len(names) - place - 0.5, colour_of(row), 5, row["states"] == "cell")
+    legend(panel, rows, 40, 22)
+    return svg(810, height + 75, panel.parts)
+
+
+def growth_picture(results):
+    """Time by side of the map, a line for each engine."""
+    rows = results["growth"]
+    sides = sorted({inputs.GROWTH[row["map"]] for row in rows})
+    values = [told.median(row["per_query"]) for row in rows]
+    ticks = powers(min(values), max(values))
+    panel = Panel(70, 40, 560, 320, (sides[0] * 0.9, sides[-1] * 1.1), (ticks[0], ticks[-1]), (True, True))
+    for tick in ticks:
+        panel.line_across(tick, told.seconds(tick))
+    for side in sides:
+        panel.line_down(side, f"{side} x {side}")
+    for engine, states in dict.fromkeys((row["engine"], row["states"]) for row in rows):
+        own = [row for row in rows if (row["engine"], row["states"]) == (engine, states)]
+        points = sorted((inputs.GROWTH[row["map"]], told.median(row["per_query"])) for row in own)
+        panel.curve(points, COLOURS[engine], states == "cell")
+        for point in points:
+            panel.dot(*point, COLOURS[engine], 3, states == "cell")
+    legend(panel, rows, 30, 22, "line")
+    return svg(810, 390, panel.parts)
+
+
+def taken_picture(results):
+    """Taken states against length: a box for each map, a dot for each entry and engine."""
+    rows = results["taken"]
+    names = list(dict.fromkeys(row["map"] for row in rows))
+    parts = []
+    columns = 3
+    for place, name in enumerate(names):
+        own = [row for row in rows if row["map"] == name]
+        points = [point for row in own for point in row["points"] if point[1] > 0]
+        if not points:
+            continue
+        ticks = powers(1, max(count for _, count in points))
+        longest = max(length for length, _ in points)
+        left, top = 55 + place % columns * 265, 60 + place // columns * 215
+        panel = Panel(left, top, 200, 140, (0, longest or 1), (1, ticks[-1]))
+        for tick in ticks:
+            panel.line_across(tick, f"{tick:,.0f}")
+        for share in (0, 0.5, 1):
+            panel.line_down(longest * share, f"{longest * share:,.0f}")
+        panel.text(left, top - 6, inputs.TOLD.get(name, name)[:38])
+        for row in own:
+            for length, count in row["points"]:
+                if count > 0:
+                    panel.dot(length, count, colour_of(row), 1.5, row["states"] == "cell")
+        parts += panel.parts
+    key = Panel(0, 0, 0, 0, (0, 1), (0, 1), (False, False))
+    key.parts = []
+    legend(key, rows, 20, 24)
+    return svg(830, 60 + 215 * -(-len(names) // columns), [*key.parts, *parts])
+
+
+PICTURES = {"queries": ("times.svg", times_picture), "growth": ("growth.svg", growth_picture), "taken": ("taken.svg", taken_picture)}
+
+
+def write_pictures(results, folder):
+    """Draws what the results have; the names of the files."""
+    written = {}
+    for part, (name, draw) in PICTURES.items():
+        if results.get(part):
+            (folder / name).write_text(draw(results))
+            written[part] = name
+    return written
