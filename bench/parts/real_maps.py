@@ -3,6 +3,7 @@
 import gzip
 import pathlib
 import re
+import shutil
 import struct
 import subprocess
 import zipfile
@@ -163,5 +164,9 @@ MAKERS = {"campus": campus, "windfury": windfury, "underworld": underworld, "con
 
 
 def real_map(name, folder):
-    """The rows of a map; its packages are fetched into the folder."""
-    return MAKERS[name](*(unpacked(package, folder) for package in PACKAGES[name]))
+    """The rows of a map; its packages are fetched into the folder, and taken away again, as they are large."""
+    roots = [unpacked(package, folder) for package in PACKAGES[name]]
+    rows = MAKERS[name](*roots)
+    for root in roots:
+        shutil.rmtree(root)
+    return rows

@@ -621,26 +621,28 @@ struct FourHeap {
         all[place] = item;
     }
     INLINE void lower(u32 node, u32 state, double sum) { add(node, state, sum); }
-    // The first of the children from `child` on; four are compared without a branch.
-    INLINE size_t first_child(size_t child) const {
-        const Item *all = items.data();
-        if (LIKELY(child + 3 < count)) {
-            size_t one = child + before(all[child + 1], all[child]), two = child + 2 + before(all[child + 3], all[child + 2]);
-            return one ^ ((one ^ two) & -size_t(before(all[two], all[one])));
-        }
+    // The first of the four children from `child` on, without a branch.
+    static INLINE size_t first_of_four(const Item *all, size_t child) {
+        size_t one = child + before(all[child + 1], all[child]), two = child + 2 + before(all[child + 3], all[child + 2]);
+        return one ^ ((one ^ two) & -size_t(before(all[two], all[one])));
+    }
+    // The first of the children from `child` on, where `end` items are left.
+    static INLINE size_t first_of_few(const Item *all, size_t child, size_t end) {
         size_t best = child;
-        for (size_t other = child + 1; other < count; other++)
+        for (size_t other = child + 1; other < end; other++)
             if (before(all[other], all[best])) best = other;
         return best;
     }
     INLINE u32 pop() {
         if (!count) return NIL;
-        Item *all = items.data(), top = all[0], last = all[--count];
+        const size_t end = --count;
+        Item *all = items.data(), top = all[0], last = all[end];
         size_t place = 0;
         for (;;) {
             size_t child = place * 4 + 1;
-            if (child >= count) break;
-            child = first_child(child);
+            if (LIKELY(child + 3 < end)) child = first_of_four(all, child);
+            else if (child < end) child = first_of_few(all, child, end);
+            else break;
             if (!before(all[child], last)) break;
             all[place] = all[child];
             place = child;
@@ -723,9 +725,14 @@ struct Answer {
 
 INLINE u32 state_number(u32 cell, u32 arrival) { return cell << 4 | arrival; }
 
+// Handed on as a value, so that it need not be read again after each write to a node.
+struct Goal {
+    int x, y;
+};
+
 // The sum of a cost and the estimate from (x, y) to the goal.
-INLINE double sum_of(int x, int y, u32 straight, u32 diagonal, int goal_x, int goal_y) {
-    u32 columns = u32(std::abs(goal_x - x)), rows = u32(std::abs(goal_y - y));
+INLINE double sum_of(int x, int y, u32 straight, u32 diagonal, Goal goal) {
+    u32 columns = u32(std::abs(goal.x - x)), rows = u32(std::abs(goal.y - y));
     u32 less = std::min(columns, rows), more = std::max(columns, rows);
     u32 first = straight + more - less, second = diagonal + less;
     if (UNLIKELY((first > MOST) | (second > MOST))) fail("a sum beyond the exact range");
@@ -740,19 +747,22 @@ template <class Open, bool CELL> struct JumpSearch {
         u32 parent, next;                                    // `next` has the same cell and another arrival
         u16 x, y;
         u8 arrival, taken;
+        u16 room;                                            // named, so that a node is written as a whole
     };
     static_assert(sizeof(Node) == 32, "two nodes for each line of the cache");
 
-    int width, height, goal_x = 0, goal_y = 0;
+    const u32 width;
     Zeroed<u32> index;                                       // of each cell its newest node, counted from `base`
     u32 base = 1, used = 0;
     std::vector<Node> nodes;
     Open open;
 
-    JumpSearch(int columns, int rows) : width(columns), height(rows), nodes(4096) { index.take(size_t(width) * size_t(height)); }
+    JumpSearch(int columns, int rows) : width(u32(columns)), nodes(4096) { index.take(size_t(columns) * size_t(rows)); }
 
-    template <class Jumps> void run(const Jumps &jumps, int start_x, int start_y, int to_x, int to_y, Answer &answer, bool trace) {
-        begin(start_x, start_y, to_x, to_y);
+    template <class Jumps> void run(const Jumps &jumps, int start_x, int start_y, const Goal goal, Answer &answer, bool trace) {
+        begin();
+        index.at[u32(start_y) * width + u32(start_x)] = base;
+        put(start_x, start_y, START, 0, 0, NIL, NIL, goal);
         for (u32 number; (number = open.pop()) != NIL;) {
             Node &node = nodes[number];
             if (node.taken) continue;
@@ -764,21 +774,22 @@ template <class Open, bool CELL> struct JumpSearch {
             answer.taken++;
             const int x = node.x, y = node.y;
             const u32 straight = node.straight, diagonal = node.diagonal;
-            if (trace) answer.order.push_back(state_number(u32(y) * u32(width) + u32(x), node.arrival));
-            if (UNLIKELY(x == goal_x && y == goal_y)) return finish(number, answer);
+            if (UNLIKELY(trace)) answer.order.push_back(state_number(u32(y) * width + u32(x), node.arrival));
+            if (UNLIKELY(x == goal.x && y == goal.y)) return finish(number, answer);
             for (u32 left = ALLOWED[around(jumps.grid, x, y)][node.arrival]; left; left &= left - 1) {
                 int d = __builtin_ctz(left);
-                int moves = jumps.stop(x, y, d, goal_x, goal_y);
+                int moves = jumps.stop(x, y, d, goal.x, goal.y);
                 if (!moves) continue;
                 u32 more = u32(moves);
-                offer(x + DX[d] * moves, y + DY[d] * moves, d, d & 1 ? straight : straight + more, d & 1 ? diagonal + more : diagonal, number);
+                offer(x + DX[d] * moves, y + DY[d] * moves, d, d & 1 ? straight : straight + more,
+                      d & 1 ? diagonal + more : diagonal, number, goal);
             }
         }
     }
 
 private:
     // Numbers from `base` on are this search's, so the index is cleared only where `base` runs out.
-    void begin(int start_x, int start_y, int to_x, int to_y) {
+    void begin() {
         base += used;
         if (UNLIKELY(base > 0xE0000000u)) {
             memset(index.at, 0, index.bytes);
@@ -786,27 +797,23 @@ private:
         }
         used = 0;
         open.clear();
-        goal_x = to_x;
-        goal_y = to_y;
-        index.at[u32(start_y) * u32(width) + u32(start_x)] = base;
-        put(start_x, start_y, START, 0, 0, NIL, NIL);
     }
-    INLINE void put(int x, int y, int arrival, u32 straight, u32 diagonal, u32 parent, u32 next) {
+    INLINE void put(int x, int y, int arrival, u32 straight, u32 diagonal, u32 parent, u32 next, Goal goal) {
         if (UNLIKELY(used == nodes.size())) nodes.resize(nodes.size() * 2);
-        double sum = sum_of(x, y, straight, diagonal, goal_x, goal_y);
-        nodes[used] = Node{sum, straight, diagonal, parent, next, u16(x), u16(y), u8(arrival), 0};
-        open.add(used, state_number(u32(y) * u32(width) + u32(x), u32(arrival)), sum);
-        used++;
+        const double sum = sum_of(x, y, straight, diagonal, goal);
+        const u32 number = used++;
+        nodes[number] = Node{sum, straight, diagonal, parent, next, u16(x), u16(y), u8(arrival), 0, 0};
+        open.add(number, state_number(u32(y) * width + u32(x), u32(arrival)), sum);
     }
-    INLINE void offer(int x, int y, int arrival, u32 straight, u32 diagonal, u32 parent) {
-        u32 cell = u32(y) * u32(width) + u32(x);
+    INLINE void offer(int x, int y, int arrival, u32 straight, u32 diagonal, u32 parent, Goal goal) {
+        u32 cell = u32(y) * width + u32(x);
         u32 &newest = index.at[cell];
         u32 head = newest >= base ? newest - base : NIL;
         for (u32 number = head; number != NIL; number = nodes[number].next) {
             Node &node = nodes[number];
             if (!CELL && node.arrival != arrival) continue;
             if (node.taken) return;
-            double sum = sum_of(x, y, straight, diagonal, goal_x, goal_y);
+            double sum = sum_of(x, y, straight, diagonal, goal);
             if (sum < node.sum) {
                 node.sum = sum;
                 node.straight = straight;
@@ -818,7 +825,7 @@ private:
             return;
         }
         newest = base + used;
-        put(x, y, arrival, straight, diagonal, parent, head);
+        put(x, y, arrival, straight, diagonal, parent, head, goal);
     }
     void finish(u32 number, Answer &answer) {
         answer.found = true;
@@ -835,9 +842,10 @@ struct PlainSearch {
         u32 search;                                          // which search knows the cell
         u32 straight, diagonal;
         u8 arrival, taken;
+        u16 room;                                            // named, so that a node is written as a whole
     };
     const Grid &grid;
-    int width, goal_x = 0, goal_y = 0;
+    const int width;
     int ahead[8];                                            // how far on the next cell of a direction is numbered
     u32 search = 0;
     Zeroed<Node> nodes;
@@ -847,40 +855,38 @@ struct PlainSearch {
         nodes.take(size_t(width) * size_t(grid.height));
         for (int d = 0; d < 8; d++) ahead[d] = DY[d] * width + DX[d];
     }
-    void run(int start_x, int start_y, int to_x, int to_y, Answer &answer, bool trace) {
-        search++;
+    void run(int start_x, int start_y, const Goal goal, Answer &answer, bool trace) {
+        const u32 now = ++search;
         open.clear();
-        goal_x = to_x;
-        goal_y = to_y;
-        u32 start = u32(start_y) * u32(width) + u32(start_x), goal = u32(goal_y) * u32(width) + u32(goal_x);
-        nodes.at[start] = Node{search, 0, 0, START, 0};
-        open.add(start, state_number(start, START), sum_of(start_x, start_y, 0, 0, goal_x, goal_y));
+        const u32 start = u32(start_y) * u32(width) + u32(start_x), last = u32(goal.y) * u32(width) + u32(goal.x);
+        nodes.at[start] = Node{now, 0, 0, START, 0, 0};
+        open.add(start, start, sum_of(start_x, start_y, 0, 0, goal));
         for (u32 cell; (cell = open.pop()) != NIL;) {
             Node &node = nodes.at[cell];
             if (node.taken) continue;
             node.taken = 1;
             answer.taken++;
-            if (trace) answer.order.push_back(state_number(cell, START));
-            if (UNLIKELY(cell == goal)) return finish(cell, answer);
+            if (UNLIKELY(trace)) answer.order.push_back(state_number(cell, START));
+            if (UNLIKELY(cell == last)) return finish(cell, answer);
             const int x = int(cell % u32(width)), y = int(cell / u32(width));
             const u32 straight = node.straight, diagonal = node.diagonal;
             for (u32 left = LEGAL[around(grid, x, y)]; left; left &= left - 1) {
                 int d = __builtin_ctz(left);
-                offer(x + DX[d], y + DY[d], u32(int(cell) + ahead[d]), d, straight + !(d & 1), diagonal + (d & 1));
+                offer(x + DX[d], y + DY[d], u32(int(cell) + ahead[d]), d, straight + !(d & 1), diagonal + (d & 1), now, goal);
             }
         }
     }
 
 private:
-    INLINE void offer(int x, int y, u32 cell, int arrival, u32 straight, u32 diagonal) {
+    static INLINE double value_of(u32 straight, u32 diagonal) { return double(straight) + double(diagonal) * SQRT2; }
+    INLINE void offer(int x, int y, u32 cell, int arrival, u32 straight, u32 diagonal, u32 now, Goal goal) {
         Node &node = nodes.at[cell];
-        if (node.search == search) {
+        if (node.search == now) {
             if (node.taken) return;
-            double known = double(node.straight) + double(node.diagonal) * SQRT2;
-            if (!(double(straight) + double(diagonal) * SQRT2 < known)) return;
+            if (!(value_of(straight, diagonal) < value_of(node.straight, node.diagonal))) return;
         }
-        node = Node{search, straight, diagonal, u8(arrival), 0};
-        open.add(cell, state_number(cell, START), sum_of(x, y, straight, diagonal, goal_x, goal_y));
+        node = Node{now, straight, diagonal, u8(arrival), 0, 0};
+        open.add(cell, cell, sum_of(x, y, straight, diagonal, goal));
     }
     // The ends of the walk and its turns.
     void finish(u32 cell, Answer &answer) {
@@ -917,7 +923,7 @@ struct PlainLayer : Layer {
     PlainSearch search;
     PlainLayer(const Map &map, Ground layer) : grid(map, layer), search(grid) {}
     void query(int start_x, int start_y, int goal_x, int goal_y, Answer &answer, bool trace) override {
-        search.run(start_x, start_y, goal_x, goal_y, answer, trace);
+        search.run(start_x, start_y, Goal{goal_x, goal_y}, answer, trace);
     }
 };
 
@@ -927,7 +933,7 @@ template <class Jumps, class Open, bool CELL> struct JumpLayer : Layer {
     JumpSearch<Open, CELL> search;
     JumpLayer(const Map &map, Ground layer) : grid(map, layer), jumps(grid), search(map.width, map.height) {}
     void query(int start_x, int start_y, int goal_x, int goal_y, Answer &answer, bool trace) override {
-        search.run(jumps, start_x, start_y, goal_x, goal_y, answer, trace);
+        search.run(jumps, start_x, start_y, Goal{goal_x, goal_y}, answer, trace);
     }
 };
 
