@@ -241,6 +241,9 @@ PROCESS_WORDS = {
     "costs": "`costs`: all least costs from a corner of an open map of {side} x {side}",
     "tables": "`tables` of that map",
     "problems": "`problems`: 1000 on the city",
+    "judge": "`judge`: 300 walks of the city",
+    "boxes": "all goal boxes of 128 x 128, a quarter blocked",
+    "moves": "all first moves of that map",
 }
 
 

@@ -25,7 +25,7 @@ MADE = {
     "caves1024": ("caves", lambda: made_maps.caves(1024, 1024, 12), 300),
 }
 REAL = {
-    "campus": ("campus measured by a robot (mrpt, Malaga)", 300),
+    "campus": ("campus measured by a robot (mrpt, Malaga)", 150),
     "windfury": ("game map, cliffs and water (warzone2100, WindFury)", 300),
     "underworld": ("game map, each cell as 4 x 4 (flare, underworld)", 300),
     "continent": ("game world of 900 maps (crossfire)", 300),

@@ -20,6 +20,9 @@ import programs
 # The least seconds that a call with all entries should search, so that it stands above the start of the process.
 LEAST_SECONDS = 0.3
 
+# Commands that take seconds are called in the first turns only.
+SLOW, SLOW_TURNS = ("boxes", "moves"), 3
+
 # The most instructions of one counted call, by about: valgrind takes a hundred times as long as the processor.
 COUNTED_SECONDS = 0.06
 FEWEST_COUNTED, MOST_COUNTED = 3, 60
@@ -177,22 +180,35 @@ def start_calls(run, side):
     return {f"first answer, {it.name}": [*query, *it.words] for it in run.variants if it.states == "arrival"}
 
 
+def told_walks(run, city, lines):
+    """What the program itself tells of the entries of a scenario, as `judge` reads it."""
+    script = run.scratch.write("walks.script", "\n".join(inputs.queries_of(lines)) + "\n")
+    kept = run.scratch.path("walks.told")
+    measure.seconds_of([run.program, "solve", str(city), str(script), "engine=plus"], keep=kept)
+    walks = [" ".join(line.split()[3:]) if line.startswith("walk") else line for line in kept.read_text().splitlines()]
+    return run.scratch.write("walks", "\n".join(walks) + "\n")
+
+
 def command_calls(run, side):
     """Other commands, each the whole process with its output thrown away."""
-    path = made_map(run, f"open{side}", 1, side, 0)
-    city = run.inputs.map_path("city1024")
-    _, lines = inputs.entry_lines(run.inputs.scenario_path("city1024"))
+    path, small = made_map(run, f"open{side}", 1, side, 0), made_map(run, "scattered128", 1, 128, 25)
+    city, scenario = run.inputs.map_path("city1024"), run.inputs.scenario_path("city1024")
+    _, lines = inputs.entry_lines(scenario)
     ends = lines[-1].split("\t")[4:8]
     certificate = run.scratch.path("certificate")
     measure.seconds_of([run.program, "prove", str(city), *ends], keep=certificate)
+    x, y = map(str, free_cells(small, 1, 1)[0])
     return {
         "make": [run.program, "make", "1", str(side), str(side), "25"],
         "draw": [run.program, "draw", str(city), *ends],
         "prove": [run.program, "prove", str(city), *ends],
         "check": [run.program, "check", str(city), str(certificate)],
+        "judge": [run.program, "judge", str(city), str(scenario), str(told_walks(run, city, lines))],
         "costs": [run.program, "costs", str(path), "0", "0"],
         "tables": [run.program, "tables", str(path)],
         "problems": [run.program, "problems", str(city), "1", "1000"],
+        "boxes": [run.program, "query", str(small), x, y, x, y, "engine=boxes"],
+        "moves": [run.program, "query", str(small), x, y, x, y, "engine=moves"],
     }
 
 
@@ -222,6 +238,8 @@ def processes(run):
 
     def call_of(name):
         def call():
+            if name in SLOW and len(times[name]["clock"]) >= SLOW_TURNS:
+                return
             processor, clock = measure.seconds_of(words[name])
             times[name]["processor"].append(processor)
             times[name]["clock"].append(clock)

@@ -24,7 +24,7 @@ def unpacked(package, folder):
     root = pathlib.Path(folder) / package
     if not root.is_dir():
         pathlib.Path(folder).mkdir(parents=True, exist_ok=True)
-        subprocess.run(["apt-get", "download", package], cwd=folder, check=True, stdout=subprocess.DEVNULL)
+        subprocess.run(["apt-get", "download", package], cwd=folder, check=True, capture_output=True)
         archive = next(pathlib.Path(folder).glob(f"{package}_*.deb"))
         subprocess.run(["dpkg", "-x", archive.name, package], cwd=folder, check=True)
         archive.unlink()
