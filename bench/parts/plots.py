@@ -10,9 +10,9 @@ import numbers_of as told
 COLOURS = {"plain": "#0072B2", "jps": "#E69F00", "block": "#009E73", "plus": "#CC79A7"}
 INK, PALE = "#333", "#ddd"
 
-
-def colour_of(row):
-    return COLOURS[row["engine"]]
+# In the picture of taken states: one state for each cell has a colour of its own, as its dots are too small to be rings.
+TAKEN_COLOURS = {("plain", "arrival"): "#0072B2", ("block", "arrival"): "#009E73", ("block", "cell"): "#D55E00"}
+MOST_DOTS = 150
 
 
 class Panel:
@@ -50,6 +50,11 @@ class Panel:
         x, y = self.place(across, 0), self.place(down, 1)
         fill = "none" if hollow else colour
         self.parts.append(f'<circle cx="{x}" cy="{y}" r="{size}" fill="{fill}" stroke="{colour}"/>')
+
+    def dots(self, points, colour):
+        """Many small dots as one path, which keeps the file small."""
+        places = "".join(f"M{self.place(x, 0)} {self.place(y, 1)}h0" for x, y in points)
+        self.parts.append(f'<path d="{places}" stroke="{colour}" stroke-width="3" stroke-linecap="round"/>')
 
     def curve(self, points, colour, dashed=False):
         places = " ".join(f"{self.place(x, 0)},{self.place(y, 1)}" for x, y in points)
@@ -97,7 +102,7 @@ def times_picture(results):
         panel.line_across(len(names) - place - 0.5, inputs.TOLD.get(name, name))
         for row in rows:
             if row["map"] == name:
-                panel.dot(told.median(row["per_query"]), len(names) - place - 0.5, colour_of(row), 5, row["states"] == "cell")
+                panel.dot(told.median(row["per_query"]), len(names) - place - 0.5, COLOURS[row["engine"]], 5, row["states"] == "cell")
     legend(panel, rows, 40, 22)
     return svg(810, height + 75, panel.parts)
 
@@ -123,35 +128,48 @@ def growth_picture(results):
     return svg(810, 390, panel.parts)
 
 
+def short_number(value):
+    """1, 10, 100, 1k, 10k, 100k, 1M."""
+    for unit, scale in (("M", 1e6), ("k", 1e3)):
+        if value >= scale:
+            return f"{value / scale:.0f}{unit}"
+    return f"{value:.0f}"
+
+
+def taken_panel(name, rows, left, top):
+    """The box of one map."""
+    points = [point for row in rows for point in row["points"] if point[1] > 0]
+    ticks = powers(1, max(count for _, count in points))
+    longest = max(length for length, _ in points) or 1
+    panel = Panel(left, top, 200, 140, (0, longest), (1, ticks[-1]))
+    for tick in ticks:
+        panel.line_across(tick, short_number(tick))
+    for share in (0, 0.5, 1):
+        panel.line_down(longest * share, f"{longest * share:,.0f}")
+    panel.text(left, top - 6, inputs.TOLD.get(name, name).split(" (")[0])
+    for row in rows:
+        shown = inputs.evenly([point for point in row["points"] if point[1] > 0], MOST_DOTS)
+        panel.dots(shown, TAKEN_COLOURS[row["engine"], row["states"]])
+    return panel.parts
+
+
 def taken_picture(results):
     """Taken states against length: a box for each map, a dot for each entry and engine."""
-    rows = results["taken"]
-    names = list(dict.fromkeys(row["map"] for row in rows))
-    parts = []
-    columns = 3
+    rows = [row for row in results["taken"] if any(count > 0 for _, count in row["points"])]
+    names, columns, parts = list(dict.fromkeys(row["map"] for row in rows)), 3, []
     for place, name in enumerate(names):
-        own = [row for row in rows if row["map"] == name]
-        points = [point for row in own for point in row["points"] if point[1] > 0]
-        if not points:
-            continue
-        ticks = powers(1, max(count for _, count in points))
-        longest = max(length for length, _ in points)
-        left, top = 55 + place % columns * 265, 60 + place // columns * 215
-        panel = Panel(left, top, 200, 140, (0, longest or 1), (1, ticks[-1]))
-        for tick in ticks:
-            panel.line_across(tick, f"{tick:,.0f}")
-        for share in (0, 0.5, 1):
-            panel.line_down(longest * share, f"{longest * share:,.0f}")
-        panel.text(left, top - 6, inputs.TOLD.get(name, name)[:38])
-        for row in own:
-            for length, count in row["points"]:
-                if count > 0:
-                    panel.dot(length, count, colour_of(row), 1.5, row["states"] == "cell")
-        parts += panel.parts
+        left, top = 45 + place % columns * 262, 65 + place // columns * 205
+        parts += taken_panel(name, [row for row in rows if row["map"] == name], left, top)
     key = Panel(0, 0, 0, 0, (0, 1), (0, 1), (False, False))
     key.parts = []
-    legend(key, rows, 20, 24)
-    return svg(830, 60 + 215 * -(-len(names) // columns), [*key.parts, *parts])
+    x = 20
+    for engine, states in dict.fromkeys((row["engine"], row["states"]) for row in rows):
+        words = f"{engine}, a state a cell" if states == "cell" else engine
+        key.parts.append(f'<circle cx="{x}" cy="20" r="4" fill="{TAKEN_COLOURS[engine, states]}"/>')
+        key.text(x + 12, 24, words)
+        x += 32 + 7 * len(words)
+    key.text(x + 20, 24, "upwards: taken states; to the right: length of the walk")
+    return svg(810, 65 + 205 * -(-len(names) // columns), [*key.parts, *parts])
 
 
 PICTURES = {"queries": ("times.svg", times_picture), "growth": ("growth.svg", growth_picture), "taken": ("taken.svg", taken_picture)}
