@@ -24,6 +24,10 @@ def name_of(name):
     return inputs.TOLD.get(name, name)
 
 
+def engine_words(row):
+    return f"{row['engine']} states=cell" if row["states"] == "cell" else row["engine"]
+
+
 def cells_of(results, name):
     size = results["maps"][name]
     return f"{size['width']} x {size['height']}"
@@ -112,7 +116,7 @@ def heap_table(results):
                 heap = ratio_of(rows, name, engine, states, "pairing", "reference")
                 rest = ratio_of(rows, name, engine, states, "jps", "pairing")
                 if whole and heap and rest and whole[0] > MOST:
-                    words = engine if states == "arrival" else f"{engine} states=cell"
+                    words = engine_words({"engine": engine, "states": states})
                     lines.append([name_of(name), f"`{words}`", *(told.ratio_text(it) for it in (whole, heap, rest))])
     if not lines:
         return f"No engine takes more than {MOST} of the reference's time on any of these maps."
@@ -130,8 +134,9 @@ def queries_text(results):
         parts += ["With one state for each cell (`states=cell`):", queries_table(results, "cell", JUMPS), cell_gain(results)]
     if any(row["program"] == "pairing" for row in results["queries"]):
         parts.append(heap_table(results))
-    others = [it for it in dict.fromkeys(row["program"] for row in results["queries"]) if it not in ("jps", "reference", "pairing")]
-    for other in others:
+    for other in dict.fromkeys(row["program"] for row in results["queries"]):
+        if other in ("jps", "reference", "pairing"):
+            continue
         found = ", ".join(f"`{engine}` {ratio:.2f}" for engine, ratio in medians(results["queries"], other=other).items())
         parts.append(f"Beside the build {other}, the median of the ratios: {found}.")
     return parts
@@ -145,7 +150,7 @@ def told_queries(results):
     for row in results["queries"]:
         ratio = ratio_of(results["queries"], row["map"], row["engine"], row["states"], row["program"])
         beside = [told.ratio_text(ratio), f"{ratio[1]:.2f} to {ratio[2]:.2f}"] if row["program"] != "reference" else ["", ""]
-        engine = row["engine"] if row["states"] == "arrival" else f"{row['engine']} cell"
+        engine = engine_words(row)
         lines.append([row["map"], engine, row["program"], *map(told.micros, told.spread(row["per_query"])), *beside])
     widths = [max(len(line[place]) for line in lines) for place in range(len(lines[0]))]
     return "\n".join("  ".join(word.ljust(width) for word, width in zip(line, widths)).rstrip() for line in lines)
@@ -160,7 +165,7 @@ def spread_text(results):
         key = {it: row[it] for it in ("map", "engine", "states")}
         other = find(rows, program="reference", **key)
         ratio = told.ratio(row["per_query"], other["per_query"])
-        engine = row["engine"] if row["states"] == "arrival" else f"{row['engine']} states=cell"
+        engine = engine_words(row)
         own, theirs = (", ".join(told.micros(it)[:-3] for it in told.spread(it["per_query"])) for it in (row, other))
         lines.append([name_of(row["map"]), f"`{engine}`", own, theirs, f"{ratio[1]:.2f} to {ratio[2]:.2f}"])
     head = ["Map", "Engine", "least, lower quarter, median (us)", "the reference's", "quarters of the ratios of turns"]
@@ -171,13 +176,14 @@ def counts_text(results):
     rows = results["counts"]["rows"]
     if not rows:
         return None
-    names = [it for it in ("instructions", "wrong branches", "near misses", "misses") if any(it in row.get("per_query", {}) for row in rows)]
+    kinds = ("instructions", "wrong branches", "near misses", "misses")
+    names = [it for it in kinds if any(it in row.get("per_query", {}) for row in rows)]
     lines = []
     for row in rows:
         other = find(rows, program="reference", **{it: row[it] for it in ("map", "engine", "states")})
         if row["program"] != "jps" or not (other and "per_query" in row and "per_query" in other):
             continue
-        engine = row["engine"] if row["states"] == "arrival" else f"{row['engine']} states=cell"
+        engine = engine_words(row)
         line = [name_of(row["map"]), f"`{engine}`"]
         for name in names:
             own, theirs = row["per_query"][name], other["per_query"][name]
@@ -271,7 +277,7 @@ def processes_text(results):
 def pipe_text(results):
     lines = []
     for row in results["pipe"]:
-        engine = row["engine"] if row["states"] != "cell" else f"{row['engine']} states=cell"
+        engine = engine_words(row)
         name = "neighbours on an open map" if row["map"] == "neighbours" else name_of(row["map"])
         who = "the pipe alone (`cat`)" if engine == "cat" else f"`{engine}`"
         lines.append([name, who, row["questions"], *(told.seconds(row[it]) for it in ("0.5", "0.99", "0.999"))])
@@ -279,22 +285,27 @@ def pipe_text(results):
     return ["## Answers through the pipe of `live`", told.table(head, lines)]
 
 
+def by_size(results, part, write):
+    """A table of one value for each size and engine."""
+    rows = results[part]
+    kinds = list(dict.fromkeys((row["engine"], row["states"]) for row in rows))
+    lines = []
+    for name in maps_of(rows):
+        found = [find(rows, map=name, engine=engine, states=states) for engine, states in kinds]
+        lines.append([cells_of(results, name), *(write(row) if row else "" for row in found)])
+    words = [engine_words({"engine": engine, "states": states}) for engine, states in kinds]
+    return told.table(["Cells", *(f"`{it}`" for it in words)], lines)
+
+
 def growth_text(results, pictures):
-    parts = ["## How it grows", "Cities of five sizes, each with 40 queries spread over all lengths: the median time of a further query."]
-    for part, write in (("growth", lambda row: told.seconds(told.median(row["per_query"]))), ("memory", lambda row: told.megabytes(row["peak"]))):
-        rows = results.get(part)
-        if not rows:
-            continue
-        kinds = list(dict.fromkeys((row["engine"], row["states"]) for row in rows))
-        lines = []
-        for name in maps_of(rows):
-            found = [find(rows, map=name, engine=engine, states=states) for engine, states in kinds]
-            lines.append([cells_of(results, name), *(write(row) if row else "" for row in found)])
-        words = [f"`{engine}`" if states == "arrival" else f"`{engine} states=cell`" for engine, states in kinds]
-        if part == "memory":
-            parts.append("The most memory that a `live` takes which has answered one of the longest queries:")
-        parts.append(told.table(["Cells", *words], lines))
-    return [*parts, *picture("growth", pictures, "the time of a query by the side of the map, a line for each engine")]
+    words = "Cities of five sizes, each with 40 queries spread over all lengths: the median time of a further query."
+    parts = ["## How it grows", words]
+    parts.append(by_size(results, "growth", lambda row: told.seconds(told.median(row["per_query"]))))
+    parts += picture("growth", pictures, "the time of a query by the side of the map, a line for each engine")
+    if results.get("memory"):
+        parts.append("The most memory that a `live` takes which has answered one of the longest queries:")
+        parts.append(by_size(results, "memory", lambda row: told.megabytes(row["peak"])))
+    return parts
 
 
 def picture(part, pictures, words):
@@ -303,33 +314,52 @@ def picture(part, pictures, words):
 
 # ---------------------------------------------------------------- README
 
+def reference_row(rows):
+    """How the program stands to the reference: the medians over the maps, and the least and largest ratio."""
+    mine = [row for row in rows if row["program"] == "jps" and row["states"] == "arrival"]
+    ratios = [ratio_of(rows, row["map"], row["engine"], row["states"])[0] for row in mine]
+    middle = ", ".join(f"`{engine}` {value:.2f}" for engine, value in medians(rows).items())
+    middle = middle.replace("` ", "` takes ", 1)
+    words = f"{middle} times as long (medians; single maps {min(ratios):.2f} to {max(ratios):.2f})"
+    return ["[our own C++ program](bench/reference) of the same engines", words]
+
+
+def library_words(found):
+    """The libraries in one line; behind those that were not asked on all maps, on how many they were."""
+    libraries = list(dict.fromkeys(library for _, library in found))
+    maps = [sum(other == library for _, other in found) for library in libraries]
+    names = [" ".join(library.split()[:-1]) for library in libraries]
+    return ", ".join(name if count == max(maps) else f"{name} ({count} maps)" for name, count in zip(names, maps))
+
+
+def library_row(results):
+    """The least and largest ratio of a library to `plain` and to `block`; networkx is too slow to stand here."""
+    found = {key: pair for key, pair in library_ratios(results).items() if not key[1].startswith("networkx")}
+    plain = [pair[0] for pair in found.values()]
+    block = [pair[1] for (name, _), pair in found.items() if name != "random25"]
+    if not plain or not block:
+        return None
+    words = [told.times_as_long(it) for it in (min(plain), max(plain), min(block), max(block))]
+    row = "they take {} to {} times as long as `plain`, {} to {} times as long as `block` but among scattered walls"
+    return [library_words(found), row.format(*words)]
+
+
 def readme_text(results):
     """The rows of README. It may have few words, so there are as many as before."""
     rows = [row for row in results["queries"] if row["program"] in ("jps", "reference")]
-    ratios = [ratio_of(rows, row["map"], row["engine"], row["states"])[0] for row in rows if row["program"] == "jps" and row["states"] == "arrival"]
-    middle = ", ".join(f"`{engine}` {value:.2f}" for engine, value in medians(rows).items())
-    first = f"{middle} times as long (medians; single maps {min(ratios):.2f} to {max(ratios):.2f})"
-    lines = [["[our own C++ program](bench/reference) of the same engines", first]]
-    if "libraries" in results:
-        found = {key: pair for key, pair in library_ratios(results).items() if not key[1].startswith("networkx")}
-        plain = [pair[0] for pair in found.values()]
-        block = [pair[1] for (name, _), pair in found.items() if name != "random25"]
-        if plain and block:
-            names = "Boost.Graph, petgraph, libtcod, LEMON, Godot 3 (on three of the maps)"
-            words = [told.times_as_long(it) for it in (min(plain), max(plain), min(block), max(block))]
-            told_row = "they take {} to {} times as long as `plain`, {} to {} times as long as `block` but among scattered walls"
-            lines.append([names, told_row.format(*words)])
-    sizes = [cells_of(results, name) for name in maps_of(rows)]
-    head = f"On {len(sizes)} maps, from {sizes[0]} to {sizes[-1]} cells, none of them the benchmark's"
+    lines = [reference_row(rows), library_row(results) if "libraries" in results else None]
+    names = sorted(maps_of(rows), key=lambda name: results["maps"][name]["width"] * results["maps"][name]["height"])
+    sizes = [cells_of(results, name).replace("x", "×") for name in (names[0], names[-1])]
+    head = f"On {len(names)} maps, from {sizes[0]} to {sizes[1]} cells, none of them the benchmark's"
     mine = [row for row in rows if row["program"] == "jps"]
     quick, slow = (choose(mine, key=lambda row: told.median(row["per_query"])) for choose in (min, max))
-    last = f"A query takes from {mean_words(quick)} to {mean_words(slow)}."
-    return [told.table(["Beside", head], lines), last]
+    last = f"A query takes from {mean_words(quick)} to {mean_words(slow)}.".replace(" us ", " µs ")
+    return [told.table(["Beside", head], [line for line in lines if line]), last]
 
 
 def mean_words(row):
     short = name_of(row["map"]).split(" (")[0].split(",")[0]
-    engine = row["engine"] if row["states"] == "arrival" else f"{row['engine']} states=cell"
+    engine = engine_words(row)
     return f"{told.seconds(told.median(row['per_query']))} (`{engine}`, {short})"
 
 
@@ -356,8 +386,9 @@ def blocks_of(results, pictures):
     if has("growth"):
         speed["growth"] = growth_text(results, pictures)
     if has("taken"):
-        words = "taken states against the length of the walk, a box for each map"
-        speed["taken"] = ["## Taken states", "How many states `plain` and `block` take, by the length of the walk:", *picture("taken", pictures, words)]
+        words = "How many states `plain` and `block` take, by the length of the walk:"
+        seen = picture("taken", pictures, "taken states against the length of the walk, a box for each map")
+        speed["taken"] = ["## Taken states", words, *seen]
     return {page: {name: "\n\n".join(parts) for name, parts in found.items() if parts} for page, found in blocks.items()}
 
 

@@ -81,7 +81,8 @@ class Case:
     def result(self):
         pairs = zip(self.seconds["whole"], self.seconds["first"])
         per_query = [(whole - first) / self.rest for whole, first in pairs]
-        return {**self.row, "entries": self.rest + 1, "per_query": per_query, "first": self.seconds["first"], "first_clock": self.clock["first"]}
+        first = {"first": self.seconds["first"], "first_clock": self.clock["first"]}
+        return {**self.row, "entries": self.rest + 1, "per_query": per_query, **first}
 
 
 def calibrated(run, name, variant, contestants):

@@ -70,7 +70,9 @@ def powers(low, high):
 
 def svg(width, height, parts):
     head = f'<svg xmlns="http://www.w3.org/2000/svg" viewBox="0 0 {width} {height}" width="{width}" height="{height}"'
-    return f'{head} font-family="sans-serif" font-size="12" fill="{INK}">\n<rect width="100%" height="100%" fill="white"/>\n' + "\n".join(parts) + "\n</svg>\n"
+    font = f'font-family="sans-serif" font-size="12" fill="{INK}"'
+    paper = '<rect width="100%" height="100%" fill="white"/>'
+    return "\n".join([f"{head} {font}>", paper, *parts, "</svg>\n"])
 
 
 def legend(panel, rows, x, y, marks="dot"):
@@ -102,7 +104,8 @@ def times_picture(results):
         panel.line_across(len(names) - place - 0.5, inputs.TOLD.get(name, name))
         for row in rows:
             if row["map"] == name:
-                panel.dot(told.median(row["per_query"]), len(names) - place - 0.5, COLOURS[row["engine"]], 5, row["states"] == "cell")
+                value, hollow = told.median(row["per_query"]), row["states"] == "cell"
+                panel.dot(value, len(names) - place - 0.5, COLOURS[row["engine"]], 5, hollow)
     legend(panel, rows, 40, 22)
     return svg(810, height + 75, panel.parts)
 
@@ -172,7 +175,11 @@ def taken_picture(results):
     return svg(810, 65 + 205 * -(-len(names) // columns), [*key.parts, *parts])
 
 
-PICTURES = {"queries": ("times.svg", times_picture), "growth": ("growth.svg", growth_picture), "taken": ("taken.svg", taken_picture)}
+PICTURES = {
+    "queries": ("times.svg", times_picture),
+    "growth": ("growth.svg", growth_picture),
+    "taken": ("taken.svg", taken_picture),
+}
 
 
 def write_pictures(results, folder):
