@@ -1,7 +1,7 @@
 """Maps made from seeds: the kinds of the benchmark, none of its files.
 
 A map is a list of rows, a row a bytearray with one byte for each cell. The same seed gives the same map with each
-Python from 3.8 on; bench/inputs.json has the sums that tell if not.
+Python from 3.9 on; bench/inputs.json has the sums that tell if not.
 """
 
 import math

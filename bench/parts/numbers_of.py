@@ -50,9 +50,13 @@ def seconds(value):
     """Seconds in the unit that suits."""
     for unit, scale in (("s", 1), ("ms", 1e3), ("us", 1e6)):
         if value * scale >= 0.9995:
-            text = three(value * scale)
-            return f"{text.rstrip('0').rstrip('.') if '.' in text else text} {unit}"
+            return f"{three(value * scale)} {unit}"
     return f"{value * 1e9:.0f} ns"
+
+
+def tick(power):
+    """A power of ten seconds, as an axis tells it."""
+    return seconds(power * 1.0001).replace(".00", "").replace(".0", "")
 
 
 def micros(value):

@@ -402,7 +402,7 @@ def reference_seconds(run):
 
 
 def counts(run):
-    """Counts of the program and the reference. They are the same whatever else runs, so all processors count."""
+    """Counts of the program and the reference. Callgrind's are the same whatever else runs, so all processors count."""
     run.results["counts"] = {"by": run.counter, "rows": []}
     if not run.counter:
         run.tell("nothing is counted: neither may perf count here, nor does valgrind run")
@@ -410,7 +410,8 @@ def counts(run):
     seconds = reference_seconds(run)
     jobs = [(name, variant, contestant) for name in run.maps for variant in run.variants for contestant in run.contestants[:2]]
     done = 0
-    with concurrent.futures.ThreadPoolExecutor(run.jobs) as pool:
+    jobs_at_once = 1 if run.counter == "perf" else run.jobs  # real caches are shared
+    with concurrent.futures.ThreadPoolExecutor(jobs_at_once) as pool:
         waiting = [pool.submit(counted_row, run, *job, seconds[job[0], job[1].engine, job[1].states]) for job in jobs]
         for it in concurrent.futures.as_completed(waiting):
             run.results["counts"]["rows"].append(it.result())

@@ -99,7 +99,7 @@ def times_picture(results):
     height = 34 * len(names)
     panel = Panel(300, 40, 480, height, (ticks[0], ticks[-1]), (0, len(names)), (True, False))
     for tick in ticks:
-        panel.line_down(tick, told.seconds(tick))
+        panel.line_down(tick, told.tick(tick))
     for place, name in enumerate(names):
         panel.line_across(len(names) - place - 0.5, inputs.TOLD.get(name, name))
         for row in rows:
@@ -118,7 +118,7 @@ def growth_picture(results):
     ticks = powers(min(values), max(values))
     panel = Panel(70, 40, 560, 320, (sides[0] * 0.9, sides[-1] * 1.1), (ticks[0], ticks[-1]), (True, True))
     for tick in ticks:
-        panel.line_across(tick, told.seconds(tick))
+        panel.line_across(tick, told.tick(tick))
     for side in sides:
         panel.line_down(side, f"{side} x {side}")
     for engine, states in dict.fromkeys((row["engine"], row["states"]) for row in rows):
