@@ -50,7 +50,9 @@ static std::pair<Edges, Edges> out_edges(uint32_t cell, const Grid &grid) {
 }
 static uint32_t source(const Edge &edge, const Grid &) { return edge.from; }
 static uint32_t target(const Edge &edge, const Grid &) { return edge.to; }
-static uint32_t out_degree(uint32_t cell, const Grid &grid) { return uint32_t(__builtin_popcount(grid.map.legal[cell])); }
+static uint32_t out_degree(uint32_t cell, const Grid &grid) {
+    return uint32_t(__builtin_popcount(grid.map.legal[cell]));
+}
 static uint32_t num_vertices(const Grid &grid) { return uint32_t(grid.map.cells.size()); }
 static auto vertices(const Grid &grid) {
     auto range = boost::irange<uint32_t>(0, num_vertices(grid));
@@ -81,10 +83,12 @@ int main(int, char **words) {
     std::vector<double> costs(count), sums(count);
     std::vector<boost::default_color_type> colors(count);
     auto index = boost::identity_property_map();
-    auto weight = boost::make_function_property_map<Edge>([](const Edge &edge) { return edge.direction & 1 ? SQRT2 : 1.0; });
+    auto length = [](const Edge &edge) { return edge.direction & 1 ? SQRT2 : 1.0; };
+    auto weight = boost::make_function_property_map<Edge>(length);
     auto by_cell = [&](auto &values) { return boost::make_iterator_property_map(values.begin(), index); };
     measure(began, queries, [&](const Query &it) -> double {
-        uint32_t start = uint32_t(map.number(it.start_x, it.start_y)), goal = uint32_t(map.number(it.goal_x, it.goal_y));
+        uint32_t start = uint32_t(map.number(it.start_x, it.start_y));
+        uint32_t goal = uint32_t(map.number(it.goal_x, it.goal_y));
         try {
             boost::astar_search(grid, start, Estimate(map.width, it.goal_x, it.goal_y),
                                 boost::visitor(EndAtGoal(goal)).vertex_index_map(index).weight_map(weight)

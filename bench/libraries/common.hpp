@@ -30,7 +30,10 @@ struct Map {
         legal.resize(cells.size());
         for (int y = 0; y < height; y++) {
             std::getline(file, line);
-            for (int x = 0; x < width; x++) cells[number(x, y)] = line[size_t(x)] == '.' || line[size_t(x)] == 'G' || line[size_t(x)] == 'S';
+            for (int x = 0; x < width; x++) {
+                char byte = line[size_t(x)];
+                cells[number(x, y)] = byte == '.' || byte == 'G' || byte == 'S';
+            }
         }
         for (int y = 0; y < height; y++)
             for (int x = 0; x < width; x++)
@@ -58,12 +61,15 @@ static std::vector<Query> read_scenario(const char *name) {
         std::istringstream fields(line);
         int width, height;
         Query it;
-        if (fields >> bucket >> map >> width >> height >> it.start_x >> it.start_y >> it.goal_x >> it.goal_y >> it.length) queries.push_back(it);
+        fields >> bucket >> map >> width >> height >> it.start_x >> it.start_y >> it.goal_x >> it.goal_y >> it.length;
+        if (fields) queries.push_back(it);
     }
     return queries;
 }
 
-static double now() { return std::chrono::duration<double>(std::chrono::steady_clock::now().time_since_epoch()).count(); }
+static double now() {
+    return std::chrono::duration<double>(std::chrono::steady_clock::now().time_since_epoch()).count();
+}
 
 static double octile(int columns, int rows) {
     int one = std::abs(columns), other = std::abs(rows), less = std::min(one, other);

@@ -194,7 +194,8 @@ static std::vector<Entry> parse_scenario(const std::string &text) {
             if (fields.size() < 9) fail("scenario entry");
             const std::string *last = &fields.back();        // the map's name may have blanks: count from behind
             Entry entry;
-            i64 *const numbers[6] = {&entry.width, &entry.height, &entry.start_x, &entry.start_y, &entry.goal_x, &entry.goal_y};
+            i64 *const numbers[6] = {&entry.width,   &entry.height, &entry.start_x,
+                                     &entry.start_y, &entry.goal_x, &entry.goal_y};
             for (int place = 0; place < 6; place++) *numbers[place] = atoll(last[place - 6].c_str());
             take_length(*last, entry);
             entries.push_back(entry);
@@ -227,7 +228,8 @@ static std::string decimal_of(u32 straight, u32 diagonal) {
     while (u128(root + 1) * (root + 1) <= square) root++;
     u64 value = (root + 1) / 2 + u64(straight) * 100000000ull;
     char text[40];
-    snprintf(text, sizeof text, "%llu.%08llu", (unsigned long long)(value / 100000000), (unsigned long long)(value % 100000000));
+    unsigned long long whole = value / 100000000, rest = value % 100000000;
+    snprintf(text, sizeof text, "%llu.%08llu", whole, rest);
     return text;
 }
 
@@ -421,8 +423,10 @@ template <Rule RULE> struct CellJumps {
     INLINE int stop(int x, int y, int d, int goal_x, int goal_y) const {
         const u8 *at = grid.cell(x, y);
         ptrdiff_t across = DX[d], down = DY[d] * grid.stride;
-        if (!(d & 1))
-            return with_goal(straight(at, across + down, across ? grid.stride : 1), moves_to_goal(d, x, y, goal_x, goal_y));
+        if (!(d & 1)) {
+            int run = straight(at, across + down, across ? grid.stride : 1);
+            return with_goal(run, moves_to_goal(d, x, y, goal_x, goal_y));
+        }
         int columns = (goal_x - x) * DX[d], rows = (goal_y - y) * DY[d], near = std::min(columns, rows);
         for (int moves = 1;; moves++) {
             if (!is_legal(at, across, down)) return 0;
@@ -456,38 +460,48 @@ template <Rule RULE> struct BlockJumps {
         }
         return (~middle | marks) & seen;
     }
-    // Windows overlap by one cell, the one before the first that a window tells of.
+    // The stops in the window of 64 cells from one cell on, that one left out, and the cells of the line there. `told`
+    // is how many cells further on the window tells of. The next one begins with the last of them, at which it looks
+    // back.
+    static INLINE u64 window_ahead(const Bits &bits, int line, int bit, u64 &middle, int &told) {
+        const u8 *at = bits.line(line) + (bit >> 3);
+        int shift = bit & 7;
+        told = RULE == NONE ? 63 - shift : 62 - shift;
+        middle = word_at(at) >> shift;
+        u64 left = word_at(at - bits.stride) >> shift, right = word_at(at + bits.stride) >> shift;
+        return stops(middle, left, right, ~0ull >> (63 - told) & ~1ull, [](u64 word) { return word << 1; },
+                     [](u64 word) { return word >> 1; });
+    }
+    static INLINE u64 window_back(const Bits &bits, int line, int bit, u64 &middle, int &told) {
+        const u8 *at = bits.line(line) + (bit >> 3) - 7;
+        int shift = 7 - (bit & 7);
+        told = RULE == NONE ? 63 - shift : 62 - shift;
+        middle = word_at(at) << shift;
+        u64 left = word_at(at - bits.stride) << shift, right = word_at(at + bits.stride) << shift;
+        return stops(middle, left, right, ~0ull << (63 - told) & ~(1ull << 63), [](u64 word) { return word >> 1; },
+                     [](u64 word) { return word << 1; });
+    }
     static INLINE int forward(const Bits &bits, int line, int place) {
-        int passed = 0;
-        for (int bit = place + 1;;) {
-            const u8 *at = bits.line(line) + (bit >> 3);
-            int shift = bit & 7, told = RULE == NONE ? 63 - shift : 62 - shift;
-            u64 middle = word_at(at) >> shift;
-            u64 found = stops(middle, word_at(at - bits.stride) >> shift, word_at(at + bits.stride) >> shift,
-                              ~0ull >> (63 - told) & ~1ull, [](u64 word) { return word << 1; }, [](u64 word) { return word >> 1; });
-            if (LIKELY(found)) {
-                int count = __builtin_ctzll(found);
-                return middle >> count & 1 ? passed + count : 1 - passed - count;
-            }
+        u64 middle;
+        int told, passed = 0;
+        u64 found = window_ahead(bits, line, place + 1, middle, told);
+        while (UNLIKELY(!found)) {
             passed += told;
-            bit += told;
+            found = window_ahead(bits, line, place + 1 + passed, middle, told);
         }
+        int count = __builtin_ctzll(found);
+        return middle >> count & 1 ? passed + count : 1 - passed - count;
     }
     static INLINE int back(const Bits &bits, int line, int place) {
-        int passed = 0;
-        for (int bit = place + 1;;) {
-            const u8 *at = bits.line(line) + (bit >> 3) - 7;
-            int shift = 7 - (bit & 7), told = RULE == NONE ? 63 - shift : 62 - shift;
-            u64 middle = word_at(at) << shift;
-            u64 found = stops(middle, word_at(at - bits.stride) << shift, word_at(at + bits.stride) << shift,
-                              ~0ull << (63 - told) & ~(1ull << 63), [](u64 word) { return word >> 1; }, [](u64 word) { return word << 1; });
-            if (LIKELY(found)) {
-                int count = __builtin_clzll(found);
-                return middle << count >> 63 ? passed + count : 1 - passed - count;
-            }
+        u64 middle;
+        int told, passed = 0;
+        u64 found = window_back(bits, line, place + 1, middle, told);
+        while (UNLIKELY(!found)) {
             passed += told;
-            bit -= told;
+            found = window_back(bits, line, place + 1 - passed, middle, told);
         }
+        int count = __builtin_clzll(found);
+        return middle << count >> 63 ? passed + count : 1 - passed - count;
     }
     INLINE int straight(int x, int y, int d) const {
         switch (d) {
@@ -623,7 +637,8 @@ struct FourHeap {
     INLINE void lower(u32 node, u32 state, double sum) { add(node, state, sum); }
     // The first of the four children from `child` on, without a branch.
     static INLINE size_t first_of_four(const Item *all, size_t child) {
-        size_t one = child + before(all[child + 1], all[child]), two = child + 2 + before(all[child + 3], all[child + 2]);
+        size_t one = child + before(all[child + 1], all[child]);
+        size_t two = child + 2 + before(all[child + 3], all[child + 2]);
         return one ^ ((one ^ two) & -size_t(before(all[two], all[one])));
     }
     // The first of the children from `child` on, where `end` items are left.
@@ -759,7 +774,8 @@ template <class Open, bool CELL> struct JumpSearch {
 
     JumpSearch(int columns, int rows) : width(u32(columns)), nodes(4096) { index.take(size_t(columns) * size_t(rows)); }
 
-    template <class Jumps> void run(const Jumps &jumps, int start_x, int start_y, const Goal goal, Answer &answer, bool trace) {
+    template <class Jumps>
+    void run(const Jumps &jumps, int start_x, int start_y, const Goal goal, Answer &answer, bool trace) {
         begin();
         index.at[u32(start_y) * width + u32(start_x)] = base;
         put(start_x, start_y, START, 0, 0, NIL, NIL, goal);
@@ -831,7 +847,8 @@ private:
         answer.found = true;
         answer.straight = nodes[number].straight;
         answer.diagonal = nodes[number].diagonal;
-        for (; number != NIL; number = nodes[number].parent) answer.points.emplace_back(nodes[number].x, nodes[number].y);
+        for (; number != NIL; number = nodes[number].parent)
+            answer.points.emplace_back(nodes[number].x, nodes[number].y);
         std::reverse(answer.points.begin(), answer.points.end());
     }
 };
@@ -872,7 +889,8 @@ struct PlainSearch {
             const u32 straight = node.straight, diagonal = node.diagonal;
             for (u32 left = LEGAL[around(grid, x, y)]; left; left &= left - 1) {
                 int d = __builtin_ctz(left);
-                offer(x + DX[d], y + DY[d], u32(int(cell) + ahead[d]), d, straight + !(d & 1), diagonal + (d & 1), now, goal);
+                u32 next = u32(int(cell) + ahead[d]);
+                offer(x + DX[d], y + DY[d], next, d, straight + !(d & 1), diagonal + (d & 1), now, goal);
             }
         }
     }
@@ -948,7 +966,8 @@ template <class Jumps> static LayerPointer jump_layer(const Map &map, Ground lay
     return std::make_unique<JumpLayer<Jumps, FourHeap, false>>(map, layer);
 }
 
-template <template <Rule> class Jumps> static LayerPointer ruled_layer(const Map &map, Ground layer, const Settings &settings) {
+template <template <Rule> class Jumps>
+static LayerPointer ruled_layer(const Map &map, Ground layer, const Settings &settings) {
     if (settings.rule == NONE) return jump_layer<Jumps<NONE>>(map, layer, settings);
     if (settings.rule == ONE) return jump_layer<Jumps<ONE>>(map, layer, settings);
     return jump_layer<Jumps<BOTH>>(map, layer, settings);
@@ -1054,7 +1073,8 @@ static void print_reply(Output &out, Case told, const Answer &answer, const Solv
 static int query(Solver &solver, const std::vector<std::string> &words) {
     Output out;
     Answer answer;
-    Case told = solver.query(atoll(words[2].c_str()), atoll(words[3].c_str()), atoll(words[4].c_str()), atoll(words[5].c_str()), answer);
+    auto number = [&](size_t place) { return atoll(words[place].c_str()); };
+    Case told = solver.query(number(2), number(3), number(4), number(5), answer);
     print_reply(out, told, answer, solver);
     return 0;
 }
@@ -1069,8 +1089,8 @@ static int solve(Solver &solver, const std::string &script) {
             Case told = solver.query(number(1), number(2), number(3), number(4), answer);
             return print_reply(out, told, answer, solver);
         }
-        Ground ground = fields[0] == "block" ? BLOCKED : fields[0] == "free" ? LAND : fields[0] == "flood" ? WATER : UNKNOWN;
-        if (ground == UNKNOWN) fail("script");
+        Ground ground = fields[0] == "block" ? BLOCKED : fields[0] == "free" ? LAND : WATER;
+        if (ground == WATER && fields[0] != "flood") fail("script");
         if (!solver.map.has(number(1), number(2))) out.word("outside\n");
         else out.word(solver.edit(number(1), number(2), ground) ? "ok\n" : "same\n");
     });
@@ -1097,7 +1117,8 @@ static int scen(Solver &solver, const std::vector<Entry> &entries) {
         else if (answer.found) {
             Verdict verdict = verdict_of(entry, answer.straight, answer.diagonal);
             counts[verdict]++;
-            out.text += ' ' + std::string(VERDICTS[verdict]) + ' ' + std::to_string(answer.straight) + ' ' + std::to_string(answer.diagonal);
+            out.text += ' ' + std::string(VERDICTS[verdict]) + ' ';
+            out.text += std::to_string(answer.straight) + ' ' + std::to_string(answer.diagonal);
         } else out.word(" none");
         if (!answer.found || !fits || told >= IS_BLOCKED) other++;
         if (fits && told < IS_BLOCKED) {
@@ -1106,8 +1127,9 @@ static int scen(Solver &solver, const std::vector<Entry> &entries) {
         }
         out.word("\n");
     }
-    out.text += "sum " + std::to_string(row) + " agree " + std::to_string(counts[AGREE]) + " near " + std::to_string(counts[NEAR]);
-    out.text += " off " + std::to_string(counts[OFF]) + " other " + std::to_string(other);
+    out.text += "sum " + std::to_string(row) + " agree " + std::to_string(counts[AGREE]);
+    out.text += " near " + std::to_string(counts[NEAR]) + " off " + std::to_string(counts[OFF]);
+    out.text += " other " + std::to_string(other);
     tell(taken);
     out.word("\n");
     return counts[OFF] || other;
@@ -1227,8 +1249,8 @@ static std::vector<std::pair<size_t, Problem>> picked(const std::vector<std::vec
 static int write_scenario(Solver &solver, size_t wanted, u64 seed, const char *name) {
     printf("version 1\n");
     for (auto &[bucket, it] : picked(drawn_buckets(solver, wanted, seed), wanted))
-        printf("%zu\t%s\t%d\t%d\t%d\t%d\t%d\t%d\t%s\n", bucket, name, solver.map.width, solver.map.height, it.start_x, it.start_y,
-               it.goal_x, it.goal_y, decimal_of(it.straight, it.diagonal).c_str());
+        printf("%zu\t%s\t%d\t%d\t%d\t%d\t%d\t%d\t%s\n", bucket, name, solver.map.width, solver.map.height, it.start_x,
+               it.start_y, it.goal_x, it.goal_y, decimal_of(it.straight, it.diagonal).c_str());
     return 0;
 }
 
@@ -1236,13 +1258,15 @@ static int write_scenario(Solver &solver, size_t wanted, u64 seed, const char *n
 static bool take_setting(const std::string &word, Settings &settings) {
     static const char *const ENGINES[4] = {"engine=plain", "engine=jps", "engine=block", "engine=plus"};
     static const char *const RULES[3] = {"rule=none", "rule=one", "rule=both"};
+    static const char *const SHOWN[4] = {"show=points", "show=cells", "show=trace", "show=taken"};
     for (int place = 0; place < 4; place++)
         if (word == ENGINES[place]) { settings.engine = Engine(place); return true; }
     for (int place = 0; place < 3; place++)
         if (word == RULES[place]) { settings.rule = Rule(place); return true; }
+    for (const char *shown : SHOWN)
+        if (word == shown) { settings.show = word.substr(5); return true; }
     if (word == "states=arrival" || word == "states=cell") settings.one_state_a_cell = word == "states=cell";
     else if (word == "open=heap" || word == "open=pairing") settings.pairing = word == "open=pairing";
-    else if (word == "show=points" || word == "show=cells" || word == "show=trace" || word == "show=taken") settings.show = word.substr(5);
     else return false;
     return true;
 }
@@ -1262,7 +1286,9 @@ int main(int count, char **given) {
     if (command == "query" && words.size() == 6) return query(solver, words);
     if (command == "solve" && words.size() == 3) return solve(solver, read_file(words[2].c_str()));
     if (command == "scen" && words.size() == 3) return scen(solver, parse_scenario(read_file(words[2].c_str())));
-    if (command == "scenario" && words.size() == 5)
-        return write_scenario(solver, size_t(atoll(words[2].c_str())), strtoull(words[3].c_str(), nullptr, 10), words[4].c_str());
+    if (command == "scenario" && words.size() == 5) {
+        u64 seed = strtoull(words[3].c_str(), nullptr, 10);
+        return write_scenario(solver, size_t(atoll(words[2].c_str())), seed, words[4].c_str());
+    }
     fail("words");
 }
