@@ -68,8 +68,8 @@ def origin(results):
     load = results.get("load", {}).get("before", {}).get("load", "unknown")
     return (
         f"Measured {results['began']} by `bench/run` on commit {facts['commit'][:8]}{changed}: {facts['program']}, "
-        f"{facts['processor']['name']} ({facts['processor']['count']} processors, pinned to one), load at the start {load}, "
-        f"{facts['compiler']} `{facts['options']}`, {results['turns']} turns in random order. All figures: "
+        f"{facts['processor']['name']} ({facts['processor']['count']} processors, pinned to one), "
+        f"load at the start {load}, {facts['compiler']} `{facts['options']}`, {results['turns']} turns in random order. All figures: "
         "[bench/results](../bench/results/latest.json)."
     )
 
@@ -85,10 +85,12 @@ def queries_table(results, states, engines):
             key = "arrival" if engine == "plain" else states
             mine = find(rows, map=name, engine=engine, states=key, program="jps")
             ratio = ratio_of(rows, name, engine, key)
-            line += [told.micros(told.median(mine["per_query"])), told.ratio_text(ratio)] if mine and ratio else ["", ""]
+            line.append(told.micros(told.median(mine["per_query"])) if mine else "")
+            line.append(told.ratio_text(ratio) if ratio else "")
         lines.append(line)
     middle = medians(rows, states, engines=engines)
-    lines.append(["median of the ratios", "", "", *(word for engine in engines for word in ("", f"{middle.get(engine, 0):.2f}"))])
+    last = [word for engine in engines for word in ("", f"{middle[engine]:.2f}" if engine in middle else "")]
+    lines.append(["median of the ratios", "", "", *last])
     return told.table(head, lines)
 
 
@@ -127,17 +129,19 @@ def heap_table(results):
 def queries_text(results):
     parts = [origin(results), queries_table(results, "arrival", ENGINES)]
     parts.append(
-        "A time is the median over the turns of one further query, behind it its ratio to the C++ reference of the same "
-        "engine; `~` says that the turns do not tell it from 1."
+        "A time is the median over the turns of one further query, behind it its ratio to the C++ reference of the "
+        "same engine; `~` says that the turns do not tell it from 1."
     )
     if "cell" in states_of(results["queries"]):
-        parts += ["With one state for each cell (`states=cell`):", queries_table(results, "cell", JUMPS), cell_gain(results)]
+        parts.append("With one state for each cell (`states=cell`):")
+        parts += [queries_table(results, "cell", JUMPS), cell_gain(results)]
     if any(row["program"] == "pairing" for row in results["queries"]):
         parts.append(heap_table(results))
     for other in dict.fromkeys(row["program"] for row in results["queries"]):
         if other in ("jps", "reference", "pairing"):
             continue
-        found = ", ".join(f"`{engine}` {ratio:.2f}" for engine, ratio in medians(results["queries"], other=other).items())
+        middle = medians(results["queries"], other=other)
+        found = ", ".join(f"`{engine}` {ratio:.2f}" for engine, ratio in middle.items())
         parts.append(f"Beside the build {other}, the median of the ratios: {found}.")
     return parts
 
@@ -149,7 +153,9 @@ def told_queries(results):
     lines = [["Map", "Engine", "Program", "least", "lower quarter", "median", "ratio", "quarters of the turns"]]
     for row in results["queries"]:
         ratio = ratio_of(results["queries"], row["map"], row["engine"], row["states"], row["program"])
-        beside = [told.ratio_text(ratio), f"{ratio[1]:.2f} to {ratio[2]:.2f}"] if row["program"] != "reference" else ["", ""]
+        beside = [told.ratio_text(ratio), f"{ratio[1]:.2f} to {ratio[2]:.2f}"]
+        if row["program"] == "reference":
+            beside = ["", ""]
         engine = engine_words(row)
         lines.append([row["map"], engine, row["program"], *map(told.micros, told.spread(row["per_query"])), *beside])
     widths = [max(len(line[place]) for line in lines) for place in range(len(lines[0]))]
@@ -189,8 +195,10 @@ def counts_text(results):
             own, theirs = row["per_query"][name], other["per_query"][name]
             line.append(f"{told.three(own / 1e3)} ({own / theirs:.2f})" if theirs > 0 else told.three(own / 1e3))
         lines.append(line)
-    by = "`perf stat`" if results["counts"]["by"] == "perf" else "valgrind's callgrind, whose caches and guesses are a model"
-    words = f"Thousands for each further query, in brackets the ratio to the reference's; counted by {by}, on fewer entries."
+    model = "valgrind's callgrind, whose caches and guesses are a model"
+    by = "`perf stat`" if results["counts"]["by"] == "perf" else model
+    words = "Thousands for each further query, in brackets the ratio to the reference's; counted on fewer entries by "
+    words += f"{by}."
     return ["## Counts beside the reference", words, told.table(["Map", "Engine", *names], lines)]
 
 
@@ -233,7 +241,8 @@ def libraries_text(results):
         lines.append([name_of(name), *(", ".join(map(told.times_as_long, pair)) if pair else "" for pair in pairs)])
     wrong = sorted({row["library"] for row in results["libraries"]["rows"] if row.get("wrong")})
     agree = f"Other lengths were told by {', '.join(wrong)}." if wrong else "All lengths agreed."
-    words = f"How many times as long a library takes as the program's `plain` and as its `block`, on the same queries. {agree}"
+    words = "How many times as long a library takes as the program's `plain` and as its `block`, on the same queries. "
+    words += agree
     return [words, told.table(["Map", *names], lines)]
 
 
@@ -389,13 +398,15 @@ def blocks_of(results, pictures):
         words = "How many states `plain` and `block` take, by the length of the walk:"
         seen = picture("taken", pictures, "taken states against the length of the walk, a box for each map")
         speed["taken"] = ["## Taken states", words, *seen]
-    return {page: {name: "\n\n".join(parts) for name, parts in found.items() if parts} for page, found in blocks.items()}
+    joined = lambda found: {name: "\n\n".join(parts) for name, parts in found.items() if parts}
+    return {page: joined(found) for page, found in blocks.items()}
 
 
 def with_block(text, name, block):
     """The page with this block between its marks; a page without these marks stays as it is."""
     mark = f"<!--bench:{name}-->"
-    return re.sub(rf"^{mark}$.*?^<!--/bench-->$", lambda _: f"{mark}\n\n{block}\n\n<!--/bench-->", text, flags=re.M | re.S)
+    end = "<!--/bench-->"
+    return re.sub(rf"^{mark}$.*?^{end}$", lambda _: f"{mark}\n\n{block}\n\n{end}", text, flags=re.M | re.S)
 
 
 def write_pages(results, top):

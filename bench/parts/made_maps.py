@@ -101,7 +101,8 @@ def draw_polygon(rows, points, byte):
 
 def draw_house(rows, x, y, half_width, half_height, angle):
     cosine, sine = math.cos(angle), math.sin(angle)
-    corners = ((-half_width, -half_height), (half_width, -half_height), (half_width, half_height), (-half_width, half_height))
+    right, down = half_width, half_height
+    corners = ((-right, -down), (right, -down), (right, down), (-right, down))
     draw_polygon(rows, [(x + a * cosine - b * sine, y + a * sine + b * cosine) for a, b in corners], WALL)
 
 

@@ -22,10 +22,9 @@ def spread(values):
 
 
 def ratio(values, others):
-    """The ratio of the medians; and the quarters of the ratios of turns, by which it is told whether it differs from 1."""
+    """Each turn has its ratio: their median, and the quarters, by which it is told whether it differs from 1."""
     turns = [one / other for one, other in zip(values, others) if other > 0]
-    low, high = (quarter(turns), quarter(turns, 0.75)) if turns else (0.0, 0.0)
-    return median(values) / median(others), low, high
+    return (median(turns), quarter(turns), quarter(turns, 0.75)) if turns else (0.0, 0.0, 0.0)
 
 
 def differs(told):

@@ -27,6 +27,9 @@ SLOW, SLOW_TURNS = ("boxes", "moves"), 3
 COUNTED_SECONDS = 0.06
 FEWEST_COUNTED, MOST_COUNTED = 3, 60
 
+# What tells a row of the results.
+KEYS = ("map", "engine", "states", "program")
+
 
 class Variant:
     """An engine with its states: `arrival` has a state for each cell and arrival, `cell` one for each cell."""
@@ -69,7 +72,8 @@ class Case:
         self.row = {"map": name, "engine": variant.engine, "states": variant.states, "program": contestant.name}
         self.rest = len(lines) * repeats - 1
         map_path = run.inputs.map_path(name)
-        self.calls = {"whole": contestant.scen(map_path, whole, variant), "first": contestant.scen(map_path, first, variant)}
+        files = {"whole": whole, "first": first}
+        self.calls = {kind: contestant.scen(map_path, path, variant) for kind, path in files.items()}
         self.seconds = {"whole": [], "first": []}
         self.clock = {"whole": [], "first": []}
 
@@ -198,7 +202,8 @@ def command_calls(run, side):
     ends = lines[-1].split("\t")[4:8]
     certificate = run.scratch.path("certificate")
     measure.seconds_of([run.program, "prove", str(city), *ends], keep=certificate)
-    x, y = map(str, free_cells(small, 1, 1)[0])
+    x, y = free_cells(small, 1, 1)[0]
+    one = run.scratch.write("one.scen", f"version 1\n0\tmap\t128\t128\t{x}\t{y}\t{x}\t{y}\t0\n")
     return {
         "make": [run.program, "make", "1", str(side), str(side), "25"],
         "draw": [run.program, "draw", str(city), *ends],
@@ -208,8 +213,8 @@ def command_calls(run, side):
         "costs": [run.program, "costs", str(path), "0", "0"],
         "tables": [run.program, "tables", str(path)],
         "problems": [run.program, "problems", str(city), "1", "1000"],
-        "boxes": [run.program, "query", str(small), x, y, x, y, "engine=boxes"],
-        "moves": [run.program, "query", str(small), x, y, x, y, "engine=moves"],
+        "boxes": [run.program, "scen", str(small), str(one), "engine=boxes"],
+        "moves": [run.program, "scen", str(small), str(one), "engine=moves"],
     }
 
 
@@ -218,11 +223,13 @@ def edit_calls(run, side):
     scattered, empty = made_map(run, f"scattered{side}", 1, side, 25), made_map(run, f"open{side}", 1, side, 0)
     middle = [(side // 2, side // 2)]
     calls = {}
-    for engine, count in (("block", 5000), ("plus", 1000)):
+    for engine, count in (("block", 100_000), ("plus", 10_000)):
         script, edits = edit_script(run, f"scattered-{engine}", free_cells(scattered, count, 2))
-        calls[f"edit, scattered, {engine}"] = ([run.program, "solve", str(scattered), str(script), f"engine={engine}"], edits)
+        words = [run.program, "solve", str(scattered), str(script), f"engine={engine}"]
+        calls[f"edit, scattered, {engine}"] = (words, edits)
         script, edits = edit_script(run, f"open-{engine}", middle * (count if engine == "block" else 2))
-        calls[f"edit, open, {engine}"] = ([run.program, "solve", str(empty), str(script), f"engine={engine}"], edits)
+        words = [run.program, "solve", str(empty), str(script), f"engine={engine}"]
+        calls[f"edit, open, {engine}"] = (words, edits)
     return calls
 
 
@@ -354,12 +361,10 @@ def library_cases(run):
 
 def repeats_for(run, name, variant, contestant, count):
     """How often so few entries are repeated, by what a query took before; its number tells these files apart."""
-    known = [
-        min(row["per_query"])
-        for row in run.results["queries"]
-        if (row["map"], row["engine"], row["states"], row["program"]) == (name, variant.engine, variant.states, contestant.name)
-    ]
-    once = count * max(known[0], 1e-6) if known else run.least_seconds
+    wanted = {"map": name, "engine": variant.engine, "states": variant.states, "program": contestant.name}
+    rows = run.results.get("queries", [])
+    known = [min(row["per_query"]) for row in rows if all(row[key] == value for key, value in wanted.items())]
+    once = count * max(known[0], 1e-6) if known else run.least_seconds / 20
     return max(1, int(run.least_seconds / once) + 1)
 
 
@@ -370,7 +375,8 @@ def libraries(run):
     calls = [lambda words=words, row=row: ask_library(words, row) for (_, _, words), row in zip(jobs, rows)]
     calls += [lambda case=case, kind=kind: case.call(kind) for case in cases for kind in case.calls]
     take_turns(run, calls, run.turns)
-    run.results["libraries"] = {"rows": rows, "beside": [{**case.result(), "asked": case.row["asked"]} for case in cases]}
+    beside = [{**case.result(), "asked": case.row["asked"]} for case in cases]
+    run.results["libraries"] = {"rows": rows, "beside": beside}
 
 
 # ---------------------------------------------------------------- counts, taken states
@@ -385,7 +391,8 @@ def counted_row(run, name, variant, contestant, seconds):
     first = run.scratch.write(f"{stem}-first.scen", head + chosen[0])
     map_path = run.inputs.map_path(name)
     more, less = (measure.counted(run.counter, contestant.scen(map_path, path, variant)) for path in (whole, first))
-    row = {"map": name, "engine": variant.engine, "states": variant.states, "program": contestant.name, "entries": len(chosen)}
+    row = {"map": name, "engine": variant.engine, "states": variant.states, "program": contestant.name}
+    row["entries"] = len(chosen)
     if more and less:
         row["per_query"] = {key: (more[key] - less[key]) / (len(chosen) - 1) for key in more}
         row["first"] = less
@@ -393,12 +400,15 @@ def counted_row(run, name, variant, contestant, seconds):
 
 
 def reference_seconds(run):
-    """What a query took the reference, by map, engine and states: by it the counted entries are chosen, alike for all."""
-    return {
-        (row["map"], row["engine"], row["states"]): max(min(row["per_query"]), 1e-6)
-        for row in run.results["queries"]
-        if row["program"] == "reference"
-    }
+    """What a query took the reference, by map, engine and states: by it the counted entries are chosen, alike for all.
+
+    Where no queries were measured the fewest are counted.
+    """
+    found = {(name, it.engine, it.states): COUNTED_SECONDS for name in run.maps for it in run.variants}
+    for row in run.results.get("queries", []):
+        if row["program"] == "reference":
+            found[row["map"], row["engine"], row["states"]] = max(min(row["per_query"]), 1e-6)
+    return found
 
 
 def counts(run):
@@ -408,7 +418,8 @@ def counts(run):
         run.tell("nothing is counted: neither may perf count here, nor does valgrind run")
         return
     seconds = reference_seconds(run)
-    jobs = [(name, variant, contestant) for name in run.maps for variant in run.variants for contestant in run.contestants[:2]]
+    pairs = [(name, variant) for name in run.maps for variant in run.variants]
+    jobs = [(*pair, contestant) for pair in pairs for contestant in run.contestants[:2]]
     done = 0
     jobs_at_once = 1 if run.counter == "perf" else run.jobs  # real caches are shared
     with concurrent.futures.ThreadPoolExecutor(jobs_at_once) as pool:
@@ -417,7 +428,8 @@ def counts(run):
             run.results["counts"]["rows"].append(it.result())
             done += 1
             run.progress.step(done / len(jobs))
-    run.results["counts"]["rows"].sort(key=lambda row: [str(row[key]) for key in ("map", "engine", "states", "program")])
+    order = [(name, variant.engine, variant.states, contestant.name) for name, variant, contestant in jobs]
+    run.results["counts"]["rows"].sort(key=lambda row: order.index(tuple(row[key] for key in KEYS)))
 
 
 def taken(run):
@@ -427,7 +439,8 @@ def taken(run):
     for place, name in enumerate(run.maps):
         for variant in kinds:
             kept = run.scratch.path("taken")
-            words = run.contestants[0].scen(run.inputs.map_path(name), run.inputs.scenario_path(name), variant, "show=taken")
+            files = run.inputs.map_path(name), run.inputs.scenario_path(name)
+            words = run.contestants[0].scen(*files, variant, "show=taken")
             measure.seconds_of(words, keep=kept)
             points = []
             for line in kept.read_text().splitlines():

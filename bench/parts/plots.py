@@ -10,7 +10,7 @@ import numbers_of as told
 COLOURS = {"plain": "#0072B2", "jps": "#E69F00", "block": "#009E73", "plus": "#CC79A7"}
 INK, PALE = "#333", "#ddd"
 
-# In the picture of taken states: one state for each cell has a colour of its own, as its dots are too small to be rings.
+# In the picture of taken states one state for each cell has a colour of its own: its dots are too small to be rings.
 TAKEN_COLOURS = {("plain", "arrival"): "#0072B2", ("block", "arrival"): "#009E73", ("block", "cell"): "#D55E00"}
 MOST_DOTS = 150
 
