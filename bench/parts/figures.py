@@ -64,14 +64,15 @@ def medians(rows, states="arrival", other="reference", engines=ENGINES):
 def origin(results):
     """One line that says of which run the figures are."""
     facts = results["facts"]
-    changed = ", with changes" if facts["changed"] else ""
     load = results.get("load", {}).get("before", {}).get("load", "unknown")
-    return (
-        f"Measured {results['began']} by `bench/run` on commit {facts['commit'][:8]}{changed}: {facts['program']}, "
-        f"{facts['processor']['name']} ({facts['processor']['count']} processors, pinned to one), "
-        f"load at the start {load}, {facts['compiler']} `{facts['options']}`, {results['turns']} turns in random order. All figures: "
-        "[bench/results](../bench/results/latest.json)."
-    )
+    words = [
+        f"Measured {results['began']} by `bench/run` on commit {facts['commit'][:8]}",
+        ", with changes: " if facts["changed"] else ": ",
+        f"{facts['program']}, {facts['processor']['name']} ({facts['processor']['count']} processors, pinned to one), ",
+        f"load at the start {load}, {facts['compiler']} `{facts['options']}`, ",
+        f"{results['turns']} turns in random order. All figures: [bench/results](../bench/results/latest.json).",
+    ]
+    return "".join(words)
 
 
 def queries_table(results, states, engines):
@@ -398,8 +399,10 @@ def blocks_of(results, pictures):
         words = "How many states `plain` and `block` take, by the length of the walk:"
         seen = picture("taken", pictures, "taken states against the length of the walk, a box for each map")
         speed["taken"] = ["## Taken states", words, *seen]
-    joined = lambda found: {name: "\n\n".join(parts) for name, parts in found.items() if parts}
-    return {page: joined(found) for page, found in blocks.items()}
+    for found in blocks.values():
+        for name in list(found):
+            found[name] = "\n\n".join(found[name]) if found[name] else None
+    return blocks
 
 
 def with_block(text, name, block):
@@ -418,6 +421,8 @@ def write_pages(results, top):
         path = top / page
         text = path.read_text()
         for name, block in blocks.items():
+            if not block:                                    # the part found nothing that it could measure
+                continue
             if f"<!--bench:{name}-->" not in text:
                 print(f"bench: {page} has no mark for {name}")
             text = with_block(text, name, block)
