@@ -116,24 +116,24 @@ def make_cases(run, pairs, contestants):
         entries, repeats = calibrated(run, name, variant, contestants)
         chosen = [it for it in contestants if variant.engine in it.engines]
         cases += [Case(run, name, variant, contestant, entries, repeats) for contestant in chosen]
-        run.progress.step(0.1 * (place + 1) / len(pairs))
+        run.progress.step((place + 1) / len(pairs) / (run.turns + 1))
     return cases
 
 
-def take_turns(run, calls, turns):
-    """Each call once in each turn, in random order; tells how far it is after each call."""
+def take_turns(run, calls, turns, begun=0.0):
+    """Each call once in each turn, in random order; tells how far it is after each call, from `begun` on."""
     for turn in range(turns):
         order = calls[:]
         run.random.shuffle(order)
         for place, call in enumerate(order):
             call()
-            run.progress.step(0.1 + 0.9 * (turn + (place + 1) / len(order)) / turns)
+            run.progress.step(begun + (1 - begun) * (turn + (place + 1) / len(order)) / turns)
 
 
 def time_queries(run, pairs, contestants):
     cases = make_cases(run, pairs, contestants)
     calls = [lambda case=case, kind=kind: case.call(kind) for case in cases for kind in case.calls]
-    take_turns(run, calls, run.turns)
+    take_turns(run, calls, run.turns, begun=1 / (run.turns + 1))     # all were called once by now
     return [case.result() for case in cases]
 
 
