@@ -353,7 +353,7 @@ def library_cases(run):
             for variant in (Variant("plain"), Variant("block")):
                 for contestant in run.contestants[:2]:
                     repeats = repeats_for(run, name, variant, contestant, count)
-                    case = Case(run, f"{name}", variant, contestant, few, repeats)
+                    case = Case(run, name, variant, contestant, few, repeats)
                     case.row["asked"] = count
                     cases.append(case)
     return cases
@@ -375,6 +375,9 @@ def libraries(run):
     calls = [lambda words=words, row=row: ask_library(words, row) for (_, _, words), row in zip(jobs, rows)]
     calls += [lambda case=case, kind=kind: case.call(kind) for case in cases for kind in case.calls]
     take_turns(run, calls, run.turns)
+    for row in rows:
+        if "fault" in row:
+            run.tell(f"{row['library']} gave no times on {row['map']}: {row['fault']}")
     beside = [{**case.result(), "asked": case.row["asked"]} for case in cases]
     run.results["libraries"] = {"rows": rows, "beside": beside}
 
