@@ -684,14 +684,17 @@ struct PairingHeap {
         items.clear();
         root = NIL;
     }
-    INLINE u32 join(u32 one, u32 other) {                    // the later one of the two becomes a child
-        if (before(items[other], items[one])) std::swap(one, other);
-        Item &top = items[one], &below = items[other];
-        below.next = top.child;
-        below.previous = one;
-        if (top.child != NIL) items[top.child].previous = other;
-        top.child = other;
-        return one;
+    // Joins two trees, told by their roots; the later root becomes the first child of the other. Which is which is
+    // chosen without a branch, as no guess of it would be good.
+    INLINE u32 join(u32 one, u32 other) {
+        const u32 swap = (one ^ other) & -u32(before(items[other], items[one]));
+        const u32 top = one ^ swap, below = other ^ swap;
+        const u32 child = items[top].child;
+        items[below].next = child;
+        items[below].previous = top;
+        if (child != NIL) items[child].previous = below;
+        items[top].child = below;
+        return top;
     }
     INLINE void add(u32 node, u32 state, double sum) {       // nodes come in order: 0, 1, 2 ..
         items.push_back(Item{bits_of(sum), state, NIL, NIL, NIL});
@@ -707,20 +710,26 @@ struct PairingHeap {
         if (item.next != NIL) items[item.next].previous = item.previous;
         root = join(root, node);
     }
+    // Joins the children of the root by two from the first on, then all pairs from the last one back.
     INLINE u32 pop() {
-        u32 top = root, pairs = NIL;
+        const u32 top = root;
         if (top == NIL) return NIL;
-        for (u32 one = items[top].child; one != NIL;) {      // join the children by two, then all pairs from the last
-            u32 other = items[one].next, rest = other == NIL ? NIL : items[other].next;
-            u32 pair = other == NIL ? one : join(one, other);
+        u32 left = items[top].child, pairs = NIL;
+        while (left != NIL) {
+            u32 pair = left, other = items[pair].next;
+            left = other;
+            if (other != NIL) {
+                left = items[other].next;
+                pair = join(pair, other);
+            }
             items[pair].next = pairs;
             pairs = pair;
-            one = rest;
         }
-        root = NIL;
-        while (pairs != NIL) {
-            u32 rest = items[pairs].next;
-            root = root == NIL ? pairs : join(root, pairs);
+        root = pairs;
+        if (root == NIL) return top;
+        for (pairs = items[root].next; pairs != NIL;) {
+            const u32 rest = items[pairs].next;
+            root = join(root, pairs);
             pairs = rest;
         }
         return top;
