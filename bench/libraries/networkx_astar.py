@@ -41,16 +41,16 @@ def octile(one, other):
 
 
 def main():
-    began = time.perf_counter()
+    began = time.process_time()
     graph = graph_of(free_cells(sys.argv[1]))
     with open(sys.argv[2], encoding="utf-8") as file:
         entries = [line.split("\t") for line in file.read().splitlines()[1:]]
-    prepared, spent, wrong = time.perf_counter() - began, 0.0, 0
+    prepared, spent, wrong = time.process_time() - began, 0.0, 0
     for fields in entries:
         start_x, start_y, goal_x, goal_y = (int(it) for it in fields[4:8])
-        before = time.perf_counter()
+        before = time.process_time()
         length = networkx.astar_path_length(graph, (start_x, start_y), (goal_x, goal_y), heuristic=octile)
-        spent += time.perf_counter() - before
+        spent += time.process_time() - before
         wrong += abs(length - float(fields[8])) > 1e-6 * (1 + float(fields[8]))
     print(json.dumps({"queries": len(entries), "prepared": prepared, "mean": spent / len(entries), "wrong": wrong}))
 

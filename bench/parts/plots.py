@@ -62,6 +62,11 @@ class Panel:
         self.parts.append(f'<polyline points="{places}" fill="none" stroke="{colour}" stroke-width="1.5"{dash}/>')
 
 
+def short_name(name):
+    """How a map is told, without where it comes from."""
+    return inputs.TOLD.get(name, name).split(" (")[0]
+
+
 def powers(low, high):
     """The powers of ten from the first at or below one number to the first at or above another."""
     first, last = math.floor(math.log10(low)), math.ceil(math.log10(high))
@@ -101,7 +106,7 @@ def times_picture(results):
     for tick in ticks:
         panel.line_down(tick, told.tick(tick))
     for place, name in enumerate(names):
-        panel.line_across(len(names) - place - 0.5, inputs.TOLD.get(name, name))
+        panel.line_across(len(names) - place - 0.5, short_name(name))
         for row in rows:
             if row["map"] == name:
                 value, hollow = told.median(row["per_query"]), row["states"] == "cell"
@@ -149,7 +154,7 @@ def taken_panel(name, rows, left, top):
         panel.line_across(tick, short_number(tick))
     for share in (0, 0.5, 1):
         panel.line_down(longest * share, f"{longest * share:,.0f}")
-    panel.text(left, top - 6, inputs.TOLD.get(name, name).split(" (")[0])
+    panel.text(left, top - 6, short_name(name))
     for row in rows:
         shown = inputs.evenly([point for point in row["points"] if point[1] > 0], MOST_DOTS)
         panel.dots(shown, TAKEN_COLOURS[row["engine"], row["states"]])

@@ -1,7 +1,17 @@
 //! petgraph: astar on a built graph, with hash maps inside.    petgraph_astar MAP SCEN
 
 use petgraph::graph::{NodeIndex, UnGraph};
-use std::time::Instant;
+
+extern "C" {
+    /// The processor time of the process, in microseconds on Linux.
+    fn clock() -> i64;
+}
+
+/// The processor time of the process, in seconds.
+fn now() -> f64 {
+    // SAFETY: it has no parameters and changes nothing.
+    unsafe { clock() as f64 / 1e6 }
+}
 
 const SQRT2: f64 = std::f64::consts::SQRT_2;
 
@@ -61,11 +71,11 @@ impl Map {
 
 fn main() {
     let words: Vec<String> = std::env::args().collect();
-    let began = Instant::now();
+    let began = now();
     let map = Map::read(&words[1]);
     let graph = map.graph();
     let scenario = std::fs::read_to_string(&words[2]).expect("the scenario can be read");
-    let prepared = began.elapsed().as_secs_f64();
+    let prepared = now() - began;
     let (mut count, mut sum, mut wrong) = (0, 0.0, 0);
     for line in scenario.lines().skip(1) {
         let fields: Vec<&str> = line.split('\t').collect();
@@ -73,10 +83,10 @@ fn main() {
         let length: f64 = fields[8].parse().expect("an entry has a length");
         let start = NodeIndex::new(number(5) * map.width + number(4));
         let goal = NodeIndex::new(number(7) * map.width + number(6));
-        let before = Instant::now();
+        let before = now();
         let place = graph[goal];
         let found = petgraph::algo::astar(&graph, start, |it| it == goal, |edge| *edge.weight(), |it| octile(graph[it], place));
-        sum += before.elapsed().as_secs_f64();
+        sum += now() - before;
         count += 1;
         let told = found.map_or(-1.0, |it| it.0);
         wrong += usize::from((told - length).abs() > 1e-6 * (1.0 + length));
