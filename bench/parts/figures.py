@@ -196,6 +196,8 @@ def counts_text(results):
             own, theirs = row["per_query"][name], other["per_query"][name]
             line.append(f"{told.three(own / 1e3)} ({own / theirs:.2f})" if theirs > 0 else told.three(own / 1e3))
         lines.append(line)
+    if not lines:
+        return None
     model = "valgrind's callgrind, whose caches and guesses are a model"
     by = "`perf stat`" if results["counts"]["by"] == "perf" else model
     words = "Thousands for each further query, in brackets the ratio to the reference's; counted on fewer entries by "

@@ -20,8 +20,8 @@ import programs
 # The least seconds that a call with all entries should search, so that it stands above the start of the process.
 LEAST_SECONDS = 0.3
 
-# Commands that take seconds are called in the first turns only.
-SLOW, SLOW_TURNS = ("boxes", "moves"), 3
+# Commands and libraries that take many seconds are called in the first turns only.
+SLOW, SLOW_TURNS = ("boxes", "moves", "networkx A*"), 3
 
 # The most instructions of one counted call, by about: valgrind takes a hundred times as long as the processor.
 COUNTED_SECONDS = 0.06
@@ -332,6 +332,8 @@ def library_jobs(run):
 
 def ask_library(words, row):
     """One call of a library's program, which prints a line of JSON with its own times."""
+    if row["library"] in SLOW and len(row["per_query"]) >= SLOW_TURNS:
+        return
     done = subprocess.run(words, stdout=subprocess.PIPE, stderr=subprocess.PIPE, text=True, check=False)
     told = [line for line in done.stdout.splitlines() if line.startswith("{")]
     if not told:
@@ -431,6 +433,9 @@ def counts(run):
             run.results["counts"]["rows"].append(it.result())
             done += 1
             run.progress.step(done / len(jobs))
+    silent = sum("per_query" not in row for row in run.results["counts"]["rows"])
+    if silent:
+        run.tell(f"{silent} of {len(jobs)} counts gave no numbers")
     order = [(name, variant.engine, variant.states, contestant.name) for name, variant, contestant in jobs]
     run.results["counts"]["rows"].sort(key=lambda row: order.index(tuple(row[key] for key in KEYS)))
 
