@@ -47,13 +47,18 @@ def seconds_of(words, keep=None, statuses=(0, 1), stdin=None):
 
 
 def load():
-    """The load of the last minute, and the share of the time that other machines took, since the start."""
-    stolen = 0.0
+    """The load of the last minute; and the ticks since the start, in all and those that other machines took."""
+    told = {"load": round(os.getloadavg()[0], 2), "ticks": 0, "stolen": 0}
     stat = pathlib.Path("/proc/stat")
     if stat.exists():
-        ticks = [int(it) for it in stat.read_text().split("\n")[0].split()[1:]]
-        stolen = ticks[7] / max(1, sum(ticks[:8])) if len(ticks) > 7 else 0.0
-    return {"load": round(os.getloadavg()[0], 2), "stolen": round(stolen, 4)}
+        ticks = [int(it) for it in stat.read_text().split("\n")[0].split()[1:9]]
+        told["ticks"], told["stolen"] = sum(ticks), ticks[7] if len(ticks) > 7 else 0
+    return told
+
+
+def stolen_share(before, after):
+    """Which share of the time other machines took in between."""
+    return (after["stolen"] - before["stolen"]) / max(1, after["ticks"] - before["ticks"])
 
 
 # ---------------------------------------------------------------- counts
