@@ -11,7 +11,7 @@ import subprocess
 
 TOP = pathlib.Path(__file__).resolve().parent.parent
 AT_THE_TOP = ("README.md", "CONTRIBUTING.md", "CHANGELOG.md")
-BELOW = ("docs/*.md", "examples/README.md", "examples/*/README.md", "crates/*/README.md")
+BELOW = ("docs/*.md", "examples/README.md", "examples/*/README.md", "crates/*/README.md", "bench/README.md", "page/README.md")
 
 
 def pages():

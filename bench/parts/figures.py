@@ -1,0 +1,432 @@
+"""The tables of README and docs/SPEED.md, made of the results and put between marks in the pages.
+
+A mark is a line `<!--bench:NAME-->`; what stands between it and the next line `<!--/bench-->` is written anew each
+time, and nothing else of a page is touched. Parts that a run has not measured stay as they are.
+"""
+
+import re
+
+import inputs
+import numbers_of as told
+import plots
+
+ENGINES = ("plain", "jps", "block", "plus")
+JUMPS = ENGINES[1:]
+MOST = 1.15                              # above this the part of the open list is told
+
+
+def find(rows, **wanted):
+    """The row that has these values, or None."""
+    return next((row for row in rows if all(row.get(key) == value for key, value in wanted.items())), None)
+
+
+def name_of(name):
+    return inputs.TOLD.get(name, name)
+
+
+def engine_words(row):
+    return f"{row['engine']} states=cell" if row["states"] == "cell" else row["engine"]
+
+
+def cells_of(results, name):
+    size = results["maps"][name]
+    return f"{size['width']} x {size['height']}"
+
+
+def maps_of(rows):
+    return list(dict.fromkeys(row["map"] for row in rows))
+
+
+def states_of(rows):
+    return list(dict.fromkeys(row["states"] for row in rows if row["engine"] != "plain"))
+
+
+def ratio_of(rows, name, engine, states, one="jps", other="reference"):
+    """The ratio of two programs on a map, where both were measured."""
+    key = {"map": name, "engine": engine, "states": states}
+    mine, theirs = find(rows, program=one, **key), find(rows, program=other, **key)
+    return told.ratio(mine["per_query"], theirs["per_query"]) if mine and theirs else None
+
+
+def medians(rows, states="arrival", other="reference", engines=ENGINES):
+    """For each engine the median over the maps of the ratios to another program."""
+    found = {}
+    for engine in engines:
+        ratios = [ratio_of(rows, name, engine, states, other=other) for name in maps_of(rows)]
+        ratios = [it[0] for it in ratios if it]
+        if ratios:
+            found[engine] = told.median(ratios)
+    return found
+
+
+# ---------------------------------------------------------------- times of queries
+
+def origin(results):
+    """One line that says of which run the figures are."""
+    facts = results["facts"]
+    load = results.get("load", {}).get("before", {}).get("load", "unknown")
+    words = [
+        f"Measured {results['began']} by `bench/run` on commit {facts['commit'][:8]}",
+        ", with changes: " if facts["changed"] else ": ",
+        f"{facts['program']}, {facts['processor']['name']} ({facts['processor']['count']} processors, pinned to one), ",
+        f"load at the start {load}, {facts['compiler']} `{facts['options']}`, ",
+        f"{results['turns']} turns in random order. All figures: [bench/results](../bench/results/latest.json).",
+    ]
+    return "".join(words)
+
+
+def queries_table(results, states, engines):
+    """Each map by each engine: the median time of a further query, and its ratio to the reference."""
+    rows = results["queries"]
+    head = ["Map", "Cells", "Queries", *(word for engine in engines for word in (f"`{engine}`", "ratio"))]
+    lines = []
+    for name in maps_of(rows):
+        line = [name_of(name), cells_of(results, name), results["maps"][name]["entries"]]
+        for engine in engines:
+            key = "arrival" if engine == "plain" else states
+            mine = find(rows, map=name, engine=engine, states=key, program="jps")
+            ratio = ratio_of(rows, name, engine, key)
+            line.append(told.micros(told.median(mine["per_query"])) if mine else "")
+            line.append(told.ratio_text(ratio) if ratio else "")
+        lines.append(line)
+    middle = medians(rows, states, engines=engines)
+    last = [word for engine in engines for word in ("", f"{middle[engine]:.2f}" if engine in middle else "")]
+    lines.append(["median of the ratios", "", "", *last])
+    return told.table(head, lines)
+
+
+def cell_gain(results):
+    """How the time with one state for each cell compares with that with one for each arrival."""
+    rows = results["queries"]
+    lines = []
+    for name in maps_of(rows):
+        line = [name_of(name)]
+        for engine in JUMPS:
+            pair = [find(rows, map=name, engine=engine, states=it, program="jps") for it in ("cell", "arrival")]
+            line.append(told.ratio_text(told.ratio(*(it["per_query"] for it in pair))) if all(pair) else "")
+        lines.append(line)
+    return told.table(["Time with `states=cell` over that without", *(f"`{it}`" for it in JUMPS)], lines)
+
+
+def heap_table(results):
+    """Where an engine takes more than 1.15 of the reference's time: which part is the kind of open list."""
+    rows = results["queries"]
+    lines = []
+    for name in maps_of(rows):
+        for states in states_of(rows):
+            for engine in JUMPS:
+                whole = ratio_of(rows, name, engine, states)
+                heap = ratio_of(rows, name, engine, states, "pairing", "reference")
+                rest = ratio_of(rows, name, engine, states, "jps", "pairing")
+                if whole and heap and rest and whole[0] > MOST:
+                    words = engine_words({"engine": engine, "states": states})
+                    lines.append([name_of(name), f"`{words}`", *(told.ratio_text(it) for it in (whole, heap, rest))])
+    if not lines:
+        return f"No engine takes more than {MOST} of the reference's time on any of these maps."
+    head = ["Map", "Engine", "Beside the reference", "of it the kind of open list", "the rest"]
+    return f"Where it takes more than {MOST} of the reference's time:\n\n" + told.table(head, lines)
+
+
+def queries_text(results):
+    parts = [origin(results), queries_table(results, "arrival", ENGINES)]
+    parts.append(
+        "A time is the median over the turns of one further query, behind it its ratio to the C++ reference of the "
+        "same engine; `~` says that the turns do not tell it from 1."
+    )
+    if "cell" in states_of(results["queries"]):
+        parts.append("With one state for each cell (`states=cell`):")
+        parts += [queries_table(results, "cell", JUMPS), cell_gain(results)]
+    if any(row["program"] == "pairing" for row in results["queries"]):
+        parts.append(heap_table(results))
+    for other in dict.fromkeys(row["program"] for row in results["queries"]):
+        if other in ("jps", "reference", "pairing"):
+            continue
+        middle = medians(results["queries"], other=other)
+        found = ", ".join(f"`{engine}` {ratio:.2f}" for engine, ratio in middle.items())
+        parts.append(f"Beside the build {other}, the median of the ratios: {found}.")
+    return parts
+
+
+def told_queries(results):
+    """What a run prints: the rows with their spread."""
+    if "queries" not in results:
+        return "no queries were measured"
+    lines = [["Map", "Engine", "Program", "least", "lower quarter", "median", "ratio", "quarters of the turns"]]
+    for row in results["queries"]:
+        ratio = ratio_of(results["queries"], row["map"], row["engine"], row["states"], row["program"])
+        beside = [told.ratio_text(ratio), f"{ratio[1]:.2f} to {ratio[2]:.2f}"]
+        if row["program"] == "reference":
+            beside = ["", ""]
+        engine = engine_words(row)
+        lines.append([row["map"], engine, row["program"], *map(told.micros, told.spread(row["per_query"])), *beside])
+    widths = [max(len(line[place]) for line in lines) for place in range(len(lines[0]))]
+    return "\n".join("  ".join(word.ljust(width) for word, width in zip(line, widths)).rstrip() for line in lines)
+
+
+# ---------------------------------------------------------------- spread and counts
+
+def spread_text(results):
+    rows = results["queries"]
+    lines = []
+    for row in (row for row in rows if row["program"] == "jps"):
+        key = {it: row[it] for it in ("map", "engine", "states")}
+        other = find(rows, program="reference", **key)
+        ratio = told.ratio(row["per_query"], other["per_query"])
+        engine = engine_words(row)
+        own, theirs = (", ".join(told.micros(it)[:-3] for it in told.spread(it["per_query"])) for it in (row, other))
+        lines.append([name_of(row["map"]), f"`{engine}`", own, theirs, f"{ratio[1]:.2f} to {ratio[2]:.2f}"])
+    head = ["Map", "Engine", "least, lower quarter, median (us)", "the reference's", "quarters of the ratios of turns"]
+    return ["## How far the times spread", told.table(head, lines)]
+
+
+def counts_text(results):
+    rows = results["counts"]["rows"]
+    if not rows:
+        return None
+    kinds = ("instructions", "wrong branches", "near misses", "misses")
+    names = [it for it in kinds if any(it in row.get("per_query", {}) for row in rows)]
+    lines = []
+    for row in rows:
+        other = find(rows, program="reference", **{it: row[it] for it in ("map", "engine", "states")})
+        if row["program"] != "jps" or not (other and "per_query" in row and "per_query" in other):
+            continue
+        engine = engine_words(row)
+        line = [name_of(row["map"]), f"`{engine}`"]
+        for name in names:
+            own, theirs = row["per_query"][name], other["per_query"][name]
+            line.append(f"{told.three(own / 1e3)} ({own / theirs:.2f})" if theirs > 0 else told.three(own / 1e3))
+        lines.append(line)
+    if not lines:
+        return None
+    model = "valgrind's callgrind, whose caches and guesses are a model"
+    by = "`perf stat`" if results["counts"]["by"] == "perf" else model
+    words = "Thousands for each further query, in brackets the ratio to the reference's; counted on fewer entries by "
+    words += f"{by}."
+    return ["## Counts beside the reference", words, told.table(["Map", "Engine", *names], lines)]
+
+
+# ---------------------------------------------------------------- libraries
+
+def beside(results, name, asked, engine):
+    """The median time of a query of the program on the entries that a library was asked."""
+    rows = results["libraries"]["beside"]
+    row = find(rows, map=name, engine=engine, program="jps", asked=asked)
+    return told.median(row["per_query"]) if row else None
+
+
+def asked_of(library):
+    import programs
+
+    return programs.LIBRARIES[library][1]
+
+
+def library_ratios(results):
+    """For each map and library how many times as long as `plain` and as `block` of the program it takes."""
+    found = {}
+    for row in results["libraries"]["rows"]:
+        if not row["per_query"]:
+            continue
+        mean, asked = told.median(row["per_query"]), asked_of(row["library"])
+        pair = [beside(results, row["map"], asked, engine) for engine in ("plain", "block")]
+        if all(pair):
+            found[row["map"], row["library"]] = tuple(mean / it for it in pair)
+    return found
+
+
+def libraries_text(results):
+    found = library_ratios(results)
+    names = list(dict.fromkeys(library for _, library in found))
+    if not found:
+        return None
+    lines = []
+    for name in dict.fromkeys(name for name, _ in found):
+        pairs = [found.get((name, library)) for library in names]
+        lines.append([name_of(name), *(", ".join(map(told.times_as_long, pair)) if pair else "" for pair in pairs)])
+    wrong = sorted({row["library"] for row in results["libraries"]["rows"] if row.get("wrong")})
+    agree = f"Other lengths were told by {', '.join(wrong)}." if wrong else "All lengths agreed."
+    words = "How many times as long a library takes as the program's `plain` and as its `block`, on the same queries. "
+    words += agree
+    return [words, told.table(["Map", *names], lines)]
+
+
+# ---------------------------------------------------------------- starts, edits, pipe, growth, memory
+
+PROCESS_WORDS = {
+    "make": "`make` of {side} x {side}, a quarter blocked",
+    "draw": "`draw` of the city",
+    "prove": "`prove` of the city's longest query",
+    "check": "`check` of that certificate",
+    "costs": "`costs`: all least costs from a corner of an open map of {side} x {side}",
+    "tables": "`tables` of that map",
+    "problems": "`problems`: 1000 on the city",
+    "judge": "`judge`: 300 walks of the city",
+    "boxes": "all goal boxes of 128 x 128, a quarter blocked",
+    "moves": "all first moves of that map",
+}
+
+
+def process_words(name, side):
+    if name in PROCESS_WORDS:
+        return PROCESS_WORDS[name].format(side=side)
+    if name.startswith("first answer"):
+        return f"first answer on a map of {side} x {side}, a quarter blocked, by `{name.split(', ')[1]}`"
+    _, kind, engine = name.split(", ")
+    where = "on such a map" if kind == "scattered" else f"in the middle of an open map of {side} x {side}"
+    return f"one edit {where}, by `{engine}`"
+
+
+def processes_text(results):
+    side = results["processes"]["side"]
+    lines = []
+    for name, row in results["processes"]["rows"].items():
+        values = row["processor"]
+        clock = told.seconds(told.median(row["clock"])) if "clock" in row else ""
+        lines.append([process_words(name, side), *(told.seconds(max(it, 1e-9)) for it in told.spread(values)), clock])
+    head = ["What, the whole process but for edits", "least", "lower quarter", "median", "median by the clock"]
+    return [told.table(head, lines)]
+
+
+def pipe_text(results):
+    lines = []
+    for row in results["pipe"]:
+        engine = engine_words(row)
+        name = "neighbours on an open map" if row["map"] == "neighbours" else name_of(row["map"])
+        who = "the pipe alone (`cat`)" if engine == "cat" else f"`{engine}`"
+        lines.append([name, who, row["questions"], *(told.seconds(row[it]) for it in ("0.5", "0.99", "0.999"))])
+    head = ["Questions", "By", "How many", "median", "99 of 100 within", "999 of 1000 within"]
+    return ["## Answers through the pipe of `live`", told.table(head, lines)]
+
+
+def by_size(results, part, write):
+    """A table of one value for each size and engine."""
+    rows = results[part]
+    kinds = list(dict.fromkeys((row["engine"], row["states"]) for row in rows))
+    lines = []
+    for name in maps_of(rows):
+        found = [find(rows, map=name, engine=engine, states=states) for engine, states in kinds]
+        lines.append([cells_of(results, name), *(write(row) if row else "" for row in found)])
+    words = [engine_words({"engine": engine, "states": states}) for engine, states in kinds]
+    return told.table(["Cells", *(f"`{it}`" for it in words)], lines)
+
+
+def growth_text(results, pictures):
+    words = "Cities of five sizes, each with 40 queries spread over all lengths: the median time of a further query."
+    parts = ["## How it grows", words]
+    parts.append(by_size(results, "growth", lambda row: told.seconds(told.median(row["per_query"]))))
+    parts += picture("growth", pictures, "the time of a query by the side of the map, a line for each engine")
+    if results.get("memory"):
+        parts.append("The most memory that a `live` takes which has answered one of the longest queries:")
+        parts.append(by_size(results, "memory", lambda row: told.megabytes(row["peak"])))
+    return parts
+
+
+def picture(part, pictures, words):
+    return [f'<img src="../bench/results/{pictures[part]}" width="640" alt="{words}">'] if part in pictures else []
+
+
+# ---------------------------------------------------------------- README
+
+def reference_row(rows):
+    """How the program stands to the reference: the medians over the maps, and the least and largest ratio."""
+    mine = [row for row in rows if row["program"] == "jps" and row["states"] == "arrival"]
+    ratios = [ratio_of(rows, row["map"], row["engine"], row["states"])[0] for row in mine]
+    middle = ", ".join(f"`{engine}` {value:.2f}" for engine, value in medians(rows).items())
+    middle = middle.replace("` ", "` takes ", 1)
+    words = f"{middle} times as long (medians; single maps {min(ratios):.2f} to {max(ratios):.2f})"
+    return ["[our own C++ program](bench/reference) of the same engines", words]
+
+
+def library_words(found):
+    """The libraries in one line; behind those that were not asked on all maps, on how many they were."""
+    libraries = list(dict.fromkeys(library for _, library in found))
+    maps = [sum(other == library for _, other in found) for library in libraries]
+    names = [" ".join(library.split()[:-1]) for library in libraries]
+    return ", ".join(name if count == max(maps) else f"{name} ({count} maps)" for name, count in zip(names, maps))
+
+
+def library_row(results):
+    """The least and largest ratio of a library to `plain` and to `block`; networkx is too slow to stand here."""
+    found = {key: pair for key, pair in library_ratios(results).items() if not key[1].startswith("networkx")}
+    plain = [pair[0] for pair in found.values()]
+    block = [pair[1] for (name, _), pair in found.items() if name != "random25"]
+    if not plain or not block:
+        return None
+    words = [told.times_as_long(it) for it in (min(plain), max(plain), min(block), max(block))]
+    row = "they take {} to {} times as long as `plain`, {} to {} times as long as `block` but among scattered walls"
+    return [library_words(found), row.format(*words)]
+
+
+def readme_text(results):
+    """The rows of README. It may have few words, so there are as many as before."""
+    rows = [row for row in results["queries"] if row["program"] in ("jps", "reference")]
+    lines = [reference_row(rows), library_row(results) if "libraries" in results else None]
+    names = sorted(maps_of(rows), key=lambda name: results["maps"][name]["width"] * results["maps"][name]["height"])
+    sizes = [cells_of(results, name).replace("x", "×") for name in (names[0], names[-1])]
+    head = f"On {len(names)} maps, from {sizes[0]} to {sizes[1]} cells, none of them the benchmark's"
+    mine = [row for row in rows if row["program"] == "jps"]
+    quick, slow = (choose(mine, key=lambda row: told.median(row["per_query"])) for choose in (min, max))
+    last = f"A query takes from {mean_words(quick)} to {mean_words(slow)}.".replace(" us ", " µs ")
+    return [told.table(["Beside", head], [line for line in lines if line]), last]
+
+
+def mean_words(row):
+    short = name_of(row["map"]).split(" (")[0].split(",")[0]
+    engine = engine_words(row)
+    return f"{told.seconds(told.median(row['per_query']))} (`{engine}`, {short})"
+
+
+# ---------------------------------------------------------------- pages
+
+def blocks_of(results, pictures):
+    """What stands between which marks of which page."""
+    has = results.__contains__
+    blocks = {"docs/SPEED.md": {}, "README.md": {}}
+    speed = blocks["docs/SPEED.md"]
+    if has("queries"):
+        words = "time of a query by map, a dot for each engine"
+        speed["queries"] = [*queries_text(results), *picture("queries", pictures, words)]
+        speed["spread"] = spread_text(results)
+        blocks["README.md"]["readme"] = readme_text(results)
+    if has("counts"):
+        speed["counts"] = counts_text(results)
+    if has("libraries") and results["libraries"]["rows"]:
+        speed["libraries"] = libraries_text(results)
+    if has("processes"):
+        speed["processes"] = processes_text(results)
+    if has("pipe"):
+        speed["pipe"] = pipe_text(results)
+    if has("growth"):
+        speed["growth"] = growth_text(results, pictures)
+    if has("taken"):
+        words = "How many states `plain` and `block` take, by the length of the walk:"
+        seen = picture("taken", pictures, "taken states against the length of the walk, a box for each map")
+        speed["taken"] = ["## Taken states", words, *seen]
+    for found in blocks.values():
+        for name in list(found):
+            found[name] = "\n\n".join(found[name]) if found[name] else None
+    return blocks
+
+
+def with_block(text, name, block):
+    """The page with this block between its marks; a page without these marks stays as it is."""
+    mark = f"<!--bench:{name}-->"
+    end = "<!--/bench-->"
+    return re.sub(rf"^{mark}$.*?^{end}$", lambda _: f"{mark}\n\n{block}\n\n{end}", text, flags=re.M | re.S)
+
+
+def write_pages(results, top):
+    """Writes the pictures, and the blocks of the pages of a checkout."""
+    folder = top / "bench" / "results"
+    folder.mkdir(parents=True, exist_ok=True)
+    pictures = plots.write_pictures(results, folder)
+    for page, blocks in blocks_of(results, pictures).items():
+        path = top / page
+        text = path.read_text()
+        for name, block in blocks.items():
+            if not block:                                    # the part found nothing that it could measure
+                continue
+            if f"<!--bench:{name}-->" not in text:
+                print(f"bench: {page} has no mark for {name}")
+            text = with_block(text, name, block)
+        path.write_text(text)
+    print(f"bench: wrote {', '.join(sorted(pictures.values()))} and the tables of README.md and docs/SPEED.md")
