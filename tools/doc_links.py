@@ -11,6 +11,7 @@ import subprocess
 
 TOP = pathlib.Path(__file__).resolve().parent.parent
 AT_THE_TOP = ("README.md", "CONTRIBUTING.md", "CHANGELOG.md")
+WRITTEN = ("bench/results", "bench/.cache")  # by bench/run
 BELOW = ("docs/*.md", "examples/README.md", "examples/*/README.md", "crates/*/README.md", "bench/README.md", "page/README.md")
 
 
@@ -82,5 +83,5 @@ def link_faults(page):
             yield fault
     for name in re.findall(r"(?<![\w/.-])((?:docs|tools|bench|maps|examples)/[\w./-]*\w)", text):
         near = [TOP / name, page.parent / name]
-        if not any(it.exists() for it in near):
+        if not name.startswith(WRITTEN) and not any(it.exists() for it in near):
             yield f"there is no {name}"
