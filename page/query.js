@@ -116,10 +116,11 @@ async function draw() {
   }
 }
 
-function choices(id, name, names, words, key) {
+/** One of a few names, with a line below on what the chosen one is. */
+function choices(id, name, names, key) {
   byId(id).append(...names.map((it) => element("label", {},
     element("input", { type: "radio", name, value: it, checked: state[key] === it, onchange: () => choose(key, it) }),
-    element("span", {}, element("b", {}, it), element("small", {}, words[it])))));
+    element("span", {}, it))));
 }
 
 function choose(key, value) {
@@ -130,6 +131,8 @@ function choose(key, value) {
 function showChoices() {
   document.querySelectorAll("input[name=engine]").forEach((it) => (it.checked = it.value === state.engine));
   document.querySelectorAll("input[name=rule]").forEach((it) => (it.checked = it.value === state.rule));
+  byId("engine-words").textContent = ENGINES[state.engine];
+  byId("rule-words").textContent = RULES[state.rule];
 }
 
 function typed(name) {
@@ -140,8 +143,8 @@ function typed(name) {
 }
 
 export function beginQuery() {
-  choices("engines", "engine", ENGINE_NAMES, ENGINES, "engine");
-  choices("rules", "rule", RULE_NAMES, RULES, "rule");
+  choices("engines", "engine", ENGINE_NAMES, "engine");
+  choices("rules", "rule", RULE_NAMES, "rule");
   for (const name of ["start", "goal"]) byId(name).onchange = () => typed(name);
   byId("swap").onclick = () => {
     if (!hasEnds()) return;

@@ -143,7 +143,7 @@ class Handler(http.server.BaseHTTPRequestHandler):
             raise Refused(400, "the request is no JSON") from None
 
     def session(self, key):
-        session = self.server.sessions.get(key)
+        session = self.server.sessions.get(key) if isinstance(key, str) else None
         if session is None:
             raise Refused(410, "this page is over; load it again")
         session.seen = time.monotonic()
@@ -366,7 +366,7 @@ class Server(socketserver.ThreadingMixIn, http.server.HTTPServer):
     """Listens on 127.0.0.1 alone, and answers so many requests at once."""
 
     daemon_threads = True
-    request_queue_size = 256
+    request_queue_size = 1024
 
     def __init__(self, port, program, named):
         super().__init__(("127.0.0.1", port), Handler)

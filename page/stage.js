@@ -188,6 +188,7 @@ export function showViews(isCompared) {
 }
 
 function showLegend() {
+  byId("state-scale").style.background = `linear-gradient(90deg, ${stateRamp(state.theme).join(", ")})`;
   byId("legend-list").replaceChildren(...legend(state.theme, stateRamp(state.theme)).map(([name, colour, kind]) => {
     const swatch = element("i", { className: `swatch ${kind || ""}` });
     swatch.style.background = kind === "dashed" ? `repeating-linear-gradient(90deg, ${colour} 0 6px, transparent 6px 9px)` : colour;

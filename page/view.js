@@ -4,8 +4,8 @@ import { groundColours } from "./bitmap.js";
 import { DIRECTIONS } from "./lines.js";
 
 const COLOURS = {
-  light: { walk: "#0a4fc4", told: "#c2410c", edge: "#ffffff", start: "#0b3b8c", goal: "#7a1fa2", mark: "#5a1a00", back: "#dcd7ca", grid: "#0000001c", bad: "#c00020" },
-  dark: { walk: "#7cc0ff", told: "#ff9d5c", edge: "#0b0d10", start: "#2f7de0", goal: "#b45be0", mark: "#fff1d6", back: "#1a1d22", grid: "#ffffff1a", bad: "#ff4d5e" },
+  light: { walk: "#0a4fc4", told: "#c2410c", edge: "#ffffff", start: "#0b3b8c", goal: "#7a1fa2", mark: "#5a1a00", back: "#dcd7ca", grid: "#00000014", bad: "#c00020" },
+  dark: { walk: "#7cc0ff", told: "#ff9d5c", edge: "#0b0d10", start: "#2f7de0", goal: "#b45be0", mark: "#fff1d6", back: "#1a1d22", grid: "#ffffff12", bad: "#ff4d5e" },
 };
 const MOST_MARKS = 4000;
 const ARROW = [[0, -1], [1, -1], [1, 0], [1, 1], [0, 1], [-1, 1], [-1, 0], [-1, -1]];
@@ -107,7 +107,7 @@ export class View {
 
   drawGrid(colours) {
     const { context, camera, content } = this;
-    if (camera.scale < 9) return;
+    if (camera.scale < 11) return;
     const [left, top] = this.place(0, 0), [right, bottom] = this.place(content.map.width, content.map.height);
     context.beginPath();
     for (let x = Math.max(0, Math.floor(this.point(0, 0)[0])); x <= content.map.width; x += 1) {
