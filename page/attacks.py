@@ -13,6 +13,19 @@ import urllib.parse
 MANY = 1000
 
 
+def children(process):
+    """The programs that any thread of a process has started and that still run."""
+    lists = pathlib.Path(f"/proc/{process}/task").glob("*/children")
+    return [int(it) for numbers in lists for it in read(numbers).split()]
+
+
+def read(path):
+    try:
+        return path.read_text()
+    except OSError:  # the thread has ended meanwhile
+        return ""
+
+
 class Place:
     """A server, and plain requests to it."""
 
@@ -52,7 +65,7 @@ class Place:
         return json.loads(self.post("open", {}).partition(b"\r\n\r\n")[2])["page"]
 
     def children(self):
-        return pathlib.Path(f"/proc/{self.server.pid}/task/{self.server.pid}/children").read_text().split()
+        return children(self.server.pid)
 
     def end(self):
         self.server.send_signal(signal.SIGINT)
@@ -131,19 +144,19 @@ def many(place):
 
 def gone(place):
     """Whoever goes away in the midst of a query takes the program with him."""
-    page = place.open()
+    page, before = place.open(), set(place.children())
     asked = {"page": page, "seed": 1, "w": 4096, "h": 4096, "p": 30}
     body = json.dumps(asked).encode()
     with socket.create_connection(("127.0.0.1", place.port)) as connection:
         head = f"POST {place.home}make HTTP/1.1\r\nHost: {place.host}\r\nContent-Length: {len(body)}\r\n\r\n"
         connection.sendall(head.encode() + body)
         begun = time.monotonic()
-        while not place.children() and time.monotonic() - begun < 10:
+        while set(place.children()) <= before and time.monotonic() - begun < 10:
             time.sleep(0.001)
     begun = time.monotonic()
-    while place.children() and time.monotonic() - begun < 20:
+    while set(place.children()) > before and time.monotonic() - begun < 20:
         time.sleep(0.05)
-    if place.children():
+    if set(place.children()) > before:
         yield "a program goes on though nobody waits for it"
 
 
