@@ -116,24 +116,43 @@ export function readWalks(walks) {
     .map((line) => (line === "none" ? null : line.split(/[ \t]+/).map(readPoint).filter(Boolean)));
 }
 
-/** A certificate's cells: with their values (as decimals), or those that can be reached. */
+/** The numbers in a line of bytes, from a place on; returns how many there are. */
+function readNumbers(bytes, from, to, numbers) {
+  let count = 0, isIn = false;
+  for (let at = from; at < to; at += 1) {
+    const digit = bytes[at] - 48;
+    if (digit >= 0 && digit <= 9) {
+      numbers[count] = isIn ? numbers[count] * 10 + digit : digit;
+      isIn = true;
+    } else if (isIn) {
+      count += 1;
+      isIn = false;
+    }
+  }
+  return isIn ? count + 1 : count;
+}
+
+/** The lines of a certificate that are drawn, by their first letter: no other line has it. */
+const WORDS = { 118: "value", 105: "in", 108: "least" };
+
+/** A certificate's cells: with their values (as decimals), or those that can be reached; it may have millions. */
 export function readCertificate(bytes) {
   const cells = { x: [], y: [], value: [], kind: "none" };
-  for (const line of text.decode(bytes).split("\n")) {
-    const fields = line.split(" ");
-    if (fields[0] === "value") {
-      cells.x.push(Number(fields[1]));
-      cells.y.push(Number(fields[2]));
-      cells.value.push(Number(fields[3]) + Number(fields[4]) * Math.SQRT2);
-    } else if (fields[0] === "in") {
-      cells.x.push(Number(fields[1]));
-      cells.y.push(Number(fields[2]));
-    } else if (fields[0] === "least") {
+  const numbers = [0, 0, 0, 0];
+  for (let from = 0, to; from < bytes.length; from = to + 1) {
+    to = bytes.indexOf(10, from);
+    if (to < 0) to = bytes.length;
+    const word = WORDS[bytes[from]];
+    if (!word) continue;
+    readNumbers(bytes, from, to, numbers);
+    if (word === "least") {
       cells.kind = "least";
-      cells.least = { straight: Number(fields[1]), diagonal: Number(fields[2]) };
-    } else if (fields[0] === "points") {
-      cells.points = fields.slice(1).map(readPoint);
+      cells.least = { straight: numbers[0], diagonal: numbers[1] };
+      continue;
     }
+    cells.x.push(numbers[0]);
+    cells.y.push(numbers[1]);
+    if (word === "value") cells.value.push(numbers[2] + numbers[3] * Math.SQRT2);
   }
   return cells;
 }

@@ -383,7 +383,10 @@ class Server(socketserver.ThreadingMixIn, http.server.HTTPServer):
     def new_session(self):
         with self.lock:
             if len(self.sessions) >= MOST_PAGES:
-                raise Refused(503, "too many pages are open")
+                left = [it for it, session in self.sessions.items() if session.streams == 0]
+                if not left:
+                    raise Refused(503, "too many pages are open")
+                self.sessions.pop(left[0]).end()
             key = secrets.token_urlsafe(12)
             self.sessions[key] = session = Session(self.program, *self.named)
         return key, session
