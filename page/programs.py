@@ -41,10 +41,9 @@ class TooMuch(Exception):
 def is_closed(connection):
     """Whether the other side has closed the connection."""
     try:
-        return connection.recv(1, socket.MSG_PEEK | socket.MSG_DONTWAIT) == b""
-    except BlockingIOError:
-        return False
-    except OSError:
+        # A socket with a limit of time would wait in `recv`, whatever its flags.
+        return bool(select.select([connection], [], [], 0)[0]) and connection.recv(1, socket.MSG_PEEK) == b""
+    except (OSError, ValueError):
         return True
 
 

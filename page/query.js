@@ -31,8 +31,8 @@ const asker = new api.LastAsked(async ({ keep }, signal) => {
   } catch (fault) {
     state.answer = null;
     tell("answer");
-    const [line, meant] = faultWords(fault);
-    showBanner(line, meant);
+    if (fault.name === "AbortError") byId("verdict").textContent = "Stopped.";
+    else showBanner(...faultWords(fault));
   }
 });
 

@@ -103,6 +103,8 @@ const comparer = new api.LastAsked(async (_, signal) => {
     showBanner(...faultWords(fault));
   }
   if (!state.compare) return;
+  state.answer = views.find((view) => view.name === state.engine)?.answer ?? null;
+  tell("answer");
   showAll();
   showCounts();
 });
@@ -143,6 +145,7 @@ function showStates(isOn) {
 }
 
 export function beginSearch() {
+  on("tab", () => state.compare && ["edit", "walks", "certificate"].includes(state.tab) && setCompare(false));
   byId("show-states").onchange = (event) => showStates(event.target.checked);
   byId("play").onclick = play;
   slider().oninput = () => {

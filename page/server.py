@@ -219,9 +219,10 @@ class Handler(http.server.BaseHTTPRequestHandler):
         try:
             self.head(200, "text/event-stream")
             self.end_headers()
-            while not is_closed(self.connection) and key in self.server.sessions:
+            while not is_closed(self.connection) and key in self.server.sessions and not self.server.ending.is_set():
                 self.piece(b": still here\n\n")
                 self.server.ending.wait(1.0)
+            self.wfile.write(b"0\r\n\r\n")
         finally:
             session.streams -= 1
             session.seen = time.monotonic()
