@@ -2,7 +2,7 @@
 
 import * as api from "./api.js";
 import { byId, commandLine, copy, during, element, faultWords, on, settings, showBanner, state, tell } from "./app.js";
-import { groundName, groundPixels } from "./bitmap.js";
+import { groundName, groundPixels, paintMap } from "./bitmap.js";
 import { isInside, redraw, takeTools } from "./stage.js";
 
 const MADE = { block: "@", free: ".", flood: "W" };
@@ -130,12 +130,21 @@ async function sendWaiting() {
       state.edits = told.edits;
       showSaid(edits, told.answers.split(" "));
     } catch (fault) {
-      waiting.length = 0;
-      showBanner(faultWords(fault)[0], "The edits under way were lost: load the page again to begin with the map as it is in its file.");
+      await takeBack(fault);
       return;
     }
     tell("edited");
   }
+}
+
+/** Shows the map without the edits that the program has not answered. */
+async function takeBack(fault) {
+  waiting.length = done.length = undone.length = 0;
+  showBanner(faultWords(fault)[0], "The edits that were under way are not on the map.");
+  state.map.cells = await api.cells();
+  paintMap(state.bitmap, state.map, state.theme);
+  showButtons();
+  redraw();
 }
 
 function showSaid(edits, answers) {

@@ -1,7 +1,7 @@
 // The taken states: in their order, with a slider and a player, of one engine or of all four side by side.
 
 import * as api from "./api.js";
-import { byId, during, element, faultWords, on, showBanner, state, tell } from "./app.js";
+import { ENGINE_NAMES, byId, during, element, faultWords, on, showBanner, state, tell } from "./app.js";
 import { readAnswer } from "./lines.js";
 import { ask, hasEnds, queryWords, verdictOf } from "./query.js";
 import { redraw, showViews, views } from "./stage.js";
@@ -118,26 +118,28 @@ function showCounts() {
   });
   byId("counts").tBodies[0].replaceChildren(...rows);
   byId("counts").hidden = rows.length === 0;
-  byId("state-note").textContent = "jps, block and plus take the same states: that is proved. They differ in how they find them.";
+  byId("state-note").textContent = views.length < 4 ? "" : "jps, block and plus take the same states: that is proved. They differ in how they find them.";
 }
 
-function setCompare(isOn) {
-  state.compare = isOn;
-  byId("compare").setAttribute("aria-pressed", String(isOn));
-  byId("compare").textContent = isOn ? "Back to one engine" : "All four engines side by side";
+/** Shows these engines side by side; none of them is one view again. */
+function setCompare(names) {
+  state.compare = names.length > 0;
+  byId("compare-two").setAttribute("aria-pressed", String(names.length === 2));
+  byId("compare-four").setAttribute("aria-pressed", String(names.length === 4));
   byId("counts").hidden = true;
   byId("state-note").textContent = "";
-  document.body.classList.toggle("comparing", isOn);
-  showViews(isOn);
+  document.body.classList.toggle("comparing", state.compare);
+  showViews(names);
   if (!hasEnds()) return;
-  if (isOn) comparer.ask();
+  if (state.compare) comparer.ask();
   else {
     tell("answer");
     ask();
   }
 }
 
-export const toggleCompare = () => setCompare(!state.compare);
+/** The same engines again lead back to one view. */
+export const toggleCompare = (names = ENGINE_NAMES) => setCompare(state.compare && views.length === names.length ? [] : names);
 
 function showStates(isOn) {
   state.showStates = isOn;
@@ -145,14 +147,15 @@ function showStates(isOn) {
 }
 
 export function beginSearch() {
-  on("tab", () => state.compare && ["edit", "walks", "certificate"].includes(state.tab) && setCompare(false));
+  on("tab", () => state.compare && ["edit", "walks", "certificate"].includes(state.tab) && setCompare([]));
   byId("show-states").onchange = (event) => showStates(event.target.checked);
   byId("play").onclick = play;
   slider().oninput = () => {
     stopPlaying();
     showCount();
   };
-  byId("compare").onclick = toggleCompare;
+  byId("compare-two").onclick = () => toggleCompare(["plain", "block"]);
+  byId("compare-four").onclick = () => toggleCompare();
   on("answer", () => {
     if (state.compare) return;
     show(views[0], state.answer);

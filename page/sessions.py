@@ -138,6 +138,8 @@ class Session:
         """Works edits (verb, x, y, byte) by the process of these settings; returns its answers, one for each."""
         if len(self.edits) + len(wanted) > MOST_EDITS:
             raise TooMuch
+        if len(wanted) > MOST_MENDED:
+            settings = ["engine=block" if it == "engine=plus" else it for it in settings]
         with self.live(settings) as live:
             self.catch_up(live, connection)
             lines = ["%s %d %d" % it[:3] for it in wanted]

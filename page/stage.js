@@ -1,6 +1,6 @@
 // The drawn maps: one, or four side by side with one camera.
 
-import { ENGINE_NAMES, byId, element, on, state, tell } from "./app.js";
+import { byId, element, on, state, tell } from "./app.js";
 import { groundName, mapBitmap, paintMap } from "./bitmap.js";
 import { Pointer } from "./pointer.js";
 import { stateRamp } from "./states.js";
@@ -177,12 +177,12 @@ function makeView(name) {
   return view;
 }
 
-/** Shows one view, or one for each engine. */
-export function showViews(isCompared) {
+/** Shows one view, or one for each of these engines. */
+export function showViews(names) {
   byId("views").replaceChildren();
   views.length = 0;
-  byId("views").className = isCompared ? "views four" : "views";
-  for (const name of isCompared ? ENGINE_NAMES : [""]) views.push(makeView(name));
+  byId("views").className = `views of-${names.length}`;
+  for (const name of names.length ? names : [""]) views.push(makeView(name));
   if (state.map && isFitted) fit();
   redraw();
 }
@@ -197,7 +197,7 @@ function showLegend() {
 }
 
 export function beginStage() {
-  showViews(false);
+  showViews([]);
   showLegend();
   byId("zoom-in").onclick = () => zoomBy(1.5);
   byId("zoom-out").onclick = () => zoomBy(1 / 1.5);

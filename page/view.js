@@ -22,7 +22,7 @@ export class Camera {
     this.x = map.width / 2;
     this.y = map.height / 2;
     // A map that is long and thin is shown in part, as its whole would be a line too thin to be seen.
-    const least = Math.min(8, 40 / Math.min(map.width, map.height));
+    const least = Math.min(8, 12 / Math.min(map.width, map.height));
     this.scale = Math.max(least, Math.min(width / map.width, height / map.height, 48) * 0.96);
   }
 
