@@ -78,7 +78,7 @@ export class Bitmap {
     const bottom = Math.min(canvas.height, Math.ceil((area.height - y - this.top * scale) / side));
     if (right <= left || bottom <= top) return;
     context.globalAlpha = alpha;
-    context.imageSmoothingEnabled = side < 3; // else walls of one cell would be of two widths
+    context.imageSmoothingEnabled = side < 2; // else walls of one cell would be of two widths
     context.imageSmoothingQuality = "medium";
     context.drawImage(canvas, left, top, right - left, bottom - top, x + this.left * scale + left * side,
       y + this.top * scale + top * side, (right - left) * side, (bottom - top) * side);

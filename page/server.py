@@ -35,7 +35,7 @@ RULES = ("none", "one", "both")
 VERBS = ("free", "flood", "block")
 MOST_BODY = 1 << 20
 MOST_REQUESTS = 64
-MOST_PAGES = 12
+MOST_PAGES = 5  # a browser keeps six connections to one address, and each open page holds one of them
 MOST_SIDE = 4096
 MOST_NUMBER = 999_999_999
 SECONDS_OF_SILENCE = 20
@@ -363,10 +363,11 @@ POSTS = {
 }
 
 
-class Server(socketserver.ThreadingMixIn, http.server.HTTPServer):
+class Server(socketserver.ThreadingMixIn, socketserver.TCPServer):
     """Listens on 127.0.0.1 alone, and answers so many requests at once."""
 
     daemon_threads = True
+    allow_reuse_address = True
     request_queue_size = 1024
 
     def __init__(self, port, program, named):
