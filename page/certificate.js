@@ -16,7 +16,6 @@ let control = null;
 function showHeat() {
   const isOn = certificate && byId("show-heat").checked && state.tab === "certificate" && !state.compare;
   for (const view of views) view.content.heat = isOn ? certificate.picture : null;
-  if (isOn) views[0].content.picture = null;
   redraw();
 }
 

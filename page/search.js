@@ -13,12 +13,12 @@ const SECONDS_TO_PLAY = 12;
 let playing = null;
 
 const slider = () => byId("at");
-const pictures = () => views.map((view) => view.content.picture).filter(Boolean);
+const pictures = () => views.map((view) => view.picture).filter(Boolean);
 
 /** Puts the states of an answer into a view. */
 function show(view, answer) {
   const states = answer?.states;
-  view.content.picture = states?.count ? new StatesPicture(states, state.theme) : null;
+  view.picture = states?.count ? new StatesPicture(states, state.theme) : null;
   view.answer = answer;
 }
 
@@ -37,7 +37,7 @@ function showCount() {
   for (const picture of pictures()) picture.show(count);
   for (const view of views) {
     // The walk is seen once the search that found it is.
-    const isFound = isWhole || !view.content.picture || count >= view.content.picture.states.count;
+    const isFound = isWhole || !view.picture || count >= view.picture.states.count;
     view.content.walk = isFound ? view.answer?.points : null;
     if (state.compare) caption(view, count);
   }

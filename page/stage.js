@@ -23,6 +23,8 @@ export function redraw() {
   for (const view of views) {
     Object.assign(view.content, { map: state.map, bitmap: state.bitmap, theme: state.theme, start: state.start, goal: state.goal });
     view.content.cursor = cursorShown();
+    // Beside a told walk, or below a heat map, the states would only be in the way.
+    view.content.picture = state.tab === "walks" || view.content.heat ? null : view.picture;
     view.ask();
   }
 }
