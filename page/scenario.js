@@ -3,7 +3,7 @@
 import * as api from "./api.js";
 import { ENGINE_NAMES, byId, commandLine, copy, during, element, faultWords, mapWord, on, settings, state } from "./app.js";
 import { List, chips } from "./list.js";
-import { readEntries, readRow } from "./lines.js";
+import { decimal, readEntries, readRow } from "./lines.js";
 import { markOf, plot } from "./plot.js";
 import { setEnd, showCells } from "./stage.js";
 import { VERDICTS } from "./words.js";
@@ -67,6 +67,8 @@ function pickRow(row) {
   setEnd("goal", goal);
   showCells([start, goal]);
   drawn?.showRow(row.number);
+  byId("scen-said").replaceChildren(element("code", {}, row.line), ` ${VERDICTS[row.verdict] || ""}`,
+    row.straight === undefined ? "" : `: listed ${entry.listed}, least ${decimal(row.straight, row.diagonal)}`);
 }
 
 async function showPlot() {
@@ -113,6 +115,7 @@ export async function load() {
     byId("scen-sum").textContent = told.sum;
     showFilter();
     list.take(rows.filter(isListed));
+    byId("scen-said").replaceChildren();
   } catch (fault) {
     rows = [];
     list.take(rows);

@@ -99,8 +99,9 @@ export class View {
     context.setTransform(this.ratio, 0, 0, this.ratio, 0, 0);
     this.drawGrid(colours);
     if (content.picture) this.drawMarks(content.picture, colours);
-    if (content.told) this.drawWalk(content.told, colours.told, colours.edge, [7, 6]);
     if (content.walk) this.drawWalk(content.walk, colours.walk, colours.edge);
+    // Between the dashes of a told walk a least one is seen, where both lead the same way.
+    if (content.told) this.drawWalk(content.told, colours.told, colours.edge, [8, 9]);
     if (content.bad) this.drawBad(content.bad, colours);
     if (content.start) this.drawEnd(content.start, "S", colours.start);
     if (content.goal) this.drawEnd(content.goal, "G", colours.goal);
@@ -173,10 +174,10 @@ export class View {
     context.lineJoin = context.lineCap = "round";
     context.beginPath();
     for (const point of points) context.lineTo(...this.place(point.x + 0.5, point.y + 0.5));
+    context.setLineDash(dash);
     context.strokeStyle = edge;
     context.lineWidth = width + 3;
     context.stroke();
-    context.setLineDash(dash);
     context.strokeStyle = colour;
     context.lineWidth = width;
     context.stroke();
