@@ -33,10 +33,13 @@ export function ramp(colours, count = 256) {
   });
 }
 
-/** A picture of a rectangle of the map, from its column `left` and its row `top` on. */
+/**
+ * A picture of a rectangle of the map, from its column `left` and its row `top` on. A smaller copy has the mean of four
+ * pixels; where it `covers`, one of them that is painted is enough: single cells are then seen however small they are.
+ */
 export class Bitmap {
-  constructor(width, height, left = 0, top = 0) {
-    Object.assign(this, { width, height, left, top });
+  constructor(width, height, left = 0, top = 0, covers = false) {
+    Object.assign(this, { width, height, left, top, covers });
     this.image = new ImageData(width, height);
     this.pixels = new Uint32Array(this.image.data.buffer);
     this.levels = [];
@@ -59,8 +62,11 @@ export class Bitmap {
       const bottom = Math.min(Math.ceil((y + h) / 2), to.canvas.height);
       [x, y, w, h] = [left, top, right - left, bottom - top];
       to.clearRect(x, y, w, h);
-      to.imageSmoothingEnabled = true;
-      to.drawImage(from, 2 * x, 2 * y, 2 * w, 2 * h, x, y, w, h);
+      to.imageSmoothingEnabled = !this.covers;
+      // Without smoothing a pixel is taken from one of the four, and each of them in turn from a place moved by one.
+      for (const [dx, dy] of this.covers ? [[-1, -1], [0, -1], [-1, 0], [0, 0]] : [[0, 0]]) {
+        to.drawImage(from, 2 * x + dx, 2 * y + dy, 2 * w, 2 * h, x, y, w, h);
+      }
     }
   }
 

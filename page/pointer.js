@@ -28,7 +28,6 @@ export class Pointer {
 
   down(event) {
     this.view.canvas.setPointerCapture(event.pointerId);
-    this.view.canvas.focus({ preventScroll: true });
     this.fingers.set(event.pointerId, this.at(event));
     this.first = this.at(event);
     if (this.fingers.size === 2) {

@@ -62,7 +62,7 @@ function showAnswer() {
     const name = answer.kind === "walk" ? "walk" : answer.kind;
     byId("verdict").append(element("b", { className: `kind ${answer.kind}` }, name), ` ${verdict.replace(/^\w+: /, "")}`);
     const taken = answer.states ? ` · ${answer.states.count.toLocaleString("en")} states` : "";
-    byId("detail").textContent = [detail + taken, `answered in ${tookWords(answer.seconds)}`].filter(Boolean).join(" · ").replace(/^ · /, "");
+    byId("detail").textContent = [detail + taken, tookWords(answer.seconds)].filter(Boolean).join(" · ").replace(/^ · /, "");
   } else {
     byId("verdict").textContent = hasEnds() ? "" : "Click the map: first the start, then the goal.";
     byId("detail").textContent = "";

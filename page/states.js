@@ -29,7 +29,7 @@ export class StatesPicture {
     this.states = states;
     this.shown = 0;
     this.colours = ramp(RAMPS[theme]);
-    this.bitmap = new Bitmap(width, height, left, top);
+    this.bitmap = new Bitmap(width, height, left, top, true);
     this.places = new Uint32Array(states.count);
     this.isFirst = new Uint8Array(states.count);
     const seen = new Uint8Array(width * height);
@@ -41,18 +41,27 @@ export class StatesPicture {
     }
   }
 
+  /** The colour of a state, by its place in the order. */
+  colourOf(at) {
+    const pixel = this.pixelOf(at);
+    return `rgb(${pixel & 255} ${(pixel >> 8) & 255} ${(pixel >> 16) & 255})`;
+  }
+
+  pixelOf(at) {
+    return this.colours[Math.round((255 * at) / Math.max(1, this.states.count - 1))];
+  }
+
   /** Shows so many states; only the cells that change are painted. */
   show(count) {
     const to = Math.max(0, Math.min(count, this.states.count));
     if (to === this.shown) return;
     const { pixels, width } = this.bitmap;
     const [low, high] = to > this.shown ? [this.shown, to] : [to, this.shown];
-    const most = Math.max(1, this.states.count - 1);
     let left = width, right = 0, top = this.bitmap.height, bottom = 0;
     for (let at = low; at < high; at += 1) {
       if (!this.isFirst[at]) continue;
       const place = this.places[at];
-      pixels[place] = to > this.shown ? this.colours[Math.round((255 * at) / most)] : 0;
+      pixels[place] = to > this.shown ? this.pixelOf(at) : 0;
       const x = place % width, y = (place - x) / width;
       if (x < left) left = x;
       if (x > right) right = x;

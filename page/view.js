@@ -8,6 +8,7 @@ const COLOURS = {
   dark: { walk: "#7cc0ff", told: "#ff9d5c", edge: "#0b0d10", start: "#2f7de0", goal: "#b45be0", mark: "#fff1d6", back: "#1a1d22", grid: "#ffffff12", bad: "#ff4d5e" },
 };
 const MOST_MARKS = 4000;
+const MOST_DOTS = 1500;
 const ARROW = [[0, -1], [1, -1], [1, 0], [1, 1], [0, 1], [-1, 1], [-1, 0], [-1, -1]];
 
 export const walkColours = (theme) => COLOURS[theme];
@@ -137,12 +138,15 @@ export class View {
     if (states.count > MOST_MARKS || (camera.scale > 5 && camera.scale < 13)) return;
     const side = Math.min(camera.scale * 0.36, 15);
     context.fillStyle = context.strokeStyle = colours.mark;
-    context.lineWidth = Math.max(1, camera.scale / 14);
+    context.lineWidth = Math.max(camera.scale <= 5 ? 0.8 : 1, camera.scale / 14);
     for (let at = 0; at < shown; at += 1) {
       const [x, y] = this.place(states.x[at] + 0.5, states.y[at] + 0.5);
       if (x < -20 || y < -20 || x > this.width + 20 || y > this.height + 20) continue;
       if (camera.scale <= 5) {
-        if (states.count < 400) this.drawDot(x, y, 2.2);
+        if (states.count > MOST_DOTS) return;
+        context.fillStyle = picture.colourOf(at);
+        this.drawDot(x, y, 2.7);
+        context.stroke();
       } else if (states.arrival[at] < DIRECTIONS.length) {
         this.drawArrow(x, y, ARROW[states.arrival[at]], side);
       }
