@@ -63,7 +63,7 @@ export function readAnswer(bytes) {
 }
 
 /** The first part of a line, as far as a page can show it. */
-export function shortened(bytes, most = 24_000) {
+export function shortened(bytes, most) {
   if (bytes.length <= most) return text.decode(bytes);
   let end = most;
   while (end > 0 && bytes[end] !== SPACE) end -= 1;

@@ -67,7 +67,8 @@ function showAnswer() {
     byId("verdict").textContent = hasEnds() ? "" : "Click the map: first the start, then the goal.";
     byId("detail").textContent = "";
   }
-  byId("printed").textContent = answer ? shortened(answer.bytes) : "";
+  // While an end is dragged a long line is shown in part, as to lay it out takes as long as the search.
+  byId("printed").textContent = answer ? shortened(answer.bytes, answer.words.keep ? 24_000 : 1500) : "";
   showCommand();
   const view = views[0];
   if (!state.compare) {

@@ -65,6 +65,10 @@ function stopPlaying() {
 function play() {
   if (playing) return stopPlaying();
   const most = Number(slider().max);
+  if (!most && !state.showStates && !state.compare) {
+    byId("show-states").checked = true;
+    return showStates(true);
+  }
   if (!most) return undefined;
   let shown = Number(slider().value) >= most ? 0 : Number(slider().value);
   let before = performance.now();
@@ -88,9 +92,9 @@ function play() {
 // All four engines
 
 async function askOf(view, signal) {
-  const words = queryWords(view.name, "trace");
+  const words = queryWords(view.name, "trace", true);
   const told = await during(`${view.name} is searching`, (stop) => api.query(words, stop), signal);
-  const answer = { ...readAnswer(told.bytes), seconds: told.seconds };
+  const answer = { ...readAnswer(told.bytes), seconds: told.seconds, words };
   if (view.canvas.isConnected) show(view, answer);
 }
 

@@ -32,6 +32,7 @@ export class StatesPicture {
     this.bitmap = new Bitmap(width, height, left, top, true);
     this.places = new Uint32Array(states.count);
     this.isFirst = new Uint8Array(states.count);
+    this.isJumps = states.arrival.some((it) => it < 8);
     const seen = new Uint8Array(width * height);
     for (let at = 0; at < states.count; at += 1) {
       const place = (states.y[at] - top) * width + states.x[at] - left;

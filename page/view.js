@@ -99,8 +99,11 @@ export class View {
     if (content.picture) content.picture.bitmap.draw(context, x, y, scale, 0.92);
     context.setTransform(this.ratio, 0, 0, this.ratio, 0, 0);
     this.drawGrid(colours);
-    if (content.picture) this.drawMarks(content.picture, colours);
+    // The few states of jumps lie above the walk, whose turns they are; the many others below it.
+    const marks = content.picture && (() => this.drawMarks(content.picture, colours));
+    if (marks && !content.picture.isJumps) marks();
     if (content.walk) this.drawWalk(content.walk, colours.walk, colours.edge);
+    if (marks && content.picture.isJumps) marks();
     // Between the dashes of a told walk a least one is seen, where both lead the same way.
     if (content.told) this.drawWalk(content.told, colours.told, colours.edge, [8, 9]);
     if (content.bad) this.drawBad(content.bad, colours);
@@ -135,15 +138,15 @@ export class View {
   drawMarks(picture, colours) {
     const { context, camera } = this;
     const { states, shown } = picture;
-    if (states.count > MOST_MARKS || (camera.scale > 5 && camera.scale < 13)) return;
+    const areDots = camera.scale < (picture.isJumps ? 13 : 5);
+    if (states.count > (areDots ? MOST_DOTS : MOST_MARKS)) return;
     const side = Math.min(camera.scale * 0.36, 15);
     context.fillStyle = context.strokeStyle = colours.mark;
-    context.lineWidth = Math.max(camera.scale <= 5 ? 0.8 : 1, camera.scale / 14);
+    context.lineWidth = Math.max(areDots ? 0.8 : 1, camera.scale / 14);
     for (let at = 0; at < shown; at += 1) {
       const [x, y] = this.place(states.x[at] + 0.5, states.y[at] + 0.5);
       if (x < -20 || y < -20 || x > this.width + 20 || y > this.height + 20) continue;
-      if (camera.scale <= 5) {
-        if (states.count > MOST_DOTS) return;
+      if (areDots) {
         context.fillStyle = picture.colourOf(at);
         this.drawDot(x, y, 2.7);
         context.stroke();

@@ -85,6 +85,8 @@ async function load() {
     const [line, meant] = faultWords(fault);
     byId("walks-sum").replaceChildren(element("code", { className: "fault" }, line), ` ${meant}`);
   }
+  for (const part of ["walks-filter", "walks-list", "walks-said"]) byId(part).hidden = rows.length === 0;
+  byId("walks-said").replaceChildren();
   showFilter();
   list.take(rows.filter(isListed));
   return undefined;
