@@ -60,8 +60,22 @@ export function commandLine(words, { engine = "plain", rule = "none", show, stat
   return line.map((word) => quoted(String(word))).join(" ");
 }
 
+const lastPart = (path) => path.split("/").pop();
+
+/** The file of the map before edits; one that the page had made is named as the command that makes it names it. */
+export const firstMapWord = () => (state.made ? lastPart(state.map.path) : state.map.path);
 /** The file of the map as it is; behind an edit it is the one that is saved. */
-export const mapWord = () => (state.edits ? "edited.map" : state.map.path);
+export const mapWord = () => (state.edits ? "edited.map" : firstMapWord());
+export const scenWord = () => (state.madeScen ? lastPart(state.scen) : state.scen);
+
+/** A command, and above it the commands that make its map and its scenario, where the page had them made. */
+export function withMade(line, hasScen = false) {
+  const lines = [line];
+  const [name, ...numbers] = state.madeScen || [];
+  if (hasScen && name) lines.unshift(`${commandLine([name, mapWord(), ...numbers])} > ${scenWord()}`);
+  if (state.made && !state.edits) lines.unshift(`${commandLine(state.made)} > ${firstMapWord()}`);
+  return lines.join("\n");
+}
 
 // What takes longer than half a second is shown, and can be stopped.
 

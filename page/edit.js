@@ -1,7 +1,7 @@
 // Paints walls, land and water. Every cell of a stroke goes to `jps live` as an edit; what it answers is counted.
 
 import * as api from "./api.js";
-import { byId, commandLine, copy, during, element, faultWords, on, settings, showBanner, state, tell } from "./app.js";
+import { byId, commandLine, copy, during, element, faultWords, firstMapWord, on, settings, showBanner, state, tell } from "./app.js";
 import { groundName, groundPixels, paintMap } from "./bitmap.js";
 import { isInside, redraw, takeTools } from "./stage.js";
 
@@ -162,7 +162,7 @@ function showButtons() {
   byId("redo").disabled = !undone.length;
   byId("edit-count").textContent = state.edits ? `${state.edits.toLocaleString("en")} edits` : "";
   if (!state.map) return;
-  const script = [`solve`, state.map.path, "edited.script"];
+  const script = ["solve", firstMapWord(), "edited.script"];
   byId("edit-command").textContent = commandLine(script, settings(state.engine, state.showStates ? "trace" : undefined));
 }
 

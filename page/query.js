@@ -3,7 +3,7 @@
 import * as api from "./api.js";
 import {
   ENGINE_NAMES, RULE_NAMES, byId, commandLine, copy, during, element, faultWords, hideBanner, mapWord, on, saveAs, settings,
-  showBanner, state, tell,
+  showBanner, state, tell, withMade,
 } from "./app.js";
 import { decimal, readAnswer, readPoint, shortened } from "./lines.js";
 import { redraw, setEnd, views } from "./stage.js";
@@ -80,7 +80,7 @@ function showAnswer() {
 function showCommand() {
   if (!hasEnds()) return;
   const words = queryWords(state.engine, state.showStates ? "trace" : undefined);
-  byId("command").textContent = commandLine(["query", mapWord(), ...endWords()], words);
+  byId("command").textContent = withMade(commandLine(["query", mapWord(), ...endWords()], words));
   byId("draw-note").textContent = commandLine(["draw", mapWord(), ...endWords()], words) + " > walk.svg";
   if (state.edits) byId("draw-note").textContent += "   (save the edited map first: Edit)";
 }

@@ -1,7 +1,7 @@
 // A scenario: its entries with verdicts, and the states that each engine takes for them.
 
 import * as api from "./api.js";
-import { ENGINE_NAMES, byId, commandLine, copy, during, element, faultWords, mapWord, on, settings, state } from "./app.js";
+import { ENGINE_NAMES, byId, commandLine, copy, during, element, faultWords, mapWord, on, scenWord, settings, state, withMade } from "./app.js";
 import { List, chips } from "./list.js";
 import { decimal, readEntries, readRow } from "./lines.js";
 import { markOf, plot } from "./plot.js";
@@ -107,7 +107,7 @@ export async function load() {
   byId("scen-none").hidden = Boolean(state.scen);
   byId("scen-some").hidden = !state.scen;
   if (!state.scen || !state.map || state.tab !== "scenario") return;
-  byId("scen-command").textContent = commandLine(["scen", mapWord(), state.scen], settings(state.engine, "taken"));
+  byId("scen-command").textContent = withMade(commandLine(["scen", mapWord(), scenWord()], settings(state.engine, "taken")), true);
   try {
     entries = readEntries(await api.scenText());
     const told = await rowsOf(state.engine);
@@ -133,7 +133,7 @@ async function makeScenario(event) {
   const words = { n: Number(event.target.elements.n.value), seed: Number(event.target.elements.seed.value), rule: state.rule };
   try {
     const told = await during("Making a scenario", (signal) => api.problems(words, signal));
-    Object.assign(state, { scen: told.scen, walks: told.walks });
+    Object.assign(state, { scen: told.scen, walks: told.walks, madeScen: told.madeScen });
     await load();
   } catch (fault) {
     byId("scen-none").append(element("p", { className: "fault" }, faultWords(fault).join(" ")));

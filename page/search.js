@@ -92,9 +92,9 @@ function play() {
 // All four engines
 
 async function askOf(view, signal) {
-  const words = queryWords(view.name, "trace", true);
+  const words = queryWords(view.name, "trace");
   const told = await during(`${view.name} is searching`, (stop) => api.query(words, stop), signal);
-  const answer = { ...readAnswer(told.bytes), seconds: told.seconds, words };
+  const answer = { ...readAnswer(told.bytes), seconds: told.seconds, words: { ...words, keep: true } };
   if (view.canvas.isConnected) show(view, answer);
 }
 

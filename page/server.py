@@ -257,7 +257,7 @@ class Handler(http.server.BaseHTTPRequestHandler):
         """What a page is told of its map; a fault where the program refuses it."""
         told = {"page": key, "map": session.map_path, "scen": session.scen_path, "walks": session.walks_path}
         told.update(version=self.server.program.version, states=self.server.program.has_states)
-        told["program"] = self.server.program.path
+        told.update(program=self.server.program.path, made=session.map_words, madeScen=session.scen_words)
         if session.map is None:
             told["status"], told["fault"] = session.fault_of_map(self.connection)
         else:
@@ -324,7 +324,8 @@ class Handler(http.server.BaseHTTPRequestHandler):
         words = ["make", seed, *sides, str(request.number("p", 0, 100))]
         path = session.write(words, "-".join(words) + ".map", self.connection)
         session.take_map(path)
-        session.scen_path = session.walks_path = None
+        session.map_words = words
+        session.scen_path = session.walks_path = session.scen_words = None
         self.described(session, request.words["page"])
 
     def problems(self, _):
@@ -333,6 +334,7 @@ class Handler(http.server.BaseHTTPRequestHandler):
         path = session.edited_path()[0]
         numbers = [str(request.number("seed")), str(request.number("n", 1, 100_000))]
         words = ["problems", path, *numbers, *request.rule()]
+        session.scen_words = ["problems", *numbers, *request.rule()]
         session.scen_path = session.write(words, "-".join(["problems", *numbers]) + ".scen", self.connection)
         session.walks_path = None
         self.described(session, request.words["page"])

@@ -33,6 +33,7 @@ class Session:
         self.folder = tempfile.mkdtemp(prefix="jps-page-")
         self.scen_path = scen_path
         self.walks_path = walks_path
+        self.map_words = self.scen_words = None  # the words of the program that made them, where they were made
         self.lock = threading.Lock()
         self.streams = 0
         self.seen = time.monotonic()

@@ -148,7 +148,7 @@ export class View {
       if (x < -20 || y < -20 || x > this.width + 20 || y > this.height + 20) continue;
       if (areDots) {
         context.fillStyle = picture.colourOf(at);
-        this.drawDot(x, y, 2.7);
+        this.drawDot(x, y, this.width < 260 ? 1.9 : 2.7);
         context.stroke();
       } else if (states.arrival[at] < DIRECTIONS.length) {
         this.drawArrow(x, y, ARROW[states.arrival[at]], side);

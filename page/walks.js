@@ -1,7 +1,7 @@
 // What another program told of a scenario, judged: a refused walk is drawn beside a least one, with the point that is wrong.
 
 import * as api from "./api.js";
-import { byId, commandLine, copy, during, element, faultWords, mapWord, on, state } from "./app.js";
+import { byId, commandLine, copy, during, element, faultWords, mapWord, on, scenWord, state } from "./app.js";
 import { List, chips } from "./list.js";
 import { readEntries, readJudged, readWalks } from "./lines.js";
 import { redraw, setEnd, showCells, views } from "./stage.js";
@@ -72,7 +72,7 @@ async function load() {
   const name = JSON.stringify([state.rule, state.edits, state.walks, state.scen, state.map?.path]);
   if (!isThere || !state.map || loaded === name) return undefined;
   loaded = name;
-  byId("walks-command").textContent = commandLine(["judge", mapWord(), state.scen, state.walks], { rule: state.rule });
+  byId("walks-command").textContent = commandLine(["judge", mapWord(), scenWord(), state.walks], { rule: state.rule });
   try {
     entries = readEntries(await api.scenText());
     told = readWalks(await api.walksText());
