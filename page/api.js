@@ -115,13 +115,16 @@ export class LastAsked {
   }
 
   async loop() {
-    while (this.next) {
-      const { what } = this.next;
-      this.next = null;
-      this.control = new AbortController();
-      await this.work(what, this.control.signal);
+    try {
+      while (this.next) {
+        const { what } = this.next;
+        this.next = null;
+        this.control = new AbortController();
+        await this.work(what, this.control.signal);
+      }
+    } finally {
+      this.control = null;
     }
-    this.control = null;
   }
 
   stop() {

@@ -1,8 +1,9 @@
 // Pictures with one pixel for each cell, and smaller copies of them, so that a whole large map is drawn at once.
 
+// Any two of a theme, and the ramp of its states, are told apart with each common kind of colour blindness.
 const THEMES = {
-  light: { land: "#f5f1e6", swamp: "#dccf9f", trees: "#4d8a68", wall: "#343a43", water: "#9cc9ea" },
-  dark: { land: "#3b424c", swamp: "#5d5738", trees: "#1f5a44", wall: "#0e1116", water: "#23567e" },
+  light: { land: "#f5f1e6", swamp: "#cdc9ad", trees: "#4d8a68", wall: "#343a43", water: "#9cc9ea" },
+  dark: { land: "#434b57", swamp: "#76704a", trees: "#12402c", wall: "#0b0d11", water: "#2b72ab" },
 };
 const GROUND = { ".": "land", G: "land", S: "swamp", T: "trees", "@": "wall", O: "wall", W: "water" };
 

@@ -122,7 +122,8 @@ function showCounts() {
   });
   byId("counts").tBodies[0].replaceChildren(...rows);
   byId("counts").hidden = rows.length === 0;
-  byId("state-note").textContent = views.length < 4 ? "" : "jps, block and plus take the same states: that is proved. They differ in how they find them.";
+  byId("state-note").textContent = views.length < 4 ? ""
+    : "jps, block and plus take the same states: that is proved. They differ in how they find them.";
 }
 
 /** Shows these engines side by side; none of them is one view again. */

@@ -3,8 +3,8 @@
 import { Bitmap, ramp } from "./bitmap.js";
 
 const RAMPS = {
-  light: ["#ffdca3", "#f9a742", "#d9641a", "#8f2f05"],
-  dark: ["#6b3a10", "#b5620f", "#f19a2c", "#ffe0a3"],
+  light: ["#ffcb73", "#f59a33", "#d0591a", "#7d2804"],
+  dark: ["#8a4508", "#b5620f", "#f19a2c", "#ffe0a3"],
 };
 
 export const stateRamp = (theme) => RAMPS[theme];

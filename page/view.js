@@ -4,8 +4,14 @@ import { groundColours } from "./bitmap.js";
 import { DIRECTIONS } from "./lines.js";
 
 const COLOURS = {
-  light: { walk: "#0a4fc4", told: "#c2410c", edge: "#ffffff", start: "#0b3b8c", goal: "#7a1fa2", mark: "#5a1a00", back: "#dcd7ca", grid: "#00000014", bad: "#c00020" },
-  dark: { walk: "#7cc0ff", told: "#ff9d5c", edge: "#0b0d10", start: "#2f7de0", goal: "#b45be0", mark: "#fff1d6", back: "#1a1d22", grid: "#ffffff12", bad: "#ff4d5e" },
+  light: {
+    walk: "#0a4fc4", told: "#c2410c", edge: "#ffffff", start: "#0b3b8c", goal: "#7a1fa2", mark: "#5a1a00", bad: "#c00020",
+    back: "#dcd7ca", grid: "#00000014",
+  },
+  dark: {
+    walk: "#7cc0ff", told: "#ff9d5c", edge: "#0b0d10", start: "#2f7de0", goal: "#b45be0", mark: "#fff1d6", bad: "#ff4d5e",
+    back: "#1a1d22", grid: "#ffffff12",
+  },
 };
 const MOST_MARKS = 4000;
 const MOST_DOTS = 1500;
