@@ -15,6 +15,7 @@ const COLOURS = {
 };
 const MOST_MARKS = 4000;
 const MOST_DOTS = 1500;
+const FEW_MARKS = 60;
 const ARROW = [[0, -1], [1, -1], [1, 0], [1, 1], [0, 1], [-1, 1], [-1, 0], [-1, -1]];
 
 export const walkColours = (theme) => COLOURS[theme];
@@ -105,11 +106,11 @@ export class View {
     if (content.picture) content.picture.bitmap.draw(context, x, y, scale, 0.92);
     context.setTransform(this.ratio, 0, 0, this.ratio, 0, 0);
     this.drawGrid(colours);
-    // The few states of jumps lie above the walk, whose turns they are; the many others below it.
-    const marks = content.picture && (() => this.drawMarks(content.picture, colours));
-    if (marks && !content.picture.isJumps) marks();
+    // A few states lie above the walk, whose turns they are; many would hide it.
+    const isAbove = content.picture?.states.count <= FEW_MARKS;
+    if (content.picture && !isAbove) this.drawMarks(content.picture, colours);
     if (content.walk) this.drawWalk(content.walk, colours.walk, colours.edge);
-    if (marks && content.picture.isJumps) marks();
+    if (content.picture && isAbove) this.drawMarks(content.picture, colours);
     // Between the dashes of a told walk a least one is seen, where both lead the same way.
     if (content.told) this.drawWalk(content.told, colours.told, colours.edge, [8, 9]);
     if (content.bad) this.drawBad(content.bad, colours);
