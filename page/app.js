@@ -1,0 +1,151 @@
+// What all parts of the page share: what is shown, who is told of a change, and what is under way.
+
+import { Fault } from "./api.js";
+import { meaning } from "./words.js";
+
+export const state = {
+  map: null, // width, height, cells, path
+  bitmap: null,
+  theme: "light",
+  tab: "query",
+  start: null,
+  goal: null,
+  engine: "plain",
+  rule: "none",
+  cellStates: false, // whether `states=cell` is asked for
+  showStates: true,
+  compare: false,
+  answer: null,
+  edits: 0,
+  program: "jps",
+  scen: null, // the paths of the files that were named
+  walks: null,
+};
+
+export const ENGINE_NAMES = ["plain", "jps", "block", "plus"];
+export const RULE_NAMES = ["none", "one", "both"];
+export const byId = (id) => document.getElementById(id);
+
+const listeners = {};
+export const on = (name, work) => (listeners[name] ||= []).push(work);
+export const tell = (name, what) => (listeners[name] || []).forEach((work) => work(what));
+
+export function element(name, attributes = {}, ...children) {
+  const made = document.createElement(name);
+  for (const [key, value] of Object.entries(attributes)) {
+    if (key in made && key !== "list") made[key] = value;
+    else made.setAttribute(key, value);
+  }
+  made.append(...children);
+  return made;
+}
+
+/** The settings of a call, for the server. */
+export function settings(engine = state.engine, show = undefined) {
+  const words = { engine, rule: state.rule };
+  if (show) words.show = show;
+  if (state.cellStates && engine !== "plain") words.states = "cell";
+  return words;
+}
+
+const quoted = (word) => (/^[\w./:=,@%+-]+$/.test(word) ? word : `'${word.replaceAll("'", "'\\''")}'`);
+
+/** A call as it is typed; settings that hold where none is named are left out. */
+export function commandLine(words, { engine = "plain", rule = "none", show, states } = {}) {
+  const line = [state.program, ...words];
+  if (engine !== "plain") line.push(`engine=${engine}`);
+  if (states) line.push(`states=${states}`);
+  if (show) line.push(`show=${show}`);
+  if (rule !== "none") line.push(`rule=${rule}`);
+  return line.map((word) => quoted(String(word))).join(" ");
+}
+
+const lastPart = (path) => path.split("/").pop();
+
+/** The file of the map before edits; one that the page had made is named as the command that makes it names it. */
+export const firstMapWord = () => (state.made ? lastPart(state.map.path) : state.map.path);
+/** The file of the map as it is; behind an edit it is the one that is saved. */
+export const mapWord = () => (state.edits ? "edited.map" : firstMapWord());
+export const scenWord = () => (state.madeScen ? lastPart(state.scen) : state.scen);
+
+/** A command, and above it the commands that make its map and its scenario, where the page had them made. */
+export function withMade(line, hasScen = false) {
+  const lines = [line];
+  const [name, ...numbers] = state.madeScen || [];
+  if (hasScen && name) lines.unshift(`${commandLine([name, mapWord(), ...numbers])} > ${scenWord()}`);
+  if (state.made && !state.edits) lines.unshift(`${commandLine(state.made)} > ${firstMapWord()}`);
+  return lines.join("\n");
+}
+
+// What takes longer than half a second is shown, and can be stopped.
+
+const underWay = new Map();
+
+function showBusy() {
+  const late = [...underWay.values()].filter((it) => it.isLate);
+  byId("busy").hidden = late.length === 0;
+  if (late.length) byId("busy-text").textContent = late[late.length - 1].words;
+}
+
+/** Works with a signal that Stop aborts; `say` changes the words that are shown meanwhile. */
+export async function during(words, work, signal) {
+  const control = new AbortController();
+  const key = Symbol(words);
+  const mine = { words, isLate: false, control };
+  underWay.set(key, mine);
+  signal?.addEventListener("abort", () => control.abort());
+  const clock = setTimeout(() => {
+    mine.isLate = true;
+    showBusy();
+  }, 500);
+  const say = (told) => {
+    mine.words = told;
+    showBusy();
+  };
+  try {
+    return await work(control.signal, say);
+  } finally {
+    clearTimeout(clock);
+    underWay.delete(key);
+    showBusy();
+  }
+}
+
+export function stopAll() {
+  for (const it of underWay.values()) it.control.abort();
+}
+
+/** What a fault is in words: the program's own line, and what it means. */
+export function faultWords(fault) {
+  if (fault.name === "AbortError") return ["Stopped.", ""];
+  if (!(fault instanceof Fault)) return ["The page has a fault of its own.", String(fault)];
+  if (fault.kind !== "program") return [fault.message, ""];
+  return [fault.message || "jps ended without a word.", meaning(fault.message, fault.status)];
+}
+
+export function showBanner(words, meant = "") {
+  const banner = byId("banner");
+  banner.replaceChildren(element("code", {}, words), element("span", {}, meant ? ` ${meant}` : ""));
+  banner.hidden = false;
+}
+
+export const hideBanner = () => (byId("banner").hidden = true);
+
+/** Puts a text on the clipboard, and says so on the button. */
+export async function copy(text, button) {
+  try {
+    await navigator.clipboard.writeText(text);
+    button.textContent = "Copied";
+  } catch {
+    button.textContent = "Not copied";
+  }
+  setTimeout(() => (button.textContent = "Copy"), 1200);
+}
+
+/** Hands bytes to the browser as a file. */
+export function saveAs(name, parts, kind) {
+  const address = URL.createObjectURL(new Blob([parts], { type: kind }));
+  const link = element("a", { href: address, download: name });
+  link.click();
+  setTimeout(() => URL.revokeObjectURL(address), 10_000);
+}

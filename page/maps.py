@@ -1,0 +1,72 @@
+"""Maps as bytes: one byte for each cell, row by row from the upper left.
+
+The program alone says what is wrong with a map. What is read here is only what the page draws, and what is
+written is a map with the page's edits in it.
+"""
+
+MOST_BYTES = 1 << 26
+MOST_SIDE = 4096
+GROUNDS = b".GS@OTW"
+# What an edit makes of a cell's byte, and which bytes are of that ground already.
+MADE = {"free": (b".", b".GS"), "flood": (b"W", b"W"), "block": (b"@", b"@OT")}
+
+
+class NoMap(Exception):
+    """The text is no map; the program's own line says why."""
+
+
+class Map:
+    """The sides of a map and its cells."""
+
+    def __init__(self, width, height, cells):
+        self.width = width
+        self.height = height
+        self.cells = bytearray(cells)
+
+    def holds(self, x, y):
+        return 0 <= x < self.width and 0 <= y < self.height
+
+    def edit(self, verb, x, y, byte=None):
+        """Makes the cell of the ground that the edit asks for; `byte` picks one of the bytes of that ground."""
+        made, same = MADE[verb]
+        place = y * self.width + x
+        if byte is not None and byte in same:
+            self.cells[place] = byte
+        elif self.cells[place] not in same:
+            self.cells[place] = made[0]
+
+    def text(self):
+        """The map as a file."""
+        rows = (bytes(self.cells[at : at + self.width]) for at in range(0, len(self.cells), self.width))
+        head = f"type octile\nheight {self.height}\nwidth {self.width}\nmap\n".encode()
+        return head + b"\n".join(rows) + b"\n"
+
+
+def side(line, name):
+    """The number of a line such as `height 49`."""
+    fields = line.split()
+    if len(fields) != 2 or fields[0] != name or not fields[1].isdigit() or len(fields[1]) > 9:
+        raise NoMap
+    number = int(fields[1])
+    if not 1 <= number <= MOST_SIDE:
+        raise NoMap
+    return number
+
+
+def read(path):
+    """The map in a file."""
+    with open(path, "rb") as file:
+        text = file.read(MOST_BYTES + 1)
+    if len(text) > MOST_BYTES:
+        raise NoMap
+    lines = text.replace(b"\r\n", b"\n").split(b"\n")
+    if len(lines) < 5 or lines[0].split() != [b"type", b"octile"] or lines[3].split() != [b"map"]:
+        raise NoMap
+    height, width = side(lines[1], b"height"), side(lines[2], b"width")
+    rows = lines[4 : 4 + height]
+    if len(rows) < height or any(len(row) != width for row in rows) or any(lines[4 + height :]):
+        raise NoMap
+    cells = b"".join(rows)
+    if cells.translate(None, GROUNDS):
+        raise NoMap
+    return Map(width, height, cells)

@@ -1,0 +1,178 @@
+// Asks for the query that is shown, and tells what the program printed.
+
+import * as api from "./api.js";
+import {
+  ENGINE_NAMES, RULE_NAMES, byId, commandLine, copy, during, element, faultWords, hideBanner, mapWord, on, saveAs, settings,
+  showBanner, state, tell, withMade,
+} from "./app.js";
+import { decimal, readAnswer, readPoint, shortened } from "./lines.js";
+import { redraw, setEnd, views } from "./stage.js";
+import { ANSWERS, ENGINES, RULES } from "./words.js";
+
+const wholeText = new TextDecoder();
+
+/** The words of a query for the server. */
+export function queryWords(engine, show, keep = false) {
+  const ends = { sx: state.start.x, sy: state.start.y, gx: state.goal.x, gy: state.goal.y };
+  return { ...settings(engine, show), ...ends, keep };
+}
+
+export const hasEnds = () => state.map && state.start && state.goal;
+export const endWords = () => [state.start.x, state.start.y, state.goal.x, state.goal.y];
+
+const asker = new api.LastAsked(async ({ keep }, signal) => {
+  const show = state.showStates ? "trace" : undefined;
+  const words = queryWords(state.engine, show, keep);
+  try {
+    const told = await during("The program is searching", (stop) => api.query(words, stop), signal);
+    state.answer = { ...readAnswer(told.bytes), seconds: told.seconds, words };
+    hideBanner();
+    tell("answer");
+  } catch (fault) {
+    state.answer = null;
+    tell("answer");
+    if (fault.name === "AbortError") byId("verdict").textContent = "Stopped.";
+    else showBanner(...faultWords(fault));
+  }
+});
+
+/** Asks the program; while an end is dragged the answer is not kept in the script. */
+export function ask(keep = true) {
+  if (!hasEnds() || state.compare) return;
+  asker.ask({ keep });
+}
+
+export const isAsking = () => asker.isBusy;
+
+/** The outcome in words, for the large line and the small one. */
+export function verdictOf(answer) {
+  if (answer.kind !== "walk") return [ANSWERS[answer.kind] || answer.kind, ""];
+  const { straight, diagonal, points } = answer;
+  return [`${straight} + ${diagonal}·√2`, `${decimal(straight, diagonal)} · ${points.length} points`];
+}
+
+/** Of how long it took: the program's answer through the pipes, not a measure. */
+export const tookWords = (seconds) => (seconds < 1 ? `${(seconds * 1000).toFixed(seconds < 0.01 ? 2 : 0)} ms` : `${seconds.toFixed(1)} s`);
+
+function showAnswer() {
+  const { answer } = state;
+  const [verdict, detail] = answer ? verdictOf(answer) : ["", ""];
+  byId("verdict").replaceChildren();
+  if (answer) {
+    const name = answer.kind === "walk" ? "walk" : answer.kind;
+    byId("verdict").append(element("b", { className: `kind ${answer.kind}` }, name), ` ${verdict.replace(/^\w+: /, "")}`);
+    const taken = answer.states ? ` · ${answer.states.count.toLocaleString("en")} states` : "";
+    byId("detail").textContent = [detail + taken, tookWords(answer.seconds)].filter(Boolean).join(" · ").replace(/^ · /, "");
+  } else {
+    byId("verdict").textContent = hasEnds() ? "" : "Click the map: first the start, then the goal.";
+    byId("detail").textContent = "";
+  }
+  // While an end is dragged a long line is shown in part, as to lay it out takes as long as the search.
+  byId("printed").textContent = answer ? shortened(answer.bytes, answer.words.keep ? 24_000 : 1500) : "";
+  showCommand();
+  const view = views[0];
+  if (!state.compare) {
+    view.content.walk = answer?.kind === "walk" ? answer.points : null;
+    redraw();
+  }
+}
+
+function showCommand() {
+  if (!hasEnds()) return;
+  const words = queryWords(state.engine, state.showStates ? "trace" : undefined);
+  byId("command").textContent = withMade(commandLine(["query", mapWord(), ...endWords()], words));
+  byId("draw-note").textContent = commandLine(["draw", mapWord(), ...endWords()], words) + " > walk.svg";
+  if (state.edits) byId("draw-note").textContent += "   (save the edited map first: Edit)";
+}
+
+function showEnds() {
+  for (const name of ["start", "goal"]) {
+    const field = byId(name);
+    if (document.activeElement !== field) field.value = state[name] ? `${state[name].x},${state[name].y}` : "";
+  }
+  if (!hasEnds()) return;
+  const told = [...endWords(), state.engine, state.rule].join(",");
+  history.replaceState(null, "", `#${told}`);
+}
+
+/** Takes over what stands in the address behind `#`, so that a page that is loaded again shows the same query. */
+export function readAddress() {
+  const [sx, sy, gx, gy, engine, rule] = location.hash.slice(1).split(",");
+  const numbers = [sx, sy, gx, gy].map(Number);
+  if (!gy || !numbers.every((it) => Number.isInteger(it) && it >= 0)) return false;
+  state.start = { x: numbers[0], y: numbers[1] };
+  state.goal = { x: numbers[2], y: numbers[3] };
+  if (ENGINE_NAMES.includes(engine)) state.engine = engine;
+  if (RULE_NAMES.includes(rule)) state.rule = rule;
+  return true;
+}
+
+async function draw() {
+  const words = { ...queryWords(state.engine, state.showStates ? "trace" : undefined), command: "draw" };
+  try {
+    const { output } = await during("The program is drawing", (signal) => api.run(words, signal));
+    saveAs(`walk-${endWords().join("-")}.svg`, output, "image/svg+xml");
+  } catch (fault) {
+    showBanner(...faultWords(fault));
+  }
+}
+
+/** One of a few names, with a line below on what the chosen one is. */
+function choices(id, name, names, key) {
+  byId(id).append(...names.map((it) => element("label", {},
+    element("input", { type: "radio", name, value: it, checked: state[key] === it, onchange: () => choose(key, it) }),
+    element("span", {}, it))));
+}
+
+function choose(key, value) {
+  state[key] = value;
+  tell("settings");
+}
+
+function showChoices() {
+  document.querySelectorAll("input[name=engine]").forEach((it) => (it.checked = it.value === state.engine));
+  document.querySelectorAll("input[name=rule]").forEach((it) => (it.checked = it.value === state.rule));
+  byId("engine-words").textContent = ENGINES[state.engine];
+  byId("rule-words").textContent = RULES[state.rule];
+}
+
+function typed(name) {
+  const field = byId(name), cell = readPoint(field.value.trim().replace(/[ ,;]+/, ","));
+  field.setCustomValidity(cell ? "" : "a column and a row, as 23,1");
+  field.reportValidity();
+  if (cell) setEnd(name, cell);
+}
+
+export function beginQuery() {
+  choices("engines", "engine", ENGINE_NAMES, "engine");
+  choices("rules", "rule", RULE_NAMES, "rule");
+  for (const name of ["start", "goal"]) byId(name).onchange = () => typed(name);
+  byId("swap").onclick = () => {
+    if (!hasEnds()) return;
+    [state.start, state.goal] = [state.goal, state.start];
+    tell("ends", { isDragged: false });
+    redraw();
+  };
+  byId("states").onchange = (event) => choose("cellStates", event.target.checked);
+  byId("draw").onclick = () => hasEnds() && draw();
+  byId("copy-printed").onclick = (event) => state.answer && copy(wholeText.decode(state.answer.bytes), event.target);
+  byId("copy-command").onclick = (event) => copy(byId("command").textContent, event.target);
+  on("ends", ({ isDragged }) => {
+    showEnds();
+    ask(!isDragged);
+  });
+  on("settings", () => {
+    showChoices();
+    showEnds();
+    showCommand();
+    ask();
+  });
+  on("edited", () => ask());
+  on("answer", showAnswer);
+  on("map", () => {
+    byId("states-choice").hidden = !state.hasStates;
+    showChoices();
+    showEnds();
+    showAnswer();
+  });
+}

@@ -1,0 +1,194 @@
+"""What one open page has on this side: its map, its edits, its programs and its files."""
+
+import contextlib
+import os
+import shutil
+import tempfile
+import threading
+import time
+
+import maps
+from programs import Fault, Live, TooMuch
+
+# A page that is closed is known by its stream; one that never opened the stream, or lost it, is given this long.
+SECONDS_WITHOUT_STREAM = 15
+MOST_EDITS = 4_000_000
+MOST_CERTIFICATE = 1 << 28
+# Tables of `plus` are mended at each edit; behind this many a process that makes them anew is quicker.
+MOST_MENDED = 40
+
+
+def most_lives(cells):
+    """How many `live` processes a page keeps: each has a map and a search of its own in memory."""
+    if cells > 1 << 22:
+        return 2
+    return 4 if cells > 1 << 20 else 8
+
+
+class Session:
+    """One page: `map_path` is what the program is called on, as long as no edit was made."""
+
+    def __init__(self, program, map_path, scen_path=None, walks_path=None):
+        self.program = program
+        self.folder = tempfile.mkdtemp(prefix="jps-page-")
+        self.scen_path = scen_path
+        self.walks_path = walks_path
+        self.map_words = self.scen_words = None  # the words of the program that made them, where they were made
+        self.lock = threading.Lock()
+        self.streams = 0
+        self.seen = time.monotonic()
+        self.lives = {}
+        self.take_map(map_path)
+
+    def take_map(self, path):
+        """Begins with this map. Its cells are None where the program has to say what is wrong with it."""
+        self.end_lives()
+        self.map_path = path
+        self.edits = []  # (verb, x, y), of those that the program answered with `ok`
+        self.journal = []  # what was done, as the lines of a script
+        self.written = 0  # how many of the edits the file of the edited map has
+        try:
+            self.map = maps.read(path)
+        except (maps.NoMap, OSError):
+            self.map = None
+
+    def fault_of_map(self, connection):
+        """What the program says of its map."""
+        said = []
+        status, line = self.program.call(["query", self.map_path, "0", "0", "0", "0"], connection, said.append)
+        return status, line or b"".join(said).decode(errors="replace").strip()
+
+    # The file that single calls of the program are given
+
+    def file(self, name):
+        return os.path.join(self.folder, name)
+
+    def edited_path(self):
+        """The file of the map as it now is, its own or one with the edits in it, and how many edits that has."""
+        with self.lock:
+            if not self.edits:
+                return self.map_path, 0
+            path = self.file("edited.map")
+            if self.written != len(self.edits):
+                with open(path + ".new", "wb") as file:
+                    file.write(self.map.text())
+                os.replace(path + ".new", path)  # a program that reads the one before keeps it
+                self.written = len(self.edits)
+            return path, self.written
+
+    def script(self):
+        return "".join(line + "\n" for line in self.journal).encode()
+
+    # Queries and edits
+
+    @contextlib.contextmanager
+    def live(self, settings):
+        """A process for these settings, the one that is there or a new one; nobody else asks it meanwhile."""
+        live = self.taken(tuple(settings))
+        try:
+            with live.lock:
+                yield live
+        finally:
+            with self.lock:
+                live.users -= 1
+
+    def taken(self, key):
+        with self.lock:
+            live = self.lives.pop(key, None)
+            late = live and len(self.edits) - live.edits > MOST_MENDED and "engine=plus" in key
+            if live and live.is_usable() and not late:
+                self.lives[key] = live  # the last one in the order is the one that was used last
+                live.users += 1
+                return live
+        if live:
+            live.end()
+        path, known = self.edited_path()
+        live = Live(self.program, [path, *key])
+        live.edits = known
+        with self.lock:
+            live.users += 1
+            self.end_idle(len(self.lives) + 1 - most_lives(len(self.map.cells)))
+            self.lives[key] = live
+        return live
+
+    def end_idle(self, count):
+        """Ends so many processes, those that were used longest ago; never one that is at work."""
+        for key, live in list(self.lives.items()):
+            if count > 0 and live.users == 0:
+                del self.lives[key]
+                live.end()
+                count -= 1
+
+    def ask(self, settings, line, connection, keep):
+        """The answer to one query on the map as it now is, and how long it took."""
+        with self.live(settings) as live:
+            self.catch_up(live, connection)
+            (answer,), seconds = live.ask([line], connection)
+        if keep:
+            self.journal.append(line)
+        return answer, seconds
+
+    def catch_up(self, live, connection):
+        """Tells a process the edits that it does not know yet."""
+        behind = self.edits[live.edits :]
+        if behind:
+            live.ask(["%s %d %d" % it for it in behind], connection)
+            live.edits += len(behind)
+
+    def edit(self, settings, wanted, connection):
+        """Works edits (verb, x, y, byte) by the process of these settings; returns its answers, one for each."""
+        if len(self.edits) + len(wanted) > MOST_EDITS:
+            raise TooMuch
+        if len(wanted) > MOST_MENDED:
+            settings = ["engine=block" if it == "engine=plus" else it for it in settings]
+        with self.live(settings) as live:
+            self.catch_up(live, connection)
+            lines = ["%s %d %d" % it[:3] for it in wanted]
+            answers, _ = live.ask(lines, connection)
+            with self.lock:
+                for (verb, x, y, byte), line, answer in zip(wanted, lines, answers):
+                    self.journal.append(line)
+                    if answer == b"ok":
+                        self.edits.append((verb, x, y))
+                        self.map.edit(verb, x, y, byte)
+            live.edits = len(self.edits)
+        return answers
+
+    # Single calls
+
+    def call(self, words, connection, take):
+        return self.program.call(words, connection, take)
+
+    def prove(self, words, connection, take):
+        """Calls `prove`, and keeps what it prints for `check`."""
+        with open(self.file("walk.cert"), "wb") as file:
+
+            def take_both(piece):
+                file.write(piece)
+                take(piece)
+
+            return self.program.call(words, connection, take_both, MOST_CERTIFICATE)
+
+    def write(self, words, name, connection):
+        """Calls the program and keeps what it prints in a file of its own; returns the path."""
+        path = self.file(name)
+        with open(path, "wb") as file:
+            status, line = self.program.call(words, connection, file.write)
+        if status > 1:
+            raise Fault(status, line)
+        return path
+
+    # The end
+
+    def end_lives(self):
+        with self.lock:
+            lives, self.lives = self.lives, {}
+        for live in lives.values():
+            live.end()
+
+    def is_left(self):
+        return self.streams == 0 and time.monotonic() - self.seen > SECONDS_WITHOUT_STREAM
+
+    def end(self):
+        self.end_lives()
+        shutil.rmtree(self.folder, ignore_errors=True)
