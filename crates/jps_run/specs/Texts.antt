@@ -64,4 +64,4 @@ help_text =
 
 -- what `--version` prints
 abbrev pub version_text : List ℕ
-version_text = codes "jps 1.1.0\n"
+version_text = codes "jps 1.2.0\n"

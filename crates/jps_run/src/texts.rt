@@ -80,5 +80,5 @@ faults, one line on standard error:
 pub(crate) fn version_text() -> &'static [u8]
     ensures { result.now ≡ spec.version_text }
 {
-    b"jps 1.1.0\n"
+    b"jps 1.2.0\n"
 }

@@ -13,8 +13,8 @@ pub fn replies_are_one()
     ensures { RepliesAreOne }
 {}
 
-/// Two who answer on the same layers by engines that jump (`jps`, `block` and `plus`) have the same
-/// reply: points, cost and taken states.
+/// Two who answer on the same layers by engines that jump (`jps`, `block` and `plus`), with the same states,
+/// have the same reply: points, cost and taken states.
 pub fn jump_engines_reply_the_same()
     ensures { JumpEnginesReplyTheSame }
 {}
