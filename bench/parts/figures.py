@@ -1,4 +1,4 @@
-"""The tables of README and docs/SPEED.md, made of the results and put between marks in the pages.
+"""The tables of README, docs/SPEED.md and bench/FIGURES.md, made of the results and put between marks in the pages.
 
 A mark is a line `<!--bench:NAME-->`; what stands between it and the next line `<!--/bench-->` is written anew each
 time, and nothing else of a page is touched. Parts that a run has not measured stay as they are.
@@ -13,6 +13,7 @@ import plots
 ENGINES = ("plain", "jps", "block", "plus")
 JUMPS = ENGINES[1:]
 MOST = 1.15                              # above this the part of the open list is told
+HEAPS = "../bench/FIGURES.md#where-an-engine-takes-more-than-115-of-the-references-time"
 
 
 def find(rows, **wanted):
@@ -22,6 +23,10 @@ def find(rows, **wanted):
 
 def name_of(name):
     return inputs.TOLD.get(name, name)
+
+
+def short(name):
+    return name_of(name).split(" (")[0]
 
 
 def engine_words(row):
@@ -78,10 +83,10 @@ def origin(results):
 def queries_table(results, states, engines):
     """Each map by each engine: the median time of a further query, and its ratio to the reference."""
     rows = results["queries"]
-    head = ["Map", "Cells", "Queries", *(word for engine in engines for word in (f"`{engine}`", "ratio"))]
+    head = ["Map", "Cells", *(word for engine in engines for word in (f"`{engine}`", "ratio"))]
     lines = []
     for name in maps_of(rows):
-        line = [name_of(name), cells_of(results, name), results["maps"][name]["entries"]]
+        line = [name_of(name), cells_of(results, name).replace(" ", "")]
         for engine in engines:
             key = "arrival" if engine == "plain" else states
             mine = find(rows, map=name, engine=engine, states=key, program="jps")
@@ -91,7 +96,7 @@ def queries_table(results, states, engines):
         lines.append(line)
     middle = medians(rows, states, engines=engines)
     last = [word for engine in engines for word in ("", f"{middle[engine]:.2f}" if engine in middle else "")]
-    lines.append(["median of the ratios", "", "", *last])
+    lines.append(["median of the ratios", "", *last])
     return told.table(head, lines)
 
 
@@ -100,12 +105,12 @@ def cell_gain(results):
     rows = results["queries"]
     lines = []
     for name in maps_of(rows):
-        line = [name_of(name)]
+        line = [short(name)]
         for engine in JUMPS:
             pair = [find(rows, map=name, engine=engine, states=it, program="jps") for it in ("cell", "arrival")]
             line.append(told.ratio_text(told.ratio(*(it["per_query"] for it in pair))) if all(pair) else "")
         lines.append(line)
-    return told.table(["Time with `states=cell` over that without", *(f"`{it}`" for it in JUMPS)], lines)
+    return told.table(["`states=cell` over `arrival`", *(f"`{it}`" for it in JUMPS)], lines)
 
 
 def heap_table(results):
@@ -124,20 +129,27 @@ def heap_table(results):
     if not lines:
         return f"No engine takes more than {MOST} of the reference's time on any of these maps."
     head = ["Map", "Engine", "Beside the reference", "of it the kind of open list", "the rest"]
-    return f"Where it takes more than {MOST} of the reference's time:\n\n" + told.table(head, lines)
+    return told.table(head, lines)
+
+
+def has_cell(results):
+    return "cell" in states_of(results["queries"])
+
+
+def has_pairing(results):
+    return any(row["program"] == "pairing" for row in results["queries"])
 
 
 def queries_text(results):
     parts = [origin(results), queries_table(results, "arrival", ENGINES)]
     parts.append(
-        "A time is the median over the turns of one further query, behind it its ratio to the C++ reference of the "
-        "same engine; `~` says that the turns do not tell it from 1."
+        "A time is the median over the turns of one further query (of 150 to 400 a map), behind it its ratio to the "
+        "C++ reference of the same engine; `~` says that the turns do not tell it from 1."
     )
-    if "cell" in states_of(results["queries"]):
-        parts.append("With one state for each cell (`states=cell`):")
-        parts += [queries_table(results, "cell", JUMPS), cell_gain(results)]
-    if any(row["program"] == "pairing" for row in results["queries"]):
-        parts.append(heap_table(results))
+    if has_cell(results):
+        parts += ["With one state for each cell ([FIGURES](../bench/FIGURES.md) has the times):", cell_gain(results)]
+    if has_pairing(results):
+        parts.append(f"Above {MOST} of the reference's time [FIGURES]({HEAPS}) tells how much is the kind of open list.")
     for other in dict.fromkeys(row["program"] for row in results["queries"]):
         if other in ("jps", "reference", "pairing"):
             continue
@@ -176,7 +188,7 @@ def spread_text(results):
         own, theirs = (", ".join(told.micros(it)[:-3] for it in told.spread(it["per_query"])) for it in (row, other))
         lines.append([name_of(row["map"]), f"`{engine}`", own, theirs, f"{ratio[1]:.2f} to {ratio[2]:.2f}"])
     head = ["Map", "Engine", "least, lower quarter, median (us)", "the reference's", "quarters of the ratios of turns"]
-    return ["## How far the times spread", told.table(head, lines)]
+    return [told.table(head, lines)]
 
 
 def counts_text(results):
@@ -202,7 +214,7 @@ def counts_text(results):
     by = "`perf stat`" if results["counts"]["by"] == "perf" else model
     words = "Thousands for each further query, in brackets the ratio to the reference's; counted on fewer entries by "
     words += f"{by}."
-    return ["## Counts beside the reference", words, told.table(["Map", "Engine", *names], lines)]
+    return [words, told.table(["Map", "Engine", *names], lines)]
 
 
 # ---------------------------------------------------------------- libraries
@@ -241,7 +253,7 @@ def libraries_text(results):
     lines = []
     for name in dict.fromkeys(name for name, _ in found):
         pairs = [found.get((name, library)) for library in names]
-        lines.append([name_of(name), *(", ".join(map(told.times_as_long, pair)) if pair else "" for pair in pairs)])
+        lines.append([short(name), *(", ".join(map(told.times_as_long, pair)) if pair else "" for pair in pairs)])
     wrong = sorted({row["library"] for row in results["libraries"]["rows"] if row.get("wrong")})
     agree = f"Other lengths were told by {', '.join(wrong)}." if wrong else "All lengths agreed."
     words = "How many times as long a library takes as the program's `plain` and as its `block`, on the same queries. "
@@ -276,25 +288,50 @@ def process_words(name, side):
 
 
 def processes_text(results):
+    """The medians."""
     side = results["processes"]["side"]
     lines = []
     for name, row in results["processes"]["rows"].items():
-        values = row["processor"]
+        lines.append([process_words(name, side), told.seconds(max(told.median(row["processor"]), 1e-9))])
+    return [told.table(["What, the whole process but for edits", "Time"], lines)]
+
+
+def process_spread_text(results):
+    """The least time, the lower quarter and the median, and the median by the clock."""
+    side = results["processes"]["side"]
+    lines = []
+    for name, row in results["processes"]["rows"].items():
+        values = (told.seconds(max(it, 1e-9)) for it in told.spread(row["processor"]))
         clock = told.seconds(told.median(row["clock"])) if "clock" in row else ""
-        lines.append([process_words(name, side), *(told.seconds(max(it, 1e-9)) for it in told.spread(values)), clock])
-    head = ["What, the whole process but for edits", "least", "lower quarter", "median", "median by the clock"]
-    return [told.table(head, lines)]
+        lines.append([process_words(name, side), *values, clock])
+    return [told.table(["What", "least", "lower quarter", "median", "median by the clock"], lines)]
+
+
+def asked_words(row):
+    return "neighbours on an open map" if row["map"] == "neighbours" else name_of(row["map"])
 
 
 def pipe_text(results):
+    """The medians, with a state for each arrival."""
+    rows = [row for row in results["pipe"] if row["states"] != "cell"]
+    engines = list(dict.fromkeys(row["engine"] for row in rows))
+    lines = []
+    for name in maps_of(rows):
+        found = [find(rows, map=name, engine=engine) for engine in engines]
+        lines.append([asked_words(find(rows, map=name)), *(told.seconds(row["0.5"]) if row else "" for row in found)])
+    head = ["Questions", *("the pipe alone" if it == "cat" else f"`{it}`" for it in engines)]
+    words = "The median by the clock; how late answers may be: [FIGURES](../bench/FIGURES.md#the-pipe-of-live)."
+    return ["## Answers through the pipe of `live`", words, told.table(head, lines)]
+
+
+def pipe_spread_text(results):
     lines = []
     for row in results["pipe"]:
         engine = engine_words(row)
-        name = "neighbours on an open map" if row["map"] == "neighbours" else name_of(row["map"])
         who = "the pipe alone (`cat`)" if engine == "cat" else f"`{engine}`"
-        lines.append([name, who, row["questions"], *(told.seconds(row[it]) for it in ("0.5", "0.99", "0.999"))])
+        lines.append([asked_words(row), who, row["questions"], *(told.seconds(row[it]) for it in ("0.5", "0.99", "0.999"))])
     head = ["Questions", "By", "How many", "median", "99 of 100 within", "999 of 1000 within"]
-    return ["## Answers through the pipe of `live`", told.table(head, lines)]
+    return [told.table(head, lines)]
 
 
 def by_size(results, part, write):
@@ -309,11 +346,18 @@ def by_size(results, part, write):
     return told.table(["Cells", *(f"`{it}`" for it in words)], lines)
 
 
-def growth_text(results, pictures):
-    words = "Cities of five sizes, each with 40 queries spread over all lengths: the median time of a further query."
-    parts = ["## How it grows", words]
+def growth_text(pictures):
+    """The picture."""
+    words = "Cities of five sizes, each with 40 queries spread over all lengths: the median time of a further query. "
+    words += "[FIGURES](../bench/FIGURES.md#how-it-grows) has the numbers, and the memory that is taken."
+    told_of = "the time of a query by the side of the map, a line for each engine"
+    return ["## How it grows", words, *picture("growth", pictures, told_of)]
+
+
+def growth_numbers_text(results):
+    """The times, and the memory."""
+    parts = ["The median time of a further query:"]
     parts.append(by_size(results, "growth", lambda row: told.seconds(told.median(row["per_query"]))))
-    parts += picture("growth", pictures, "the time of a query by the side of the map, a line for each engine")
     if results.get("memory"):
         parts.append("The most memory that a `live` takes which has answered one of the longest queries:")
         parts.append(by_size(results, "memory", lambda row: told.megabytes(row["peak"])))
@@ -362,7 +406,7 @@ def readme_text(results):
     lines = [reference_row(rows), library_row(results) if "libraries" in results else None]
     names = sorted(maps_of(rows), key=lambda name: results["maps"][name]["width"] * results["maps"][name]["height"])
     sizes = [cells_of(results, name).replace("x", "×") for name in (names[0], names[-1])]
-    head = f"On {len(names)} maps, from {sizes[0]} to {sizes[1]} cells, none of them the benchmark's"
+    head = f"On {len(names)} maps, from {sizes[0]} to {sizes[1]} cells"
     mine = [row for row in rows if row["program"] == "jps"]
     quick, slow = (choose(mine, key=lambda row: told.median(row["per_query"])) for choose in (min, max))
     last = f"A query takes from {mean_words(quick)} to {mean_words(slow)}.".replace(" us ", " µs ")
@@ -370,9 +414,8 @@ def readme_text(results):
 
 
 def mean_words(row):
-    short = name_of(row["map"]).split(" (")[0].split(",")[0]
-    engine = engine_words(row)
-    return f"{told.seconds(told.median(row['per_query']))} (`{engine}`, {short})"
+    where = short(row["map"]).split(",")[0]
+    return f"{told.seconds(told.median(row['per_query']))} (`{engine_words(row)}`, {where})"
 
 
 # ---------------------------------------------------------------- pages
@@ -380,23 +423,30 @@ def mean_words(row):
 def blocks_of(results, pictures):
     """What stands between which marks of which page."""
     has = results.__contains__
-    blocks = {"docs/SPEED.md": {}, "README.md": {}}
-    speed = blocks["docs/SPEED.md"]
+    blocks = {"docs/SPEED.md": {}, "README.md": {}, "bench/FIGURES.md": {}}
+    speed, more = blocks["docs/SPEED.md"], blocks["bench/FIGURES.md"]
     if has("queries"):
         words = "time of a query by map, a dot for each engine"
         speed["queries"] = [*queries_text(results), *picture("queries", pictures, words)]
-        speed["spread"] = spread_text(results)
+        more["spread"] = spread_text(results)
+        if has_cell(results):
+            more["cell"] = [queries_table(results, "cell", JUMPS)]
+        if has_pairing(results):
+            more["heaps"] = [heap_table(results)]
         blocks["README.md"]["readme"] = readme_text(results)
     if has("counts"):
-        speed["counts"] = counts_text(results)
+        more["counts"] = counts_text(results)
     if has("libraries") and results["libraries"]["rows"]:
         speed["libraries"] = libraries_text(results)
     if has("processes"):
         speed["processes"] = processes_text(results)
+        more["processes"] = process_spread_text(results)
     if has("pipe"):
         speed["pipe"] = pipe_text(results)
+        more["pipe"] = pipe_spread_text(results)
     if has("growth"):
-        speed["growth"] = growth_text(results, pictures)
+        speed["growth"] = growth_text(pictures)
+        more["growth"] = growth_numbers_text(results)
     if has("taken"):
         words = "How many states `plain` and `block` take, by the length of the walk:"
         seen = picture("taken", pictures, "taken states against the length of the walk, a box for each map")
@@ -429,4 +479,4 @@ def write_pages(results, top):
                 print(f"bench: {page} has no mark for {name}")
             text = with_block(text, name, block)
         path.write_text(text)
-    print(f"bench: wrote {', '.join(sorted(pictures.values()))} and the tables of README.md and docs/SPEED.md")
+    print(f"bench: wrote {', '.join(sorted(pictures.values()))} and the tables of {', '.join(blocks_of(results, pictures))}")

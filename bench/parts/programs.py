@@ -35,6 +35,11 @@ def output_of(words, default=""):
     return done.stdout.strip() if done.returncode == 0 else default
 
 
+def own():
+    """The program that ./jps runs."""
+    return subprocess.run([TOP / "jps", "--program"], check=True, stdout=subprocess.PIPE, text=True).stdout.strip()
+
+
 def is_older(made, *sources):
     """Whether what was made is absent or older than one of its sources."""
     return not made.exists() or any(made.stat().st_mtime < source.stat().st_mtime for source in sources)
