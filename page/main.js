@@ -85,6 +85,7 @@ export async function takeMap(told, isFirst = false) {
   byId("about").textContent = `${told.version}. All that is shown was printed by this program.`;
   const name = told.map.split("/").pop();
   document.title = `${name} – jps`;
+  document.querySelector("main").inert = told.fault !== undefined; // without a map there is nothing to ask
   if (told.fault !== undefined) {
     byId("map-name").textContent = name;
     showBanner(...faultWords(new api.Fault(told.fault, told.status)));
@@ -125,7 +126,7 @@ function beginDialogs() {
 function keys(event) {
   const isTyping = event.target.matches("input:not([type=radio]):not([type=checkbox]):not([type=range]), textarea");
   if (event.key === "Escape") stopAll();
-  if (isTyping || document.querySelector("dialog[open]")) return;
+  if (isTyping || document.querySelector("dialog[open]") || (!state.map && event.key !== "?")) return;
   if ((event.ctrlKey || event.metaKey) && event.key === "z") undo();
   else if (event.ctrlKey || event.metaKey || event.altKey) return;
   else if (event.key === "?") byId("help-dialog").showModal();

@@ -6,11 +6,13 @@ const NS = "http://www.w3.org/2000/svg";
 const SIZE = { width: 360, height: 250, left: 46, right: 10, top: 10, bottom: 34 };
 /** Forms as well as colours, so that the engines are told apart without colours. */
 const FORMS = {
-  plain: (x, y) => `M${x - 2.2} ${y}a2.2 2.2 0 1 0 4.4 0a2.2 2.2 0 1 0 -4.4 0`,
-  jps: (x, y) => `M${x - 2} ${y - 2}h4v4h-4z`,
-  block: (x, y) => `M${x} ${y - 2.8}l2.6 4.6h-5.2z`,
-  plus: (x, y) => `M${x} ${y - 3}l3 3l-3 3l-3 -3z`,
+  plain: (r) => `m${-r} 0a${r} ${r} 0 1 0 ${2 * r} 0a${r} ${r} 0 1 0 ${-2 * r} 0`,
+  jps: (r) => `m${-r} ${-r}h${2 * r}v${2 * r}h${-2 * r}z`,
+  block: (r) => `m0 ${-1.3 * r}l${1.2 * r} ${2.1 * r}h${-2.4 * r}z`,
+  plus: (r) => `m0 ${-1.4 * r}l${1.4 * r} ${1.4 * r}l${-1.4 * r} ${1.4 * r}l${-1.4 * r} ${-1.4 * r}z`,
 };
+// Of many marks each is small, so that it is seen where most of them are.
+const MANY = 1500;
 
 function svg(name, attributes, ...children) {
   const made = document.createElementNS(NS, name);
@@ -22,7 +24,7 @@ function svg(name, attributes, ...children) {
 /** A small picture of an engine's mark. */
 export function markOf(engine) {
   return svg("svg", { viewBox: "0 0 12 12", width: 14, height: 14, "aria-hidden": "true" },
-    svg("path", { d: FORMS[engine](6, 6), class: `mark ${engine}`, transform: "translate(6 6) scale(1.7) translate(-6 -6)" }));
+    svg("path", { d: `M6 6${FORMS[engine](3.6)}`, class: `mark ${engine}` }));
 }
 
 /** A step of 1, 2 or 5 times a power of ten, with at most six of them up to `most`. */
@@ -30,6 +32,8 @@ function niceStep(most) {
   const power = 10 ** Math.floor(Math.log10(most / 6 || 1));
   return power * ([1, 2, 5, 10].find((it) => (most / (power * it)) <= 6) || 10);
 }
+
+const powerWord = (power) => `${10 ** (power % 3)}${["", "k", "M"][Math.floor(power / 3)]}`;
 
 function axes(mostLength, powers, x, y) {
   const group = svg("g", { class: "axes" });
@@ -40,7 +44,7 @@ function axes(mostLength, powers, x, y) {
   }
   for (let power = 0; power <= powers; power += 1) {
     group.append(svg("path", { d: `M${SIZE.left} ${y(10 ** power)}H${SIZE.width - SIZE.right}`, class: "rule" }),
-      svg("text", { x: SIZE.left - 6, y: y(10 ** power) + 4, "text-anchor": "end" }, (10 ** power).toLocaleString("en")));
+      svg("text", { x: SIZE.left - 6, y: y(10 ** power) + 4, "text-anchor": "end" }, powerWord(power)));
   }
   group.append(svg("text", { x: (SIZE.left + SIZE.width - SIZE.right) / 2, y: SIZE.height - 4, "text-anchor": "middle" }, "length"),
     svg("text", { transform: `translate(10 ${(SIZE.top + SIZE.height - SIZE.bottom) / 2}) rotate(-90)`, "text-anchor": "middle" }, "taken states"));
@@ -59,8 +63,9 @@ export function plot(series, pick) {
   const picture = svg("svg", { viewBox: `0 0 ${SIZE.width} ${SIZE.height}`, role: "img",
     "aria-label": `Taken states against length, ${points.length} marks` }, axes(mostLength, powers, x, y));
   for (const engine of Object.keys(series)) {
+    const form = FORMS[engine](points.length > MANY ? 1 : 2.2);
     const d = points.filter((it) => it.engine === engine)
-      .map((it) => FORMS[engine](Number(x(it.length).toFixed(1)), Number(y(it.taken).toFixed(1)))).join("");
+      .map((it) => `M${x(it.length).toFixed(1)} ${y(it.taken).toFixed(1)}${form}`).join("");
     picture.append(svg("path", { d, class: `mark ${engine}` }));
   }
   const ring = svg("circle", { r: 7, class: "ring", visibility: "hidden" });

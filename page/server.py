@@ -455,6 +455,7 @@ def main():
     def stop(*_):
         raise KeyboardInterrupt
 
+    signal.signal(signal.SIGINT, stop)
     signal.signal(signal.SIGTERM, stop)
     signal.signal(signal.SIGHUP, stop)
     print(f"http://{server.own_host}/{server.secret}/", flush=True)

@@ -8,7 +8,7 @@ import threading
 import time
 
 import maps
-from programs import Fault, Live, TooMuch
+from programs import Fault, Live
 
 # A page that is closed is known by its stream; one that never opened the stream, or lost it, is given this long.
 SECONDS_WITHOUT_STREAM = 15
@@ -138,7 +138,7 @@ class Session:
     def edit(self, settings, wanted, connection):
         """Works edits (verb, x, y, byte) by the process of these settings; returns its answers, one for each."""
         if len(self.edits) + len(wanted) > MOST_EDITS:
-            raise TooMuch
+            raise Fault(0, f"a page takes {MOST_EDITS} edits: save the map, and begin with that one")
         if len(wanted) > MOST_MENDED:
             settings = ["engine=block" if it == "engine=plus" else it for it in settings]
         with self.live(settings) as live:
