@@ -58,7 +58,12 @@ fn print_reply(rt: &impl Print, reply: &Reply) -> io::Result<()> {
 
 fn main(rt: HostRuntime) -> Result<()> {
     let map = read_map(rt.alloc(), MAP)?;
-    let mut session = Session::new(rt.alloc(), &map, Engine::Block(Layout::ByCell), Corner::Never)?;
+    let mut session = Session::new(
+        rt.alloc(),
+        &map,
+        Engine::Block(Layout::ByCell),
+        Corner::Never,
+    )?;
     let reply = reply_with_door::<Brand>(rt.alloc(), &mut session, Blank::new(1))?;
     print_reply(&rt, &reply)?;
     Ok(())

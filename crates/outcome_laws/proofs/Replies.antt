@@ -1,6 +1,6 @@
 -- Replies of whoever answers are one, those of engines that jump are the same, and all cost the same.
 use Rattle.std.proofs.Common.{◌≡◌, ℕ, refl, ap, sym, ◌∙◌, subst, Bool, true, false, ◌&&◌, List, []}
-use Rattle.std.specs.Prelude.{MatchBool, Option, not}
+use Rattle.std.specs.Prelude.{MatchBool, Option}
 use Rattle.std.specs.Prelude as option
 use Rattle.root2_cost.specs.declared.Cost.{Cost}
 use Rattle.grid_moves.specs.declared.Cell.{Cell}
@@ -9,7 +9,8 @@ use Rattle.grid_moves.specs.Layers.{AreLayers, Layers, query_grid}
 use Rattle.grid_moves.specs.Reply.{IsRight}
 use Rattle.path_points.specs.declared.points.Walk as points
 use Rattle.best_first.specs.declared.found.Found.{Found}
-use Rattle.edit_replay.specs.Kept.{is_plain}
+use Rattle.best_first.specs.declared.state.Layout.{Layout}
+use Rattle.edit_replay.specs.Kept.{states_of}
 use Rattle.edit_replay.specs.Replies.{answer_of, IsRunOn}
 use Rattle.edit_replay.specs.Session.{SessionData}
 use Rattle.edit_replay.specs.declared.engine.Engine.{Engine}
@@ -21,7 +22,7 @@ use Rattle.jps_run.specs.Who.{By, Who, by_session, by_boxes, by_moves, IsBoxedRe
 use Rattle.jps_run.specs.Who.{IsReplyOn}
 use Rattle.outcome_laws.specs.Costs.{gist_of}
 use Rattle.outcome_laws.specs.Costs as gist
-use Rattle.outcome_laws.specs.Oneness.{is_by_jumps}
+use Rattle.outcome_laws.specs.Oneness.{jumps_with}
 use Rattle.outcome_laws.proofs.SameReplies.{AreAlike, walks, nones, outsides, blockeds, alike}
 use Rattle.outcome_laws.proofs.Boxed.{one_boxed}
 use Rattle.outcome_laws.proofs.Led.{one_followed}
@@ -73,20 +74,11 @@ module _ (g : GridData) (s t : Cell) where
   led_is_one one other outsides is also = refl
   led_is_one one other blockeds is also = refl
 
--- engines that both jump are alike
-plainness : (d e : Engine) → not (is_plain d) ≡ true → not (is_plain e) ≡ true → is_plain d ≡ is_plain e
-plainness d e f h = by_tests (is_plain d) (is_plain e) f h
-  where
-    by_tests : (a b : Bool) → not a ≡ true → not b ≡ true → a ≡ b
-    by_tests false false f h = refl
-    by_tests true b f h = absurd (cc)
-    by_tests false true f h = absurd (cc)
-
 module _ (ls : Layers) (are : AreLayers ls) (s t : Cell) (one other : Reply)
     (right : IsRight ls s t (answer_of one))
     (right_too : IsRight ls s t (answer_of other)) where
-  -- by engines of sessions that both jump or are both plain
-  searched_is_one : (d e : Engine) → is_plain d ≡ is_plain e → IsRunOn d (query_grid ls s) s t one
+  -- by engines of sessions that both jump with the same states or are both plain
+  searched_is_one : (d e : Engine) → states_of d ≡ states_of e → IsRunOn d (query_grid ls s) s t one
       → IsRunOn e (query_grid ls s) s t other → one ≡ other
   searched_is_one d e same is also =
       let first : SessionData = record { engine = d; layers = ls } in
@@ -103,10 +95,11 @@ module _ (ls : Layers) (are : AreLayers ls) (s t : Cell) (one other : Reply)
   come_to_is_one by_moves is also =
       led_is_one (query_grid ls s) s t one other (alike ls are s t one other right right_too) is also
 
-  jumped_is_one : (by other_by : By) → is_by_jumps by ≡ true → is_by_jumps other_by ≡ true
-      → IsReplyOn by (query_grid ls s) s t one → IsReplyOn other_by (query_grid ls s) s t other → one ≡ other
-  jumped_is_one (by_session d) (by_session e) f h is also = searched_is_one d e (plainness d e f h) is also
-  jumped_is_one by other_by f h is also = absurd (cc)
+  jumped_is_one : (layout : Layout) (by other_by : By) → jumps_with by ≡ option.Some layout
+      → jumps_with other_by ≡ option.Some layout → IsReplyOn by (query_grid ls s) s t one
+      → IsReplyOn other_by (query_grid ls s) s t other → one ≡ other
+  jumped_is_one layout (by_session d) (by_session e) f h is also = searched_is_one d e (f ∙ sym h) is also
+  jumped_is_one layout by other_by f h is also = absurd (cc)
 
 -- replies of one kind that cost the same come to the same
 same_gist : (one other : Reply) → AreAlike one other → gist_of one ≡ gist_of other
@@ -127,12 +120,13 @@ on_layers first second s t reply same is =
     subst (λ (ls : Layers). let who : Who = record { layers = ls; by = second.by } in IsReplyBy who s t reply)
     (sym same) is
 
-pub one_jump_reply : (first second : Who) (s t : Cell) (one other : Reply) → first.layers ≡ second.layers
-    → AreLayers first.layers → is_by_jumps first.by ≡ true → is_by_jumps second.by ≡ true
-    → IsReplyBy first s t one → IsReplyBy second s t other → one ≡ other
-one_jump_reply first second s t one other same are f h p q =
+pub one_jump_reply : (first second : Who) (layout : Layout) (s t : Cell) (one other : Reply)
+    → first.layers ≡ second.layers → AreLayers first.layers → jumps_with first.by ≡ option.Some layout
+    → jumps_with second.by ≡ option.Some layout → IsReplyBy first s t one → IsReplyBy second s t other
+    → one ≡ other
+one_jump_reply first second layout s t one other same are f h p q =
     let r = on_layers first second s t other same q in
-    jumped_is_one first.layers are s t one other p.right r.right first.by second.by f h p.run r.run
+    jumped_is_one first.layers are s t one other p.right r.right layout first.by second.by f h p.run r.run
 
 pub one_gist : (first second : Who) (s t : Cell) (one other : Reply) → first.layers ≡ second.layers
     → AreLayers first.layers → IsReplyBy first s t one → IsReplyBy second s t other

@@ -50,7 +50,15 @@ fn is_answer(
     walk: Option<(&[Cell], Cost)>,
     states: &[u32],
 ) -> Result<bool, NoMemory> {
-    is_told::<Brand>(alloc, grid, Layout::ByArrival, to, walk, states, Blank::new(1))
+    is_told::<Brand>(
+        alloc,
+        grid,
+        Layout::ByArrival,
+        to,
+        walk,
+        states,
+        Blank::new(1),
+    )
 }
 
 // The same with one state for each cell, where it is told by the number of the arrival that it has when it is

@@ -162,7 +162,11 @@ fn moves_between_blocked_cells(rt: HostRuntime) -> Result<(), Fail> {
         Line::Query((0, 0, 2, 2), (3, 0, 2, 3)),
     ];
     for layout in [Layout::ByArrival, Layout::ByCell] {
-        for engine in [Engine::Jps(layout), Engine::Block(layout), Engine::Plus(layout)] {
+        for engine in [
+            Engine::Jps(layout),
+            Engine::Block(layout),
+            Engine::Plus(layout),
+        ] {
             check_script(rt.alloc(), &rt, text, engine, Corner::Both, &lines)?;
         }
     }
