@@ -330,11 +330,11 @@ def library_jobs(run):
     return jobs
 
 
-def ask_library(words, row):
+def ask_library(words, row, folder):
     """One call of a library's program, which prints a line of JSON with its own times."""
     if row["library"] in SLOW and len(row["per_query"]) >= SLOW_TURNS:
         return
-    done = subprocess.run(words, stdout=subprocess.PIPE, stderr=subprocess.PIPE, text=True, check=False)
+    done = subprocess.run(words, stdout=subprocess.PIPE, stderr=subprocess.PIPE, text=True, check=False, cwd=folder)
     told = [line for line in done.stdout.splitlines() if line.startswith("{")]
     if not told:
         row["fault"] = (done.stderr.strip().splitlines() or ["no words"])[-1][:160]
@@ -374,7 +374,8 @@ def libraries(run):
     jobs = library_jobs(run)
     rows = [{"map": name, "library": library, "per_query": [], "prepared": []} for name, library, _ in jobs]
     cases = library_cases(run) if jobs else []
-    calls = [lambda words=words, row=row: ask_library(words, row) for (_, _, words), row in zip(jobs, rows)]
+    folder = run.scratch.folder.name                         # Godot writes a log where it is started
+    calls = [lambda words=words, row=row: ask_library(words, row, folder) for (_, _, words), row in zip(jobs, rows)]
     calls += [lambda case=case, kind=kind: case.call(kind) for case in cases for kind in case.calls]
     take_turns(run, calls, run.turns)
     for row in rows:
