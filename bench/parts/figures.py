@@ -283,7 +283,8 @@ def process_words(name, side):
     if name.startswith("first answer"):
         return f"first answer on a map of {side} x {side}, a quarter blocked, by `{name.split(', ')[1]}`"
     _, kind, engine = name.split(", ")
-    where = "on such a map" if kind == "scattered" else f"in the middle of an open map of {side} x {side}"
+    scattered = kind == "scattered"
+    where = f"on {side} x {side}, a quarter blocked" if scattered else f"in the middle of {side} x {side} open cells"
     return f"one edit {where}, by `{engine}`"
 
 
