@@ -37,7 +37,8 @@ abbrev pub state_in : Layout → State → State
 state_in ByCell s = start_at s.cell
 state_in ByArrival s = s
 
--- the direction in which the second cell lies from the first, where it lies straight or diagonally from it
+-- the direction in which the second cell lies from the first; where it lies neither straight nor diagonally from
+-- it, the diagonal between, in which no run leads there
 abbrev pub heading : Cell → Cell → Option Dir
 heading u v =
     if nat_lt u.x v.x
@@ -72,6 +73,22 @@ state_told p = record {
   cell = record { x = p.bits / 16 % 4096; y = p.bits / 65536 };
   arrival = slice_get all_dirs (p.bits % 16);
 }
+
+-- to the lower right, to the left, and nowhere
+pub lower_right : heading (record { x = 0; y = 0 }) (record { x = 2; y = 2 }) ≡ Some SE
+lower_right = refl
+
+pub to_the_left : heading (record { x = 4; y = 1 }) (record { x = 1; y = 1 }) ≡ Some W
+to_the_left = refl
+
+pub nowhere : heading (record { x = 3; y = 1 }) (record { x = 3; y = 1 }) ≡ None
+nowhere = refl
+
+-- by cell (2,2), come to from (2,0), is printed as the state with arrival S, on a map of 3 columns: 9 · 8 + 4
+pub printed_by_cell : state_number 3 (arrived_in ByCell (start_at (record { x = 2; y = 0 }))
+    (start_at (record { x = 2; y = 2 })))
+    ≡ 76
+printed_by_cell = refl
 
 -- column 5 of row 2, come to from the north
 pub told_again :

@@ -9,10 +9,10 @@
 //!
 //! A row stands for a call by each engine and under each rule of the sets that its words name, and all of
 //! them have the same outcome. An engine that jumps counts twice, with one state for each direction of arrival
-//! at a cell, and with one for each cell (`states=cell`). The first file is `m`: rows of cells, or a whole text where it begins with
-//! `type`. The second is `s`, and what comes in to `live`; the third is `t`. A line `~N` is N blanks. `%` is
-//! the table file of three cells under the row's rule, `%P=B` has the byte B at place P, `%cut` lacks the
-//! last byte. A line `jps: ..` goes to standard error, all others are the output.
+//! at a cell, and with one for each cell (`states=cell`). The first file is `m`: rows of cells, or a whole text
+//! where it begins with `type`. The second is `s`, and what comes in to `live`; the third is `t`. A line `~N` is
+//! N blanks. `%` is the table file of three cells under the row's rule, `%P=B` has the byte B at place P, `%cut`
+//! lacks the last byte. A line `jps: ..` goes to standard error, all others are the output.
 
 use crate::calls::{Call, ENGINES, RULES, check, check_reads};
 use crate::commands::THREE_CELLS;

@@ -1,5 +1,5 @@
 -- What a session keeps for its searches.
-use Rattle.std.specs.Prelude.{⊤, Bool, if◌then◌else◌, Option, Some, None, is_none}
+use Rattle.std.specs.Prelude.{⊤, Bool, if◌then◌else◌, Option, Some, None}
 use Rattle.best_first.specs.declared.state.Layout.{Layout}
 use Rattle.grid_moves.specs.Grid.{GridData}
 use Rattle.grid_moves.specs.Layers.{AreLayers, Layers}
@@ -33,10 +33,6 @@ states_of Plain = None
 states_of (Jps layout) = Some layout
 states_of (Block layout) = Some layout
 states_of (Plus layout) = Some layout
-
--- the engine goes by single moves
-abbrev pub is_plain : Engine → Bool
-is_plain engine = is_none (states_of engine)
 
 -- two grids as layers
 abbrev pub as_layers : Both GridData → Layers

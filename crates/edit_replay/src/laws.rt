@@ -10,7 +10,8 @@ pub fn replies_exist()
 
 /// Whatever the ends, on the layers of one map there is no other such reply: two that are right and the
 /// run of their session's engine have the same points, the same cost and the same taken states. They are
-/// replies of one session or of two, by one engine or by two that both jump with the same states (`jps`, `block` and `plus`).
+/// replies of one session or of two, by one engine or by two that both jump with the same states (`jps`,
+/// `block` and `plus`).
 pub fn replies_are_one()
     ensures { RepliesAreOne }
 {}

@@ -79,7 +79,8 @@ impl Session {
     }
 
     /// A session of the engine `plus`, with these states, on a map's layers, which get this corner rule, with
-    /// tables that are there already: those of its land grid and of its water grid. None are built, and edits mend these.
+    /// tables that are there already: those of its land grid and of its water grid. None are built, and edits
+    /// mend these.
     pub fn with_tables(
         alloc: Global,
         map: &MapText,

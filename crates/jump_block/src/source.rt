@@ -239,6 +239,8 @@ impl<'a> JumpSource for BlockJumps<'a> {
         self.lines().stop(at, d, goal, steps)
     }
 
+    // (asked in the search by either rule of states, so the compiler would not put it in by itself)
+    #[inline(always)]
     fn allowed_word<L: Ledger>(&self, at: Cell, by: Arrival, steps: &mut Steps<L>) -> Packed {
         let eight = self.lines().eight(at, steps);
         self.bits.allowed_table().allowed(eight, by)

@@ -35,6 +35,8 @@ impl<'a, T: Terrain> JumpSource for PlainJumps<'a, T> {
         first_stop(self.terrain, at, d, goal)
     }
 
+    // (asked in the search by either rule of states, so the compiler would not put it in by itself)
+    #[inline(always)]
     fn allowed_word<L: Ledger>(&self, at: Cell, by: Arrival, _steps: &mut Steps<L>) -> Packed {
         allowed_word(self.terrain, at, by)
     }

@@ -4,7 +4,7 @@ use Rattle.best_first.specs.declared.state.Layout.{Layout}
 use Rattle.edit_replay.specs.declared.engine.Engine.TheVariants as engine
 use Rattle.jps_run.specs.Who.{By, Who, by_session, by_boxes, by_moves}
 
--- the way in which replies are come to, where all engines that jump with as many states of a cell have one
+-- the way in which replies are come to, where all engines that jump by the same rule of states have one
 abbrev pub way_of : By → By
 way_of (by_session engine.Plain) = by_session engine.Plain
 way_of (by_session (engine.Jps layout)) = by_session (engine.Jps layout)

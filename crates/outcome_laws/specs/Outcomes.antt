@@ -61,7 +61,7 @@ pub record DifferInEngine (call other : Call) : Type 0 where
   pub rule : call.settings.rule ≡ other.settings.rule
 
 -- Calls that differ in which of the engines `jps`, `block` and `plus` they pick come to the same outcome, where
--- their searches have as many states of a cell.
+-- their searches go by the same rule of states.
 abbrev pub JumpEnginesPrintTheSame : Type 0
 JumpEnginesPrintTheSame = (words others : List (List ℕ)) (call like : Call) (holds : List ℕ → Held)
     (script : List ℕ) (one other : Outcome) → AreTold holds (files_of call)
@@ -81,8 +81,9 @@ abbrev pub HoldsSmallMap : Held → Type 0
 HoldsSmallMap held = (text : List ℕ) (m : Map) → held ≡ holding text → map_of text ≡ Ok m
     → takes Small m ≡ true
 
--- Of calls that ask for costs alone this is so for all engines, by however many states of a cell, where these take the same maps, or neither
--- call is refused, or the text for the map, which the first word names, is that of a small one, or of none.
+-- Of calls that ask for costs alone this is so for all engines, by either rule of states, where these take the
+-- same maps, or neither call is refused, or the text for the map, which the first word names, is that of a small
+-- one, or of none.
 abbrev pub EnginesPrintTheSameCosts : Type 0
 EnginesPrintTheSameCosts = (words others : List (List ℕ)) (call like : Call) (holds : List ℕ → Held)
     (script : List ℕ) (one other : Outcome) → AreTold holds (files_of call)

@@ -7,7 +7,7 @@ ghost use Rattle.outcome_laws.specs.Lines.{HeardIsOne, TakenBeginsHeard};
 ghost use Rattle.outcome_laws.specs.Lines.{RowsAreOne, FindingsAreOne, DrillsAreOne, RowsDifferInTaken};
 
 /// Two who answer alike print one line for a query: one engine, or two that both jump (`jps`, `block`,
-/// `plus`).
+/// `plus`) with the same states.
 pub fn reply_lines_are_one()
     ensures { ReplyLinesAreOne }
 {}

@@ -36,6 +36,8 @@ impl<'a> JumpSource for PlusJumps<'a> {
         stop_told(self.tables, at, d, goal, steps)
     }
 
+    // (asked in the search by either rule of states, so the compiler would not put it in by itself)
+    #[inline(always)]
     fn allowed_word<L: Ledger>(&self, at: Cell, by: Arrival, steps: &mut Steps<L>) -> Packed {
         allowed_told(self.tables, at, by, steps)
     }

@@ -1,5 +1,5 @@
--- One state for each cell: a search that keeps of all arrivals at a cell the first of least cost misses no
--- least walk. Which of equal ones it keeps, and in which order it takes cells, is left open here.
+-- One state for each cell: what a search has come to that keeps one arrival at each cell. Which of equal ones it
+-- keeps is left open; that a search takes cells in such an order that its run ends right is shown of its run.
 -- Harabor and Grastien, AAAI 2011, have one node for each cell; as far as we know this was not proved by
 -- machine before.
 use Rattle.std.specs.Prelude.{◌≡◌, ◌≢◌, ℕ, true, List, [], ◌∷◌}

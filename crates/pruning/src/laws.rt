@@ -86,9 +86,8 @@ pub fn diagonals_go_first()
     ensures { DiagonalsGoFirst }
 {}
 
-/// A search that keeps one state for each cell, whichever of the arrivals of least cost, misses no least
-/// walk: until it comes to the goal, one of its states leads to a cell of a least walk that none of them has
-/// at as little cost.
+/// Of states that were come to by jumps, one for each cell, whichever of the arrivals: as long as the goal is
+/// not among them, one of them offers a cell of a least walk that none of them has at as little.
 pub fn one_state_suffices()
     ensures { OneStateSuffices }
 {}

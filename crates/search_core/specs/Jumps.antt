@@ -1,6 +1,6 @@
--- The rule of the jump engines: a state is a cell and the direction in which it was come to, and links are
--- the jumps to first stops. Harabor and Grastien: AAAI 2011, and SoCS 2012 where no corner is cut.
-use Rattle.std.specs.Prelude.{◌≡◌, ℕ, refl, Option, Some, None, option_and_then, if◌then◌else◌, codes}
+-- The rule of the jump engines: links are the jumps to first stops. A state is a cell and the direction in which
+-- it was come to, or a cell alone, with the direction in which it lies from where it was come to from. Harabor and Grastien: AAAI 2011, and SoCS 2012 where no corner is cut.
+use Rattle.std.specs.Prelude.{◌≡◌, ℕ, true, false, refl, Option, Some, None, option_and_then, if◌then◌else◌, codes}
 use Rattle.root2_cost.specs.declared.Cost.{Cost}
 use Rattle.grid_moves.specs.declared.Cell.{Cell}
 use Rattle.grid_moves.specs.declared.Corner.TheVariants.{Never, One}
@@ -20,7 +20,7 @@ use Rattle.best_first.specs.declared.state.Layout.{Layout}
 use Rattle.best_first.specs.declared.state.Layout.TheVariants.{ByCell}
 use Rattle.best_first.specs.declared.state.State.{State}
 use Rattle.best_first.specs.Rule.{Links, search_rule}
-use Rattle.best_first.specs.State.{start_at, arrived_in, is_seen, is_same_state}
+use Rattle.best_first.specs.State.{start_at, state_in, arrived_in, is_seen, is_same_state}
 
 -- how a search came to a state
 abbrev pub come_to : Option Dir → Arrival
@@ -122,6 +122,27 @@ pub on_by_cell : (jump_links ByCell (pillar Never) (cell 2 2)).step (start_at (c
     (start_at (cell 2 2))
     ≡ Some (record { a = 2; b = 0 })
 on_by_cell = refl
+
+-- on `.../.@./.../@@.` the cell (2,2) is come to from (0,2) and from (2,0): two states by arrival, by cell one, to
+-- which both offer the same cost
+abbrev two_ways : GridData
+two_ways = grid_of 3 4 (codes "....@....@@.") Never
+
+pub from_the_left : (jump_links ByCell two_ways (cell 2 3)).step (start_at (cell 0 0)) (start_at (cell 0 2))
+    (start_at (cell 2 2))
+    ≡ Some (record { a = 2; b = 0 })
+from_the_left = refl
+
+pub from_above : (jump_links ByCell two_ways (cell 2 3)).step (start_at (cell 0 0)) (start_at (cell 2 0))
+    (start_at (cell 2 2))
+    ≡ Some (record { a = 2; b = 0 })
+from_above = refl
+
+pub apart_by_arrival : is_same_state (by E 2 2) (by S 2 2) ≡ false
+apart_by_arrival = refl
+
+pub one_by_cell : is_same_state (state_in ByCell (by E 2 2)) (state_in ByCell (by S 2 2)) ≡ true
+one_by_cell = refl
 
 -- what was come to from below does not go on down
 pub not_back_by_cell : (jump_links ByCell (pillar Never) (cell 2 2)).step (start_at (cell 2 2))

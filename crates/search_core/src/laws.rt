@@ -3,7 +3,7 @@
 ghost use Rattle.best_first.specs.declared.state.Layout.{Layout};
 ghost use Rattle.best_first.specs.Answer.{AnswersExist, RunsAreOne};
 ghost use Rattle.search_core.specs.Answer.{IsJumpRun};
-ghost use Rattle.search_core.specs.Laws.{CostsFit, RunsAreRight};
+ghost use Rattle.search_core.specs.Laws.{CostsFit, EstimateSuits, RunsAreRight};
 
 /// From each free cell to each cell of a map there is an answer that is right and that of the jump
 /// engines' run: its run from there ends.
@@ -15,6 +15,12 @@ pub fn answers_exist()
 /// exists. So it is with a state for each arrival at a cell, and with one state for each cell.
 pub fn runs_are_right()
     ensures { RunsAreRight }
+{}
+
+/// By either rule of states the octile estimate suits the run of the jump engines, so that its sums never fall
+/// and no taken state is offered at less (`search_run::laws::taken_are_not_bettered`).
+pub fn estimate_suits()
+    ensures { EstimateSuits }
 {}
 
 /// A state is taken at a cost of at most 2^27 moves, as along the jumps of a run each cell is passed in
