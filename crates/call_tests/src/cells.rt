@@ -37,7 +37,7 @@ blocked | moves m 1 0 rule=any | .@ => 0 blocked
 tables, streams | tables m rule=any | ... | | % => 0 %
 make, streams | make 7 3 2 0 => 0 type octile/height 2/width 3/map/.../...
 make | make 0 2 1 100 => 0 type octile/height 1/width 2/map/@@
-version, streams | --version => 0 jps 1.1.0
+version, streams | --version => 0 jps 1.2.0
 ";
 
 #[test]
