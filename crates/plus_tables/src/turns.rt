@@ -162,6 +162,8 @@ fn allowed_around<L: Ledger>(tables: &Tables, at: Cell, by: Arrival, steps: &mut
 
 /// The allowed directions, in increasing order. Eight steps. Each arrival has code of its own, in which it is
 /// a constant; reading what is not asked behind apart from what is keeps it small enough to be inlined.
+// (A search by either rule of states asks it, so the compiler would not put it in by itself.)
+#[inline(always)]
 pub fn allowed_told<L: Ledger>(
     tables: &Tables,
     at: Cell,

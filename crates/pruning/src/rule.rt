@@ -215,6 +215,8 @@ pub fn allowed<T: Terrain>(t: &T, at: Cell, by: Arrival) -> ArrayVec<Dir, 8>
 }
 
 /// The same in one word.
+// (A search by either rule of states asks it, so the compiler would not put it in by itself.)
+#[inline(always)]
 pub fn allowed_word<T: Terrain>(t: &T, at: Cell, by: Arrival) -> Packed
     requires free { IsTrue (is_free (T.grid t.now) at) }
     ensures rule { result ≡ spec.allowed_dirs (T.grid t.now) at by }
