@@ -35,11 +35,11 @@ use Rattle.pruning.proofs.Replacing.{turns_are_replaced}
 use Rattle.pruning.proofs.Explaining.{turns_are_marked}
 
 -- the state that a search from s begins with, at no cost
-abbrev beginning : Cell → Reached
+abbrev pub beginning : Cell → Reached
 beginning s = record { state = start_state s; cost = no_cost }
 
 -- a member is the first one or a member of the rest
-member_cases : (u x : Reached) (earlier : List Reached) → IsOneOf u (x ∷ earlier)
+pub member_cases : (u x : Reached) (earlier : List Reached) → IsOneOf u (x ∷ earlier)
     → (u ≡ x) ⊎ IsOneOf u earlier
 member_cases u _ _ (here _) = inl refl
 member_cases u _ _ (there _ _ m) = inr m
@@ -184,7 +184,7 @@ one_diagonal d h = rw h refl
 
 module _ (g : GridData) (s t : Cell) where
   -- a walk from s to v, at this cost
-  record CameTo (v : Cell) (c : Cost) : Type 0 where
+  pub record CameTo (v : Cell) (c : Cost) : Type 0 where
     pub cells : List Cell
     pub goes : Goes g s v cells c
 
@@ -245,7 +245,7 @@ module _ (g : GridData) (s t : Cell) where
       (ap (λ (c : Cost). add_costs p.cost c) r.priced ∙ sym l.priced)
       (came_further p.state.cell u.state.cell p.cost r.cells w (record { legal = r.walks; ends = r.ends }))
 
-  came_to : (all : List Reached) → is_free g s ≡ true → AreReached g t s all → (u : Reached)
+  pub came_to : (all : List Reached) → is_free g s ≡ true → AreReached g t s all → (u : Reached)
       → IsOneOf u all → CameTo u.state.cell u.cost
   came_to all f r u m = reached_induction g t s all (λ (u : Reached). CameTo u.state.cell u.cost)
       (record { cells = []; goes = record { legal = f; ends = refl; priced = refl } })
@@ -526,44 +526,3 @@ one_state_from dropped diagonals g s t all cells f r not_goal least =
       least = λ others o. (Most-then (Most-same (add_costs-no_cost_left (cost_of (s ∷ c.others))))
           (Most-then (record { is = c.no_more }) (record { is = least.least others o }))).is;
     }) (omega arith)
-
--- the cell waits, at no more than this cost
-pub record WaitsAt (Waits : Cell → Cost → Type 0) (v : Cell) (bound : Cost) : Type 0 where
-  pub cost : Cost
-  pub waits : Waits v cost
-  pub no_more : IsAtMost cost bound
-
--- each jump from one of them that is not at the goal leads to a cell that is among them or waits, at no more
--- than it costs that way
-abbrev pub AllOffered : GridData → Cell → List Reached → (Cell → Cost → Type 0) → Type 0
-AllOffered g goal all Waits = (u x : Reached) → IsOneOf u all → u.state.cell ≢ goal → LeadsTo g goal u x
-    → IsReachedAt all x.state.cell x.cost ⊎ WaitsAt Waits x.state.cell x.cost
-
--- some cell waits from which a walk leads on to t, at no more than this in all
-pub record LeadsOn (g : GridData) (t : Cell) (Waits : Cell → Cost → Type 0) (bound : Cost) : Type 0 where
-  pub cell : Cell
-  pub cost : Cost
-  pub waits : Waits cell cost
-  pub cells : List Cell
-  pub walk : IsWalk g cell t cells
-  pub no_more : IsAtMost (add_costs cost (cost_of (cell ∷ cells))) bound
-
--- so whatever it is to wait, as long as the goal is not among them a cell of a least walk waits
-pub some_waits : OneStateSuffices → (g : GridData) (s t : Cell) (all : List Reached)
-    (Waits : Cell → Cost → Type 0) (cells : List Cell) → is_free g s ≡ true → AreReached g t s all
-    → ((u : Reached) → IsOneOf u all → u.state.cell ≢ t) → AllOffered g t all Waits
-    → IsLeastWalk g s t cells → LeadsOn g t Waits (cost_of (s ∷ cells))
-some_waits suffices g s t all Waits cells f r not_goal offered least =
-    let o = suffices g s t all cells f r not_goal least in
-    elim (offered o.by o.offered o.member (not_goal o.by o.member) o.leads) [
-      | inl a ↦ absurd (o.fresh a)
-      | inr a ↦ record {
-        cell = o.offered.state.cell;
-        cost = a.cost;
-        waits = a.waits;
-        cells = o.cells;
-        walk = o.walk;
-        no_more = (Most-then (Most-add_right (cost_of (o.offered.state.cell ∷ o.cells)) a.cost o.offered.cost
-            (record { is = a.no_more })) (record { is = o.no_more })).is;
-      }
-    ]

@@ -5,6 +5,7 @@ pub mod Ways
 pub mod Right
 pub mod ByCell
 pub mod Least
+pub mod AnyTies
 pub mod Answering
 pub mod Offers
 pub mod Serving

@@ -14,6 +14,7 @@ use Rattle.grid_moves.specs.Move.{is_same}
 use Rattle.grid_moves.specs.Points.{estimate}
 use Rattle.grid_moves.proofs.Legal.{and_both, free_inside, legal_is, is_same-cell, is_same-itself}
 use Rattle.grid_moves.proofs.Dirs.{dir_number-few}
+use Rattle.pruning.specs.declared.Arrival.{Arrival}
 use Rattle.pruning.specs.Allowed.{is_allowed}
 use Rattle.pruning.specs.Chain.{run_cost}
 use Rattle.pruning.specs.First.{first_stop}
@@ -97,9 +98,13 @@ pub jump_is_link : (g : GridData) (goal : Cell) (u v : State) (d : Dir) (k : ℕ
 jump_is_link g goal u v d k e a f r = grind (arith, nat_tests, common_steps, through, is_same-itself)
 
 -- an allowed direction leads on from a free cell
+pub allowed_free_at : (g : GridData) (x : Cell) (by : Arrival) (d : Dir) → is_allowed g x by d ≡ true
+    → is_free g x ≡ true
+allowed_free_at g x by d a = grind (arith, nat_tests, common_steps, and_both, leads_from, legal_is)
+
 pub allowed_free : (g : GridData) (u : State) (d : Dir) → is_allowed g u.cell (come_to u.arrival) d ≡ true
     → is_free g u.cell ≡ true
-allowed_free g u d a = grind (arith, nat_tests, common_steps, and_both, leads_from, legal_is)
+allowed_free g u d a = allowed_free_at g u.cell (come_to u.arrival) d a
 
 -- the moves of a run cost the octile distance of its ends
 pub moved_cost : (d : Dir) (k : ℕ) (u v : Cell) → AreMoved d k u v → run_cost d k ≡ estimate u v

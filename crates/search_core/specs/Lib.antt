@@ -5,3 +5,4 @@ pub mod Serving
 pub mod Room
 pub mod Counting
 pub mod Jumping
+pub mod AnyTies

@@ -2,6 +2,7 @@
 
 ghost use Rattle.best_first.specs.declared.state.Layout.{Layout};
 ghost use Rattle.best_first.specs.Answer.{AnswersExist, RunsAreOne};
+ghost use Rattle.search_core.specs.AnyTies.{AnyTiesEndRight};
 ghost use Rattle.search_core.specs.Answer.{IsJumpRun};
 ghost use Rattle.search_core.specs.Laws.{CostsFit, EstimateSuits, RunsAreRight};
 
@@ -15,6 +16,13 @@ pub fn answers_exist()
 /// exists. So it is with a state for each arrival at a cell, and with one state for each cell.
 pub fn runs_are_right()
     ensures { RunsAreRight }
+{}
+
+/// With one state for each cell it does not hang on how ties are broken: a search that always takes one of the
+/// cells of least sum, whichever, with one of the arrivals of that cost, whichever, takes the goal at the cost of
+/// a least walk, or ends where no walk leads there.
+pub fn any_ties_end_right()
+    ensures { AnyTiesEndRight }
 {}
 
 /// By either rule of states the octile estimate suits the run of the jump engines, so that its sums never fall
