@@ -13,18 +13,19 @@ ghost use Rattle.search_core.specs.Jumps as jumps;
 ghost use Rattle.search_core.specs.Jumping as spec;
 ghost use Rattle.search_core.specs.Serving.{OnSome, OnEach};
 
-use best_first::{Offer, Space, State};
+use best_first::{Layout, Offer, Space, State};
 use grid_moves::{Cell, Dir, dir_number};
 use pruning::{Arrival, JumpSource, Packed, is_diagonal};
 use root2_cost::Cost;
 use std::sync::ledger::Ledger;
 use steps::Steps;
 
-/// The ends of a query.
+/// What a search is asked: the ends of its walk, and which states a cell has.
 #[derive(Clone, Copy)]
-pub struct Ends {
+pub struct Query {
     pub from: Cell,
     pub to: Cell,
+    pub layout: Layout,
 }
 
 /// The state that was taken last: the number of its node, the rank of its cost, and the state.
@@ -148,56 +149,85 @@ pub(crate) fn last_at(space: &Space, goal: Cell, at: u32) -> Last
 // Offers the jump in an allowed direction, if it has a stop.
 fn offer_jump<const BY_CELL: bool, J: JumpSource, L: Ledger, M: Ledger>(
     j: &J,
-    ends: Ends,
+    query: Query,
     last: Last,
     d: Dir,
     space: &mut Space,
     steps: &mut Steps<L>,
     own: &mut Steps<M>,
 )
-    requires some { OnSome (J.StandsFor j.now) ends.from ends.to }
-    requires offering { OnEach (J.StandsFor j.now) ends.from ends.to
-        (λ g. spec.IsOffering (layout_by BY_CELL) g ends.from ends.to last space.old) }
-    requires allowed { OnEach (J.StandsFor j.now) ends.from ends.to
+    requires some { OnSome (J.StandsFor j.now) query.from query.to }
+    requires offering { OnEach (J.StandsFor j.now) query.from query.to
+        (λ g. spec.IsOffering (layout_by BY_CELL) g query.from query.to last space.old) }
+    requires allowed { OnEach (J.StandsFor j.now) query.from query.to
         (λ g. is_allowed g last.state.cell (jumps.come_to last.state.arrival) d ≡ true) }
     requires room { 1 ≤ space.old.spare }
-    ensures jumped { OnEach (J.StandsFor j.now) ends.from ends.to
-        (λ g. space.new.table ≡ spec.jumped_in (layout_by BY_CELL) g ends.to last d space.old.table) }
+    ensures jumped { OnEach (J.StandsFor j.now) query.from query.to
+        (λ g. space.new.table ≡ spec.jumped_in (layout_by BY_CELL) g query.to last d space.old.table) }
     ensures shape { KeepsShape space.old space.new }
     ensures spare { space.old.spare ≤ space.new.spare + 1 }
     ensures most { IsWithin (J.most j.now) (λ told. told.stop) steps.old steps.new }
     ensures fewest { steps.old ≤ steps.new }
 {
-    if let Some(k) = j.stop(last.state.cell, d, ends.to, steps) {
-        space.offer::<BY_CELL, M>(ends.to, offer_after(last, d, k), own);
+    if let Some(k) = j.stop(last.state.cell, d, query.to, steps) {
+        space.offer::<BY_CELL, M>(query.to, offer_after(last, d, k), own);
     }
 }
 
-// Offers the jumps in these directions.
-pub(crate) fn offer_jumps<const BY_CELL: bool, J: JumpSource, L: Ledger, M: Ledger>(
+// Offers the jumps in these directions, told as a constant which states a cell has.
+fn offer_all<const BY_CELL: bool, J: JumpSource, L: Ledger, M: Ledger>(
     j: &J,
-    ends: Ends,
+    query: Query,
     last: Last,
     dirs: Packed,
     space: &mut Space,
     steps: &mut Steps<L>,
     own: &mut Steps<M>,
 )
-    requires some { OnSome (J.StandsFor j.now) ends.from ends.to }
-    requires offering { OnEach (J.StandsFor j.now) ends.from ends.to
-        (λ g. spec.IsOffering (layout_by BY_CELL) g ends.from ends.to last space.old) }
-    requires allowed { OnEach (J.StandsFor j.now) ends.from ends.to (λ g. AllByRecursion
+    requires some { OnSome (J.StandsFor j.now) query.from query.to }
+    requires offering { OnEach (J.StandsFor j.now) query.from query.to
+        (λ g. spec.IsOffering (layout_by BY_CELL) g query.from query.to last space.old) }
+    requires allowed { OnEach (J.StandsFor j.now) query.from query.to (λ g. AllByRecursion
         (λ d. is_allowed g last.state.cell (jumps.come_to last.state.arrival) d ≡ true) dirs) }
     requires room { length dirs ≤ space.old.spare }
-    ensures jumped { OnEach (J.StandsFor j.now) ends.from ends.to
-        (λ g. space.new.table ≡ spec.jumped (layout_by BY_CELL) g ends.to last dirs space.old.table) }
+    ensures jumped { OnEach (J.StandsFor j.now) query.from query.to
+        (λ g. space.new.table ≡ spec.jumped (layout_by BY_CELL) g query.to last dirs space.old.table) }
     ensures shape { KeepsShape space.old space.new }
     ensures most { IsWithin (J.most j.now) (λ told. length dirs * told.stop) steps.old steps.new }
     ensures fewest { steps.old ≤ steps.new }
 {
     let mut left = dirs;
     'jumps: while let Some(s) = left.split() {
-        offer_jump::<BY_CELL, J, L, M>(j, ends, last, s.first, space, steps, own);
+        offer_jump::<BY_CELL, J, L, M>(j, query, last, s.first, space, steps, own);
         left = s.others;
+    }
+}
+
+// Offers the jumps in these directions. Each rule of states has code of its own, and all else of a search is
+// there once, so that it is put in where it is asked.
+pub(crate) fn offer_jumps<J: JumpSource, L: Ledger, M: Ledger>(
+    j: &J,
+    query: Query,
+    last: Last,
+    dirs: Packed,
+    space: &mut Space,
+    steps: &mut Steps<L>,
+    own: &mut Steps<M>,
+)
+    requires some { OnSome (J.StandsFor j.now) query.from query.to }
+    requires offering { OnEach (J.StandsFor j.now) query.from query.to
+        (λ g. spec.IsOffering query.layout g query.from query.to last space.old) }
+    requires allowed { OnEach (J.StandsFor j.now) query.from query.to (λ g. AllByRecursion
+        (λ d. is_allowed g last.state.cell (jumps.come_to last.state.arrival) d ≡ true) dirs) }
+    requires room { length dirs ≤ space.old.spare }
+    ensures jumped { OnEach (J.StandsFor j.now) query.from query.to
+        (λ g. space.new.table ≡ spec.jumped query.layout g query.to last dirs space.old.table) }
+    ensures shape { KeepsShape space.old space.new }
+    ensures most { IsWithin (J.most j.now) (λ told. length dirs * told.stop) steps.old steps.new }
+    ensures fewest { steps.old ≤ steps.new }
+{
+    match query.layout {
+        Layout::ByCell => offer_all::<true, J, L, M>(j, query, last, dirs, space, steps, own),
+        Layout::ByArrival => offer_all::<false, J, L, M>(j, query, last, dirs, space, steps, own),
     }
 }

@@ -13,7 +13,7 @@ ghost use Rattle.std.specs.Prelude.{◌≡◌, ℕ, ◌+◌, ◌*◌, ◌<◌, �
 ghost use Rattle.grid_moves.specs.Grid.{GridData, IsGrid, is_free};
 ghost use Rattle.grid_moves.specs.Move.{is_same};
 ghost use Rattle.pruning.specs.Source.{IsWithin};
-ghost use Rattle.best_first.specs.Space.{KeepsShape, layout_by};
+ghost use Rattle.best_first.specs.Space.{KeepsShape};
 ghost use Rattle.best_first.specs.State.{state_number, state_told};
 ghost use Rattle.best_first.specs.Trace.{node_cell};
 ghost use Rattle.path_points.specs.Least.{IsLeastOrNone};
@@ -23,7 +23,7 @@ ghost use Rattle.search_core.specs.Jumping.{IsSpaceOf, HasReached, GoesOnFrom};
 ghost use Rattle.search_core.specs.Room.{HasPlaces};
 ghost use Rattle.search_core.specs.Serving.{OnSome, OnEach};
 
-use crate::jumping::{Ends, come_to, last_at, offer_jumps};
+use crate::jumping::{Query, come_to, last_at, offer_jumps};
 use crate::{NoMemory, Taken};
 use best_first::{Found, Layout, Node, Space, State};
 use grid_moves::Cell;
@@ -34,26 +34,26 @@ use std::sync::ledger::{Blank, Ledger};
 use steps::Steps;
 
 // Takes the start.
-fn begin<const BY_CELL: bool, J: JumpSource, M: Ledger>(
+fn begin<J: JumpSource, M: Ledger>(
     j: &J,
-    ends: Ends,
+    query: Query,
     space: &mut Space,
     taken: &mut Taken,
     own: &mut Steps<M>,
 ) -> Result<(), NoMemory>
-    requires some { OnSome (J.StandsFor j.now) ends.from ends.to }
-    requires layout { space.old.layout ≡ layout_by BY_CELL }
-    requires places { OnEach (J.StandsFor j.now) ends.from ends.to (λ g. HasPlaces g space.old) }
+    requires some { OnSome (J.StandsFor j.now) query.from query.to }
+    requires layout { space.old.layout ≡ query.layout }
+    requires places { OnEach (J.StandsFor j.now) query.from query.to (λ g. HasPlaces g space.old) }
     requires none { taken.old ≡ [] }
-    ensures reached { OnOk result (OnEach (J.StandsFor j.now) ends.from ends.to
-        (λ g. HasReached (layout_by BY_CELL) g ends.from ends.to 0 space.new taken.new)) }
+    ensures reached { OnOk result (OnEach (J.StandsFor j.now) query.from query.to
+        (λ g. HasReached query.layout g query.from query.to 0 space.new taken.new)) }
     ensures layout { space.new.layout ≡ space.old.layout }
-    ensures places { OnEach (J.StandsFor j.now) ends.from ends.to (λ g. HasPlaces g space.new) }
+    ensures places { OnEach (J.StandsFor j.now) query.from query.to (λ g. HasPlaces g space.new) }
     ensures one { OnOk result (length taken.new ≡ 1) }
 {
     let width = j.width();
-    space.begin(width, ends.from, ends.to, own)?;
-    taken.push(State::start(ends.from).number(width))
+    space.begin(width, query.from, query.to, own)?;
+    taken.push(State::start(query.from).number(width))
 }
 
 // The printed number of a node's state.
@@ -70,32 +70,32 @@ fn number_at<J: JumpSource>(j: &J, node: Node) -> u32
 }
 
 // Makes the offers of the last taken state, and takes the next, if a state waits.
-fn advance<const BY_CELL: bool, J: JumpSource, L: Ledger, M: Ledger>(
+fn advance<J: JumpSource, L: Ledger, M: Ledger>(
     j: &J,
-    ends: Ends,
+    query: Query,
     space: &mut Space,
     at: u32,
     taken: &mut Taken,
     steps: &mut Steps<L>,
     own: &mut Steps<M>,
 ) -> Result<Option<u32>, NoMemory>
-    requires some { OnSome (J.StandsFor j.now) ends.from ends.to }
-    requires reached { OnEach (J.StandsFor j.now) ends.from ends.to
-        (λ g. HasReached (layout_by BY_CELL) g ends.from ends.to at space.old taken.old) }
+    requires some { OnSome (J.StandsFor j.now) query.from query.to }
+    requires reached { OnEach (J.StandsFor j.now) query.from query.to
+        (λ g. HasReached query.layout g query.from query.to at space.old taken.old) }
     requires open_ended { (n : _) → slice_get space.old.table.nodes at ≡ Some n
-        → is_same (node_cell n) ends.to ≡ false }
-    ensures goes_on { IfOk result (λ next. OnEach (J.StandsFor j.now) ends.from ends.to
-        (λ g. GoesOnFrom (layout_by BY_CELL) g ends.from ends.to space.new taken.new next)) }
+        → is_same (node_cell n) query.to ≡ false }
+    ensures goes_on { IfOk result (λ next. OnEach (J.StandsFor j.now) query.from query.to
+        (λ g. GoesOnFrom query.layout g query.from query.to space.new taken.new next)) }
     ensures one_more { IfOk result (λ next. IfSome next (λ id. length taken.new ≡ length taken.old + 1)) }
     ensures same { IfOk result (λ next. IfNone next (taken.new ≡ taken.old)) }
     ensures layout { space.new.layout ≡ space.old.layout }
-    ensures places { OnEach (J.StandsFor j.now) ends.from ends.to (λ g. HasPlaces g space.new) }
+    ensures places { OnEach (J.StandsFor j.now) query.from query.to (λ g. HasPlaces g space.new) }
     ensures counted { IfOk result (λ _. IsCounted (J.most j.now) (J.fewest j.now) 1 steps.old steps.new) }
 {
     space.reserve()?;
-    let last = last_at(space, ends.to, at);
+    let last = last_at(space, query.to, at);
     let dirs = j.allowed_word(last.state.cell, come_to(last.state.arrival), steps);
-    offer_jumps::<BY_CELL, J, L, M>(j, ends, last, dirs, space, steps, own);
+    offer_jumps(j, query, last, dirs, space, steps, own);
     match space.take_next(own) {
         None => Ok(None),
         Some(next) => {
@@ -107,24 +107,24 @@ fn advance<const BY_CELL: bool, J: JumpSource, L: Ledger, M: Ledger>(
 }
 
 // The answer where the goal was taken last.
-fn found<const BY_CELL: bool, J: JumpSource>(
+fn found<J: JumpSource>(
     alloc: Global,
     j: &J,
-    ends: Ends,
+    query: Query,
     space: &Space,
     at: u32,
     taken: Taken,
 ) -> Result<Found, NoMemory>
-    requires some { OnSome (J.StandsFor j.now) ends.from ends.to }
-    requires reached { OnEach (J.StandsFor j.now) ends.from ends.to
-        (λ g. HasReached (layout_by BY_CELL) g ends.from ends.to at space.now taken) }
-    requires goal { (n : _) → slice_get space.now.table.nodes at ≡ Some n → node_cell n ≡ ends.to }
-    ensures run { IfOk result (λ f. OnEach (J.StandsFor j.now) ends.from ends.to
-        (λ g. IsJumpRun (layout_by BY_CELL) g ends.from ends.to f)) }
+    requires some { OnSome (J.StandsFor j.now) query.from query.to }
+    requires reached { OnEach (J.StandsFor j.now) query.from query.to
+        (λ g. HasReached query.layout g query.from query.to at space.now taken) }
+    requires goal { (n : _) → slice_get space.now.table.nodes at ≡ Some n → node_cell n ≡ query.to }
+    ensures run { IfOk result (λ f. OnEach (J.StandsFor j.now) query.from query.to
+        (λ g. IsJumpRun query.layout g query.from query.to f)) }
     ensures found { IfOk result (λ f. IsSome f.walk) }
     ensures taken { IfOk result (λ f. f.taken ≡ taken) }
 {
-    let way = space.way_to(alloc, ends.to, at)?;
+    let way = space.way_to(alloc, query.to, at)?;
     Ok(Found {
         walk: Some(way),
         taken,
@@ -142,44 +142,45 @@ fn none_taken(alloc: Global) -> Result<Taken, NoMemory>
     Ok(Taken::of(Vec::with_capacity(alloc, MANY_STATES)?))
 }
 
-// The search's run.
-fn run<const BY_CELL: bool, J: JumpSource, L: Ledger, M: Ledger>(
+// The search's run: a function of its own for each source of jumps.
+#[inline(never)]
+fn run<J: JumpSource, L: Ledger, M: Ledger>(
     alloc: Global,
     j: &J,
-    ends: Ends,
+    query: Query,
     space: &mut Space,
     steps: &mut Steps<L>,
     own: &mut Steps<M>,
 ) -> Result<Found, NoMemory>
-    requires some { OnSome (J.StandsFor j.now) ends.from ends.to }
-    requires layout { space.old.layout ≡ layout_by BY_CELL }
-    requires places { OnEach (J.StandsFor j.now) ends.from ends.to (λ g. HasPlaces g space.old) }
-    ensures run { IfOk result (λ f. OnEach (J.StandsFor j.now) ends.from ends.to
-        (λ g. IsJumpRun (layout_by BY_CELL) g ends.from ends.to f)) }
+    requires some { OnSome (J.StandsFor j.now) query.from query.to }
+    requires layout { space.old.layout ≡ query.layout }
+    requires places { OnEach (J.StandsFor j.now) query.from query.to (λ g. HasPlaces g space.old) }
+    ensures run { IfOk result (λ f. OnEach (J.StandsFor j.now) query.from query.to
+        (λ g. IsJumpRun query.layout g query.from query.to f)) }
     ensures most { IfOk result (λ f. IsWithinTaken (J.most j.now) f steps.old steps.new) }
     ensures fewest { IfOk result (λ f. RoseByTaken (J.fewest j.now) f steps.old steps.new) }
     ensures layout { space.new.layout ≡ space.old.layout }
-    ensures places { OnEach (J.StandsFor j.now) ends.from ends.to (λ g. HasPlaces g space.new) }
+    ensures places { OnEach (J.StandsFor j.now) query.from query.to (λ g. HasPlaces g space.new) }
 {
     let mut taken = none_taken(alloc)?;
-    begin::<BY_CELL, J, M>(j, ends, space, &mut taken, own)?;
+    begin(j, query, space, &mut taken, own)?;
     let mut at: u32 = 0;
-    'taking: while space.node(at).place.cell() != ends.to {
-        match advance::<BY_CELL, J, L, M>(j, ends, space, at, &mut taken, steps, own)? {
+    'taking: while space.node(at).place.cell() != query.to {
+        match advance(j, query, space, at, &mut taken, steps, own)? {
             Some(next) => at = next,
             None => {
                 return Ok(Found { walk: None, taken });
             }
         }
     }
-    found::<BY_CELL, J>(alloc, j, ends, space, at, taken)
+    found(alloc, j, query, space, at, taken)
 }
 
-// A search with the states that the space has, whose steps of the open list are counted by a counter of its own.
+// A search whose steps of the open list are counted by a counter of its own.
 fn run_counted<J: JumpSource, L: Ledger, M: Ledger>(
     alloc: Global,
     j: &J,
-    ends: Ends,
+    query: Query,
     space: &mut Space,
     steps: &mut Steps<L>,
     blank: Blank,
@@ -187,22 +188,20 @@ fn run_counted<J: JumpSource, L: Ledger, M: Ledger>(
     requires name { blank.name ≡ M.name }
     requires parts { blank.parts ≡ M.parts }
     requires positive { 0 < M.parts }
-    requires some { OnSome (J.StandsFor j.now) ends.from ends.to }
-    requires places { OnEach (J.StandsFor j.now) ends.from ends.to (λ g. HasPlaces g space.old) }
-    ensures run { IfOk result (λ f. OnEach (J.StandsFor j.now) ends.from ends.to
-        (λ g. IsJumpRun space.old.layout g ends.from ends.to f)) }
-    ensures least { IfOk result (λ f. OnEach (J.StandsFor j.now) ends.from ends.to
-        (λ g. IsLeastOrNone g ends.from ends.to f.walk)) }
+    requires some { OnSome (J.StandsFor j.now) query.from query.to }
+    requires layout { space.old.layout ≡ query.layout }
+    requires places { OnEach (J.StandsFor j.now) query.from query.to (λ g. HasPlaces g space.old) }
+    ensures run { IfOk result (λ f. OnEach (J.StandsFor j.now) query.from query.to
+        (λ g. IsJumpRun query.layout g query.from query.to f)) }
+    ensures least { IfOk result (λ f. OnEach (J.StandsFor j.now) query.from query.to
+        (λ g. IsLeastOrNone g query.from query.to f.walk)) }
     ensures most { IfOk result (λ f. IsWithinTaken (J.most j.now) f steps.old steps.new) }
     ensures fewest { IfOk result (λ f. RoseByTaken (J.fewest j.now) f steps.old steps.new) }
     ensures layout { space.new.layout ≡ space.old.layout }
-    ensures places { OnEach (J.StandsFor j.now) ends.from ends.to (λ g. HasPlaces g space.new) }
+    ensures places { OnEach (J.StandsFor j.now) query.from query.to (λ g. HasPlaces g space.new) }
 {
     let mut own = Steps::<M>::new(blank);
-    match space.layout() {
-        Layout::ByCell => run::<true, J, L, M>(alloc, j, ends, space, steps, &mut own),
-        Layout::ByArrival => run::<false, J, L, M>(alloc, j, ends, space, steps, &mut own),
-    }
+    run(alloc, j, query, space, steps, &mut own)
 }
 
 /// The jump engines' run from one free cell to another, over memory that is lent: its answer is a
@@ -230,7 +229,9 @@ pub fn search_in<J: JumpSource, L: Ledger>(
     ensures layout { space.new.layout ≡ space.old.layout }
     ensures places { OnEach (J.StandsFor j.now) from to (λ g. HasPlaces g space.new) }
 {
-    run_counted::<J, L, Brand>(alloc, j, Ends { from, to }, space, steps, Blank::new(1))
+    let layout = space.layout();
+    let query = Query { from, to, layout };
+    run_counted::<J, L, Brand>(alloc, j, query, space, steps, Blank::new(1))
 }
 
 // The memory for searches on a map of this size.

@@ -10,13 +10,13 @@ use Rattle.search_core.proofs.searching.advance.Goals as goal
 
 pub last_at-last-requires-clause-ranked : goal.last_at-last-requires-clause-ranked
 last_at-last-requires-clause-ranked g c =
-    ranked _ (g.J.JumpSource.StandsFor c.args.j.now) c.args.ends.from c.args.ends.to c.args.at c.args.space.now
+    ranked _ (g.J.JumpSource.StandsFor c.args.j.now) c.args.query.from c.args.query.to c.args.at c.args.space.now
     c.reserve.new.self c.args.taken.now c.requires.reached c.in_ok-reserve.ensures.shape
     c.in_ok-reserve.ensures.table c.requires.some
 
 pub allowed_word-dirs-requires : goal.allowed_word-dirs-requires
 allowed_word-dirs-requires g c =
-    can_call _ (g.J.JumpSource.StandsFor c.args.j.now) c.args.ends.from c.args.ends.to c.args.at
+    can_call _ (g.J.JumpSource.StandsFor c.args.j.now) c.args.query.from c.args.query.to c.args.at
     c.args.space.now
     c.reserve.new.self c.args.taken.now c.requires.reached c.in_ok-reserve.ensures.shape
     c.in_ok-reserve.ensures.table c.last_at-last.result c.last_at-last.ensures c.come_to.result
@@ -25,7 +25,7 @@ allowed_word-dirs-requires g c =
 
 pub offer_jumps-requires-clause-offering : goal.offer_jumps-requires-clause-offering
 offer_jumps-requires-clause-offering g c =
-    offering _ (g.J.JumpSource.StandsFor c.args.j.now) c.args.ends.from c.args.ends.to c.args.at
+    offering _ (g.J.JumpSource.StandsFor c.args.j.now) c.args.query.from c.args.query.to c.args.at
     c.args.space.now
     c.reserve.new.self c.args.taken.now c.requires.reached c.in_ok-reserve.ensures.shape
     c.in_ok-reserve.ensures.table c.last_at-last.result c.last_at-last.ensures c.come_to.result
@@ -33,7 +33,7 @@ offer_jumps-requires-clause-offering g c =
 
 pub offer_jumps-requires-clause-allowed : goal.offer_jumps-requires-clause-allowed
 offer_jumps-requires-clause-allowed g c =
-    each_allowed _ (g.J.JumpSource.StandsFor c.args.j.now) c.args.ends.from c.args.ends.to c.args.at
+    each_allowed _ (g.J.JumpSource.StandsFor c.args.j.now) c.args.query.from c.args.query.to c.args.at
     c.args.space.now c.reserve.new.self c.args.taken.now c.requires.reached c.in_ok-reserve.ensures.shape
     c.in_ok-reserve.ensures.table c.last_at-last.result c.last_at-last.ensures c.come_to.result
     c.come_to.ensures
@@ -42,7 +42,7 @@ offer_jumps-requires-clause-allowed g c =
 
 pub offer_jumps-requires-clause-room : goal.offer_jumps-requires-clause-room
 offer_jumps-requires-clause-room g c =
-    let few = few_allowed _ (g.J.JumpSource.StandsFor c.args.j.now) c.args.ends.from c.args.ends.to c.args.at
+    let few = few_allowed _ (g.J.JumpSource.StandsFor c.args.j.now) c.args.query.from c.args.query.to c.args.at
     c.args.space.now c.reserve.new.self c.args.taken.now c.requires.reached c.in_ok-reserve.ensures.shape
     c.in_ok-reserve.ensures.table c.last_at-last.result c.last_at-last.ensures c.come_to.result
     c.come_to.ensures c.allowed_word-dirs.result c.allowed_word-dirs.ensures.rule c.requires.some in
@@ -57,7 +57,7 @@ node-node-requires g c =
 
 pub number_at-requires : goal.number_at-requires
 number_at-requires g c =
-    on_map _ (g.J.JumpSource.StandsFor c.args.j.now) c.args.ends.from c.args.ends.to c.args.at c.args.space.now
+    on_map _ (g.J.JumpSource.StandsFor c.args.j.now) c.args.query.from c.args.query.to c.args.at c.args.space.now
     c.reserve.new.self c.args.taken.now c.requires.reached c.in_ok-reserve.ensures.shape
     c.in_ok-reserve.ensures.table c.last_at-last.result c.last_at-last.ensures c.come_to.result
     c.come_to.ensures
@@ -69,7 +69,7 @@ number_at-requires g c =
 
 pub returns-in-None-clause-goes_on : goal.returns-in-None-clause-goes_on
 returns-in-None-clause-goes_on g c =
-    ended _ (g.J.JumpSource.StandsFor c.args.j.now) c.args.ends.from c.args.ends.to c.args.at c.args.space.now
+    ended _ (g.J.JumpSource.StandsFor c.args.j.now) c.args.query.from c.args.query.to c.args.at c.args.space.now
     c.reserve.new.self c.args.taken.now c.requires.reached c.in_ok-reserve.ensures.shape
     c.in_ok-reserve.ensures.table c.last_at-last.result c.last_at-last.ensures c.come_to.result
     c.come_to.ensures
@@ -82,7 +82,7 @@ pub returns-in-None-clause-counted : goal.returns-in-None-clause-counted
 returns-in-None-clause-counted g c =
     counted_one (g.J.JumpSource.most c.args.j.now) (g.J.JumpSource.fewest c.args.j.now)
     (length c.allowed_word-dirs.result) c.args.steps.now c.allowed_word-dirs.new.steps c.offer_jumps.new.steps
-    (few_allowed _ (g.J.JumpSource.StandsFor c.args.j.now) c.args.ends.from c.args.ends.to c.args.at
+    (few_allowed _ (g.J.JumpSource.StandsFor c.args.j.now) c.args.query.from c.args.query.to c.args.at
     c.args.space.now c.reserve.new.self c.args.taken.now c.requires.reached c.in_ok-reserve.ensures.shape
     c.in_ok-reserve.ensures.table c.last_at-last.result c.last_at-last.ensures c.come_to.result
     c.come_to.ensures c.allowed_word-dirs.result c.allowed_word-dirs.ensures.rule c.requires.some)
@@ -91,7 +91,7 @@ returns-in-None-clause-counted g c =
 
 pub returns-in_ok-push-in-Some-clause-goes_on : goal.returns-in_ok-push-in-Some-clause-goes_on
 returns-in_ok-push-in-Some-clause-goes_on g c =
-    reached_on _ (g.J.JumpSource.StandsFor c.args.j.now) c.args.ends.from c.args.ends.to c.args.at
+    reached_on _ (g.J.JumpSource.StandsFor c.args.j.now) c.args.query.from c.args.query.to c.args.at
     c.args.space.now
     c.reserve.new.self c.args.taken.now c.requires.reached c.in_ok-reserve.ensures.shape
     c.in_ok-reserve.ensures.table c.last_at-last.result c.last_at-last.ensures c.come_to.result
@@ -107,7 +107,7 @@ pub returns-in_ok-push-in-Some-clause-counted : goal.returns-in_ok-push-in-Some-
 returns-in_ok-push-in-Some-clause-counted g c =
     counted_one (g.J.JumpSource.most c.args.j.now) (g.J.JumpSource.fewest c.args.j.now)
     (length c.allowed_word-dirs.result) c.args.steps.now c.allowed_word-dirs.new.steps c.offer_jumps.new.steps
-    (few_allowed _ (g.J.JumpSource.StandsFor c.args.j.now) c.args.ends.from c.args.ends.to c.args.at
+    (few_allowed _ (g.J.JumpSource.StandsFor c.args.j.now) c.args.query.from c.args.query.to c.args.at
     c.args.space.now c.reserve.new.self c.args.taken.now c.requires.reached c.in_ok-reserve.ensures.shape
     c.in_ok-reserve.ensures.table c.last_at-last.result c.last_at-last.ensures c.come_to.result
     c.come_to.ensures c.allowed_word-dirs.result c.allowed_word-dirs.ensures.rule c.requires.some)

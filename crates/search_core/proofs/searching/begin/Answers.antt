@@ -20,7 +20,7 @@ pub returns-clause-reached : goal.returns-clause-reached
 returns-clause-reached g c = on_ok c.push.result c.push.ensures.pushed (λ pushed x served.
     let number = c.number.ensures
     ∙ ap (λ (u : State). state_number c.width-width.result u) c.start.ensures in
-    reached_first _ (g.J.JumpSource.StandsFor c.args.j.now) c.args.ends.from c.args.ends.to x served
+    reached_first _ (g.J.JumpSource.StandsFor c.args.j.now) c.args.query.from c.args.query.to x served
     c.args.space.now c.begin.new.self c.width-width.result c.args.taken.now c.push.new.self
     (c.width-width.ensures.whole x served.stands) c.requires.layout (c.requires.places x served)
     (c.width-width.ensures.is x served.stands) c.in_ok-begin.ensures.layout c.in_ok-begin.ensures.places
@@ -62,12 +62,12 @@ number-requires g c =
     let served = c.requires.some.1 in
     let grid = c.width-width.ensures.whole x served.stands in
     let is = c.width-width.ensures.is x served.stands in
-    let inside = free_inside x c.args.ends.from served.from in
+    let inside = free_inside x c.args.query.from served.from in
     let start = sym c.start.ensures in
     record {
       column = subst (λ (u : State). u.cell.x < c.width-width.result) start
-          (subst (λ (n : ℕ). c.args.ends.from.x < n) (sym is) inside.0);
+          (subst (λ (n : ℕ). c.args.query.from.x < n) (sym is) inside.0);
       row = subst (λ (u : State). u.cell.y < 4096) start
-          (below c.args.ends.from.y x.height inside.1 grid.sides.low);
+          (below c.args.query.from.y x.height inside.1 grid.sides.low);
       narrow = subst (λ (n : ℕ). n ≤ 4096) (sym is) grid.sides.narrow;
     }

@@ -1,6 +1,6 @@
 use Rattle.std.proofs.lemmas.Bool.Decides.{nat_tests}
 use Rattle.std.proofs.lemmas.Grind.{common_steps}
-use Rattle.std.proofs.Common.{not, eqb, ◌≡◌, ◌+◌, ◌-◌, ◌<◌, ◌≤◌, ℕ, List, length, subst, arith}
+use Rattle.std.proofs.Common.{◌≡◌, ◌+◌, ◌-◌, ◌<◌, ◌≤◌, ℕ, List, length, subst, arith}
 use Rattle.std.specs.Prelude.{Option, IfSome, IfOk}
 use Rattle.std.proofs.lemmas.Option.{slice_get_within}
 use Rattle.std.proofs.lemmas.Result.{IfOk-from_err}
@@ -13,7 +13,6 @@ use Rattle.best_first.specs.declared.found.Found.{Found}
 use Rattle.search_core.proofs.Counting.{counted_further, within_taken}
 use Rattle.search_core.proofs.Serving.{differs_there, same_there}
 use Rattle.search_core.proofs.Standing.{few_taken}
-use Rattle.best_first.specs.Space.{layout_by}
 use Rattle.search_core.proofs.searching.run.Goals as goal
 
 smaller : (old new : ℕ) → new ≡ old + 1 → new ≤ 150994944 → 150994944 - new < 150994944 - old
@@ -22,22 +21,22 @@ smaller old new e h = omega arith
 pub taking-smaller : goal.taking-smaller
 taking-smaller g c =
     let some = c.requires.some in
-    let reached = subst (λ (o : Option ℕ). OnEach (g.J.JumpSource.StandsFor c.args.j.now) c.args.ends.from
-    c.args.ends.to (λ x. GoesOnFrom (layout_by (not (eqb g.row.BY_CELL 0))) x c.args.ends.from c.args.ends.to c.advance.new.space
+    let reached = subst (λ (o : Option ℕ). OnEach (g.J.JumpSource.StandsFor c.args.j.now) c.args.query.from
+    c.args.query.to (λ x. GoesOnFrom c.args.query.layout x c.args.query.from c.args.query.to c.advance.new.space
     c.advance.new.taken o))
     c.in-Some.is c.in_ok-next.ensures.goes_on in
     let more = subst (λ (o : Option ℕ). IfSome o
     (λ id. length c.advance.new.taken ≡ length c.taking.taken + 1)) c.in-Some.is
     c.in_ok-next.ensures.one_more in
     smaller (length c.taking.taken) (length c.advance.new.taken) more
-    (few_taken _ (g.J.JumpSource.StandsFor c.args.j.now) c.args.ends.from c.args.ends.to some.0 some.1
+    (few_taken _ (g.J.JumpSource.StandsFor c.args.j.now) c.args.query.from c.args.query.to some.0 some.1
     c.in-Some.next
     c.advance.new.space c.advance.new.taken (reached some.0 some.1))
 
 pub taking-preserved : goal.taking-preserved
 taking-preserved g c =
-    let reached = subst (λ (o : Option ℕ). OnEach (g.J.JumpSource.StandsFor c.args.j.now) c.args.ends.from
-    c.args.ends.to (λ x. GoesOnFrom (layout_by (not (eqb g.row.BY_CELL 0))) x c.args.ends.from c.args.ends.to c.advance.new.space
+    let reached = subst (λ (o : Option ℕ). OnEach (g.J.JumpSource.StandsFor c.args.j.now) c.args.query.from
+    c.args.query.to (λ x. GoesOnFrom c.args.query.layout x c.args.query.from c.args.query.to c.advance.new.space
     c.advance.new.taken o))
     c.in-Some.is c.in_ok-next.ensures.goes_on in
     let more = subst (λ (o : Option ℕ). IfSome o
@@ -105,17 +104,17 @@ node-requires g c =
 
 pub advance-requires-clause-open_ended : goal.advance-requires-clause-open_ended
 advance-requires-clause-open_ended g c = λ n h.
-    differs_there c.taking.space.table.nodes c.taking.at c.node.result n c.cell.result c.args.ends.to
+    differs_there c.taking.space.table.nodes c.taking.at c.node.result n c.cell.result c.args.query.to
     c.node.ensures c.cell.ensures c.ne.ensures h c.taking-test.true
 
 pub found-requires-clause-goal : goal.found-requires-clause-goal
 found-requires-clause-goal g c = λ n h.
-    same_there c.taking.space.table.nodes c.taking.at c.node.result n c.cell.result c.args.ends.to
+    same_there c.taking.space.table.nodes c.taking.at c.node.result n c.cell.result c.args.query.to
     c.node.ensures c.cell.ensures c.ne.ensures h c.taking-test.false
 
 pub returns-in-None-clause-run : goal.returns-in-None-clause-run
 returns-in-None-clause-run g c = λ x v.
-    subst (λ (o : Option ℕ). GoesOnFrom (layout_by (not (eqb g.row.BY_CELL 0))) x c.args.ends.from c.args.ends.to c.advance.new.space
+    subst (λ (o : Option ℕ). GoesOnFrom c.args.query.layout x c.args.query.from c.args.query.to c.advance.new.space
     c.advance.new.taken o) c.in-None.is (c.in_ok-next.ensures.goes_on x v)
 
 pub returns-in-None-clause-places : goal.returns-in-None-clause-places

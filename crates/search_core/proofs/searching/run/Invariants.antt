@@ -1,5 +1,4 @@
-use Rattle.std.proofs.Common.{not, eqb, ◌-◌, length}
-use Rattle.best_first.specs.Space.{layout_by}
+use Rattle.std.proofs.Common.{◌-◌, length}
 use Rattle.search_core.specs.Counting.{IsCountedSoFar}
 use Rattle.search_core.specs.Jumping.{HasReached}
 use Rattle.search_core.specs.Serving.{OnEach}
@@ -8,8 +7,8 @@ use Rattle.search_core.proofs.searching.run.Given as goal
 -- the states so far were taken, and the counter rose as all but the last ask
 abbrev pub invariant-taking : goal.invariant-taking
 invariant-taking g l = record {
-  reached : OnEach (g.J.JumpSource.StandsFor l.j) l.ends.from l.ends.to
-      (λ x. HasReached (layout_by (not (eqb g.row.BY_CELL 0))) x l.ends.from l.ends.to l.at l.space l.taken);
+  reached : OnEach (g.J.JumpSource.StandsFor l.j) l.query.from l.query.to
+      (λ x. HasReached l.query.layout x l.query.from l.query.to l.at l.space l.taken);
   counted : IsCountedSoFar (g.J.JumpSource.most l.j) (g.J.JumpSource.fewest l.j) l.taken l.initial.steps
       l.steps;
 }
