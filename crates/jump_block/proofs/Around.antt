@@ -24,7 +24,8 @@ use Rattle.jump_block.specs.Scan.{Finds}
 use Rattle.jump_block.specs.Word.{AreWordsOf, AreEdgesOf, IsAhead, IsFound, Meets, TellMoves, TellTrails}
 use Rattle.jump_block.specs.Word.{far, moves_before, near}
 use Rattle.jump_block.specs.Near.{AreNear, HasNextBit, HasNextWord, next_bit, next_word, side_word}
-use Rattle.jump_block.specs.Source.{by_rows, row_way, column_way}
+use Rattle.jump_block.specs.declared.straight.Axis.TheVariants.{Row, Column}
+use Rattle.jump_block.specs.Source.{by_line, way_on}
 use Rattle.jump_block.proofs.Reading.{meets_along}
 use Rattle.jump_block.proofs.Blocks.{edges_of, found_further, own_later}
 use Rattle.jump_block.proofs.Directions.{is_open_there}
@@ -130,13 +131,13 @@ bits_lead rule way place middle side along passes ahead b h more a p n told =
 -- three of their bits tell whether a diagonal move is legal
 module _ (g : GridData) (x : Cell) (free : is_free g x ≡ true) (rule : Corner) (same : rule ≡ g.corner)
     (w : ThreeWords)
-    (is : AreNear (by_rows g) (x.y + 1) (x.x + 1) w) where
+    (is : AreNear (by_line g Row) (x.y + 1) (x.x + 1) w) where
   abbrev told_by_bits : ℕ → Dir → Bool
-  told_by_bits place d = is_set (side_word (column_way d) w) (next_bit (row_way d) place)
-      && is_passable rule (is_set (side_word (column_way d) w) place)
-      (is_set w.middle (next_bit (row_way d) place))
+  told_by_bits place d = is_set (side_word (way_on Column d) w) (next_bit (way_on Row d) place)
+      && is_passable rule (is_set (side_word (way_on Column d) w) place)
+      (is_set w.middle (next_bit (way_on Row d) place))
 
-  leads_here : (d : Dir) → is_diagonal d ≡ true → HasNextBit (row_way d) ((x.x + 1) % 64) → (b : Bool)
+  leads_here : (d : Dir) → is_diagonal d ≡ true → HasNextBit (way_on Row d) ((x.x + 1) % 64) → (b : Bool)
       → b ≡ told_by_bits ((x.x + 1) % 64) d → b ≡ can_move g x d
   leads_here NE diagonal more b told =
       leads_by g x NE free diagonal rule same (is_set w.before ((x.x + 1) % 64 + 1))
@@ -178,7 +179,7 @@ module _ (g : GridData) (x : Cell) (free : is_free g x ≡ true) (rule : Corner)
   leads_here W diagonal more b told = absurd (cc)
 
   pub leads_near : (d : Dir) → is_diagonal d ≡ true → (place : ℕ) → place ≡ (x.x + 1) % 64
-      → HasNextBit (row_way d) place → (b : Bool) → b ≡ told_by_bits place d → b ≡ can_move g x d
+      → HasNextBit (way_on Row d) place → (b : Bool) → b ≡ told_by_bits place d → b ≡ can_move g x d
   leads_near d diagonal place same_place more b told =
-      leads_here d diagonal (subst (λ (p : ℕ). HasNextBit (row_way d) p) same_place more) b
+      leads_here d diagonal (subst (λ (p : ℕ). HasNextBit (way_on Row d) p) same_place more) b
       (told ∙ ap (λ (p : ℕ). told_by_bits p d) same_place)

@@ -19,7 +19,8 @@ use Rattle.pruning.specs.Allowed.{can_move}
 use Rattle.pruning.specs.Eight.{has_bit, ring_of}
 use Rattle.pruning.proofs.Moves.{can_move-diagonal}
 use Rattle.jump_block.specs.Near.{AreThree}
-use Rattle.jump_block.specs.Source.{by_rows}
+use Rattle.jump_block.specs.declared.straight.Axis.TheVariants.{Row}
+use Rattle.jump_block.specs.Source.{by_line}
 use Rattle.jump_block.proofs.Directions.{is_open_there}
 
 pub set_from : (word place j : ℕ) → is_set (word / 2 ^ place) j ≡ is_set word (place + j)
@@ -95,8 +96,8 @@ module _ (above middle below eight : ℕ)
 
   -- the cells around a cell are the middle bit's neighbours
   pub eight_read : (g : GridData) (x : Cell)
-      → AreThree (by_rows g) x.y x.x above → AreThree (by_rows g) (x.y + 1) x.x middle
-      → AreThree (by_rows g) (x.y + 2) x.x below
+      → AreThree (by_line g Row) x.y x.x above → AreThree (by_line g Row) (x.y + 1) x.x middle
+      → AreThree (by_line g Row) (x.y + 2) x.x below
       → (d : Dir) → is_free_on (ring_of eight) d ≡ is_open g x d
   eight_read g x a m b N = above_at_1 ∙ a 1 (omega arith)
       ∙ is_open_there g N x.x x.y _ _ (omega arith) (omega arith)

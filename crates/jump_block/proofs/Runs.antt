@@ -7,7 +7,7 @@ use Rattle.std.proofs.lemmas.Bool.Decides.{nat_tests}
 use Rattle.grid_moves.specs.declared.Cell.{Cell}
 use Rattle.grid_moves.specs.declared.Corner.{Corner}
 use Rattle.grid_moves.specs.declared.Dir.{Dir}
-use Rattle.grid_moves.specs.Grid.{GridData, IsGrid, is_free}
+use Rattle.grid_moves.specs.Grid.{GridData, is_free}
 use Rattle.grid_moves.specs.Move.{ahead, legal_ahead, is_open, may_slip}
 use Rattle.grid_moves.proofs.Legal.{legal_is, by_cut, passable-uncut}
 use Rattle.pruning.specs.declared.turns.Side.{Side}
@@ -21,13 +21,13 @@ use Rattle.jump_plain.specs.declared.beside.Sides.{Sides}
 use Rattle.jump_plain.specs.declared.scan.Reach.{Reach}
 use Rattle.jump_plain.specs.Beside.{sides_of, sides_ahead, opens}
 use Rattle.jump_plain.specs.Reach.{reach_of, further, mark_ahead, first_sides, stop_of}
-use Rattle.pruning.proofs.Lengths.{run_length-next, run_length-none, run_length-few}
+use Rattle.pruning.proofs.Lengths.{run_length-next, run_length-none}
 use Rattle.jump_plain.proofs.Forcing.{seen_from}
 use Rattle.jump_plain.proofs.Scanning.{left_with, reach_begun, reached_end, reached_mark, reached_next}
 use Rattle.jump_block.specs.declared.block.Halt.{Halt}
 use Rattle.jump_block.specs.Trail.{Trail, IsClear, Halts, halts, opens_beside}
 use Rattle.jump_block.specs.Scan.{Finds, looked, nearer}
-use Rattle.jump_block.specs.Source.{reach_of_halt, HasFew, scanned}
+use Rattle.jump_block.specs.Source.{reach_of_halt, scanned}
 use Rattle.jump_block.specs.Source as block
 
 none_if : (o : Option Cell) → is_some o ≡ false → o ≡ None
@@ -192,17 +192,6 @@ module _ (g : GridData) (x : Cell) (d : Dir) (h : is_diagonal d ≡ false)
         ap (λ (r : Reach). stop_of r to_goal) (reach_there h.passed h.marked is)
     found_stop to_goal None is = met_before to_goal (clear_there to_goal is.1) is.0
 
-    pub found_few : IsGrid g → (to_goal : ℕ) (found : Option Halt) → Finds g.corner t to_goal found
-        → HasFew found
-    found_few whole to_goal (Some h) is =
-        let there = comes h.passed (clear_there h.passed is.clear) in
-        let run = there.run in
-        let few = run_length-few g x d in
-        let wide = whole.sides.narrow in
-        let high = whole.sides.low in
-        omega arith
-    found_few whole to_goal None is = tt
-
     nearer_goal : (to_goal moves : ℕ) → (nat_lt 0 to_goal && nat_le to_goal moves) ≡ true
         → (passed : ℕ) → nearer to_goal passed ≤ to_goal
     nearer_goal to_goal moves e passed = grind (arith, nat_tests, common_steps)
@@ -249,19 +238,17 @@ pub record IsRay (g : GridData) (x : Cell) (d : Dir) (place : ℕ → Cell) (fre
 -- what a scan of this trail finds tells the first stop, and how many cells are looked at
 abbrev pub IsTold : GridData → Cell → Dir → Corner → Trail → Type 0
 IsTold g x d rule t = (to_goal : ℕ) (found : Option Halt) → Finds rule t to_goal found
-    → (block.stop_of rule found to_goal ≡ stop_of (reach_of g x d) to_goal) × HasFew found
+    → (block.stop_of rule found to_goal ≡ stop_of (reach_of g x d) to_goal)
     × (looked to_goal found ≤ scanned g x d (block.stop_of rule found to_goal))
 
 pub told_by_ray : (g : GridData) (x : Cell) (d : Dir) → is_diagonal d ≡ false → is_free g x ≡ true
-    → IsGrid g → (place : ℕ → Cell) (free : ℕ → Bool) (sides : ℕ → Sides)
+    → (place : ℕ → Cell) (free : ℕ → Bool) (sides : ℕ → Sides)
     → IsRay g x d place free sides → (t : Trail)
     → ((k : ℕ) → opens_beside t k ≡ opens (sides k) (sides (suc k)))
     → ((k : ℕ) → t.free (suc k) ≡ free (suc k)) → IsTold g x d g.corner t
-told_by_ray g x d h f whole place free sides ray t alike alike_free to_goal found is = (
+told_by_ray g x d h f place free sides ray t alike alike_free to_goal found is = (
   found_stop g x d h place free sides ray.starts f ray.begins ray.open_is ray.goes ray.sides_are t
       alike alike_free to_goal found is,
-  found_few g x d h place free sides ray.starts f ray.begins ray.open_is ray.goes ray.sides_are t
-      alike alike_free whole to_goal found is,
   found_within g x d h place free sides ray.starts f ray.begins ray.open_is ray.goes ray.sides_are t
       alike alike_free to_goal found is,
 )

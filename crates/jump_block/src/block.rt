@@ -126,8 +126,6 @@ pub(crate) fn halt_next<L: Ledger>(
     steps: &mut Steps<L>,
 ) -> Option<Halt>
     requires starts { (free : ℕ → ℕ → Bool) × IsStart lines.now free line from }
-    requires few { lines.now.lines < 65536 }
-    requires short { lines.now.blocks ≤ 128 }
     ensures halts { (free : ℕ → ℕ → Bool) → IsStart lines.now free line from → AreNear free line from near
         → IsClear (begun rule (trail_on free way line from))
         (moves_before way from (spec.far way (from / 64 * 64)))

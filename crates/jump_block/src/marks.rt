@@ -10,7 +10,7 @@ ghost use Rattle.jump_block.specs.Word as ways;
 ghost use Rattle.jump_block.specs.Word.{AreEight};
 
 use crate::block::{Block, Halt, halt_near, halt_next};
-use crate::scan::{Start, scan, scan_rest, way_of};
+use crate::scan::{scan, scan_rest, way_of};
 use crate::straight::stop_of;
 use crate::word::Way;
 use bit_grid::{Lines, ThreeWords};
@@ -40,17 +40,18 @@ fn finds_far<const WAY: usize, const RULE: usize, L: Ledger>(
 ) -> bool
     requires rule { rule ≡ ruled.rule_of_number RULE }
     requires starts { (free : ℕ → ℕ → Bool) × IsStart lines.now free line place }
-    requires few { lines.now.lines < 65536 }
-    requires short { lines.now.blocks ≤ 128 }
     ensures finds { MeetsFrom lines.now rule (ways.way_of WAY) line place steps.old steps.new result }
     ensures more { steps.old ≤ steps.new }
 {
-    let start = Start {
+    is_mark(scan::<RULE, false, L>(
+        way_of(WAY),
+        rule_of_number(RULE),
+        lines,
         line,
         place,
-        to_goal: 0,
-    };
-    is_mark(scan::<RULE, false, L>(way_of(WAY), rule_of_number(RULE), lines, start, steps))
+        0,
+        steps,
+    ))
 }
 
 // The same, where nothing halts the scan in the words around the cell: the next three are read before.
@@ -65,8 +66,6 @@ fn finds_next<const WAY: usize, const RULE: usize, L: Ledger>(
 ) -> bool
     requires rule { rule ≡ ruled.rule_of_number RULE }
     requires starts { (free : ℕ → ℕ → Bool) × IsStart lines.now free line place }
-    requires few { lines.now.lines < 65536 }
-    requires short { lines.now.blocks ≤ 128 }
     requires near { AreNearStart lines.now line place near }
     requires clear { ClearFrom lines.now rule (ways.way_of WAY) line place }
     ensures finds { MeetsFrom lines.now rule (ways.way_of WAY) line place (steps.old + 3) steps.new result }
@@ -100,8 +99,6 @@ pub(crate) fn finds_mark<const RULE: usize, L: Ledger>(
 ) -> bool
     requires rule { rule ≡ ruled.rule_of_number RULE }
     requires starts { (free : ℕ → ℕ → Bool) × IsStart lines.now free line place }
-    requires few { lines.now.lines < 65536 }
-    requires short { lines.now.blocks ≤ 128 }
     requires near { AreNearStart lines.now line place near }
     ensures finds { MeetsFrom lines.now rule way line place (steps.old + 3) steps.new result }
     ensures more { steps.old ≤ steps.new }
@@ -129,8 +126,6 @@ fn mark_past<const WAY: usize, const RULE: usize, L: Ledger>(
     steps: &mut Steps<L>,
 ) -> Option<u16>
     requires starts { (free : ℕ → ℕ → Bool) × IsStart lines.now free line place }
-    requires few { lines.now.lines < 65536 }
-    requires short { lines.now.blocks ≤ 128 }
     requires eight { AreEight (record { middle = middle; before = before; after = after }) }
     requires block { HasFirst lines.now (ways.way_of WAY) line place
         (record { middle = middle; before = before; after = after }) }
@@ -161,8 +156,6 @@ pub(crate) fn first_mark<const WAY: usize, const RULE: usize, L: Ledger>(
     steps: &mut Steps<L>,
 ) -> Option<u16>
     requires starts { (free : ℕ → ℕ → Bool) × IsStart lines.now free line place }
-    requires few { lines.now.lines < 65536 }
-    requires short { lines.now.blocks ≤ 128 }
     ensures stops { StopsFrom lines.now (ruled.rule_of_number RULE) (ways.way_of WAY) line place
         steps.old steps.new result }
     ensures fewest { steps.old + 3 ≤ steps.new }

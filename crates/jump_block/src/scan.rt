@@ -13,15 +13,6 @@ use grid_moves::{Corner, rule_of_number};
 use std::sync::ledger::Ledger;
 use steps::Steps;
 
-/// Where a scan starts.
-#[derive(Clone, Copy)]
-pub(crate) struct Start {
-    pub(crate) line: u32,
-    pub(crate) place: u32,
-    /// How many moves on the goal lies, or 0 where it does not lie ahead.
-    pub(crate) to_goal: u32,
-}
-
 // The number of moves that lead to the block's last place on the way.
 #[inline(always)]
 fn moves_through(way: Way, from: u32, start: u32) -> u32
@@ -71,8 +62,6 @@ fn scan_on<L: Ledger>(
     steps: &mut Steps<L>,
 ) -> Option<Halt>
     requires starts { (free : ℕ → ℕ → Bool) × IsStart lines.now free line place }
-    requires few { lines.now.lines < 65536 }
-    requires short { lines.now.blocks ≤ 128 }
     requires passed { PassedFrom lines.now rule way line place last }
     ensures finds { FindsFrom lines.now rule way to_goal line place result }
     ensures most { steps.new + 3 ≤ steps.old + most_lanes (looked to_goal result) }
@@ -126,8 +115,6 @@ fn scan_on_by<const WAY: usize, const RULE: usize, const AIMED: bool, L: Ledger>
     requires rule { rule ≡ ruled.rule_of_number RULE }
     requires aside { AIMED ≡ false → to_goal ≡ 0 }
     requires starts { (free : ℕ → ℕ → Bool) × IsStart lines.now free line place }
-    requires few { lines.now.lines < 65536 }
-    requires short { lines.now.blocks ≤ 128 }
     requires passed { PassedFrom lines.now rule (spec.way_of WAY) line place last }
     ensures finds { FindsFrom lines.now rule (spec.way_of WAY) to_goal line place result }
     ensures most { steps.new + 3 ≤ steps.old + most_lanes (looked to_goal result) }
@@ -149,8 +136,6 @@ pub(crate) fn scan_rest<const WAY: usize, const RULE: usize, L: Ledger>(
     steps: &mut Steps<L>,
 ) -> Option<Halt>
     requires starts { (free : ℕ → ℕ → Bool) × IsStart lines.now free line place }
-    requires few { lines.now.lines < 65536 }
-    requires short { lines.now.blocks ≤ 128 }
     requires eight { AreEight block }
     requires block { HasFirst lines.now (spec.way_of WAY) line place block }
     requires clear { ClearFrom lines.now (ruled.rule_of_number RULE) (spec.way_of WAY) line place }
@@ -167,7 +152,8 @@ pub(crate) fn scan_rest<const WAY: usize, const RULE: usize, L: Ledger>(
     }
 }
 
-/// Scans along a line from a free cell: finds where the scan halts, or `None` where the goal is met before.
+/// Scans along a line from a free cell: finds where the scan halts, or `None` where the goal, so many moves on,
+/// is met before; 0 where the goal is not ahead.
 ///
 /// Most scans halt in the block in which they start, so what is past it is looked at out of line. `AIMED`
 /// tells whether the goal may be ahead: where it is false, the goal is not ahead and is not looked for.
@@ -176,35 +162,28 @@ pub(crate) fn scan<const RULE: usize, const AIMED: bool, L: Ledger>(
     way: Way,
     rule: Corner,
     lines: &Lines,
-    start: Start,
+    line: u32,
+    place: u32,
+    to_goal: u32,
     steps: &mut Steps<L>,
 ) -> Option<Halt>
     requires rule { rule ≡ ruled.rule_of_number RULE }
-    requires aside { AIMED ≡ false → start.to_goal ≡ 0 }
-    requires starts { (free : ℕ → ℕ → Bool) × IsStart lines.now free start.line start.place }
-    requires few { lines.now.lines < 65536 }
-    requires short { lines.now.blocks ≤ 128 }
-    ensures finds { FindsFrom lines.now rule way start.to_goal start.line start.place result }
-    ensures most { steps.new ≤ steps.old + most_lanes (looked start.to_goal result) }
+    requires aside { AIMED ≡ false → to_goal ≡ 0 }
+    requires starts { (free : ℕ → ℕ → Bool) × IsStart lines.now free line place }
+    ensures finds { FindsFrom lines.now rule way to_goal line place result }
+    ensures most { steps.new ≤ steps.old + most_lanes (looked to_goal result) }
     ensures fewest { steps.old + 3 ≤ steps.new }
 {
-    let block = Block::read(lines, start.line, start.place / 512, steps);
-    match block.seek_start(way, rule, start.place) {
+    let block = Block::read(lines, line, place / 512, steps);
+    match block.seek_start(way, rule, place) {
         Seek::Halted(halt) => Some(halt),
-        Seek::Passed(words) => {
-            let Start {
-                line,
-                place,
-                to_goal,
-            } = start;
-            match way {
-                Way::Forward => {
-                    scan_on_by::<0, RULE, AIMED, L>(rule, lines, line, place, to_goal, words, steps)
-                }
-                Way::Back => {
-                    scan_on_by::<1, RULE, AIMED, L>(rule, lines, line, place, to_goal, words, steps)
-                }
+        Seek::Passed(words) => match way {
+            Way::Forward => {
+                scan_on_by::<0, RULE, AIMED, L>(rule, lines, line, place, to_goal, words, steps)
             }
-        }
+            Way::Back => {
+                scan_on_by::<1, RULE, AIMED, L>(rule, lines, line, place, to_goal, words, steps)
+            }
+        },
     }
 }

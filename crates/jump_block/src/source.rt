@@ -9,10 +9,10 @@ ghost use Rattle.pruning.specs.Stop.{IsFirstStop};
 ghost use Rattle.pruning.specs.Turns.{is_diagonal};
 ghost use Rattle.jump_block.specs.Scan.{most_lanes};
 ghost use Rattle.bit_grid.specs.Bits.{AreBitsOf};
-ghost use Rattle.jump_block.specs.Source.{AreItsBits, JumpsOnEach, JumpsOnSome, OnEach, OnSome, is_forward, is_back, diagonal_of, is_toward, scanned};
+ghost use Rattle.jump_block.specs.Source.{AreItsBits, JumpsOnEach, JumpsOnSome, OnEach, OnSome, is_forward, is_back, diagonal_of, is_toward, scanned, Stops};
 
 use crate::diagonal::{diagonal_of, is_toward};
-use crate::straight::Bits;
+use crate::straight::{Axis, Bits};
 use crate::word::Way;
 use bit_grid::BitGrid;
 use grid_moves::{Cell, Corner, Dir, rule_of_number};
@@ -93,17 +93,15 @@ impl<'a> Bits<'a> {
         requires rule { self.now.corner ≡ ruled.rule_of_number RULE }
         requires straight { is_diagonal d ≡ false }
         requires stands { OnSome self.now at }
-        ensures first { OnEach self.now at (λ g. result ≡ first.first_stop g goal at d) }
-        ensures most { OnEach self.now at
-            (λ g. steps.new ≤ steps.old + most_lanes (scanned g at d result)) }
+        ensures stops { OnEach self.now at (λ g. Stops g goal at d steps.old steps.new result) }
         ensures fewest { steps.old + 3 ≤ steps.new }
     {
         let bits = self.under::<RULE>();
         match d {
-            Dir::N => bits.straight_on_column::<RULE, L>(at, Way::Back, goal, steps),
-            Dir::E => bits.straight_on_row::<RULE, L>(at, Way::Forward, goal, steps),
-            Dir::S => bits.straight_on_column::<RULE, L>(at, Way::Forward, goal, steps),
-            _ => bits.straight_on_row::<RULE, L>(at, Way::Back, goal, steps),
+            Dir::N => bits.straight::<RULE, L>(at, Axis::Column, Way::Back, goal, steps),
+            Dir::E => bits.straight::<RULE, L>(at, Axis::Row, Way::Forward, goal, steps),
+            Dir::S => bits.straight::<RULE, L>(at, Axis::Column, Way::Forward, goal, steps),
+            _ => bits.straight::<RULE, L>(at, Axis::Row, Way::Back, goal, steps),
         }
     }
 
@@ -125,10 +123,10 @@ impl<'a> Bits<'a> {
         ensures fewest { steps.old + 3 ≤ steps.new }
     {
         match d {
-            Dir::N if at.x != goal.x => self.mark_on_column::<1, RULE, L>(at, steps),
-            Dir::E if at.y != goal.y => self.mark_on_row::<0, RULE, L>(at, steps),
-            Dir::S if at.x != goal.x => self.mark_on_column::<0, RULE, L>(at, steps),
-            Dir::W if at.y != goal.y => self.mark_on_row::<1, RULE, L>(at, steps),
+            Dir::N if at.x != goal.x => self.mark::<1, RULE, L>(at, Axis::Column, steps),
+            Dir::E if at.y != goal.y => self.mark::<0, RULE, L>(at, Axis::Row, steps),
+            Dir::S if at.x != goal.x => self.mark::<0, RULE, L>(at, Axis::Column, steps),
+            Dir::W if at.y != goal.y => self.mark::<1, RULE, L>(at, Axis::Row, steps),
             Dir::N | Dir::E | Dir::S | Dir::W => self.straight_by::<RULE, L>(at, d, goal, steps),
             Dir::NE => self.diagonal_stop::<RULE, 0, L>(at, goal, steps),
             Dir::SE => self.diagonal_stop::<RULE, 1, L>(at, goal, steps),

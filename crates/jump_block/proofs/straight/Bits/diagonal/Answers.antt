@@ -22,8 +22,8 @@ none_before n = omega arith
 
 pub run-init : goal.run-init
 run-init g c = record {
-  read = omega (arith, c.near_on_row-near.ensures.three_steps);
-  near = c.near_on_row-near.ensures.near;
+  read = omega (arith, c.near-near.ensures.three_steps);
+  near = c.near-near.ensures.near;
   aside = λ off. off;
   there = λ grid are free. record {
     free = free;
@@ -69,13 +69,13 @@ run-smaller g c =
     let run = there.run in
     omega arith
 
-pub near_on_row-near-requires-in-run : goal.near_on_row-near-requires-in-run
-near_on_row-near-requires-in-run g c = grind (arith, nat_tests, common_steps, legal_next, legal_ahead-free)
+pub near-near-requires-in-run : goal.near-near-requires-in-run
+near-near-requires-in-run g c = grind (arith, nat_tests, common_steps, legal_next, legal_ahead-free)
 
 pub run-preserved : goal.run-preserved
 run-preserved g c = record {
   read = grind (arith, nat_tests, common_steps);
-  near = c.near_on_row-near-in-run.ensures.near;
+  near = c.near-near-in-run.ensures.near;
   aside = λ off.
       let grid = c.requires.stands.0 in
       let are = c.requires.stands.1 in
@@ -114,7 +114,7 @@ pub leads_near-requires-clause-near : goal.leads_near-requires-clause-near
 leads_near-requires-clause-near g c = c.run.invariant.near
 
 pub stops_at-requires-clause-near : goal.stops_at-requires-clause-near
-stops_at-requires-clause-near g c = c.near_on_row-near-in-run.ensures.near
+stops_at-requires-clause-near g c = c.near-near-in-run.ensures.near
 
 pub stops_at-requires-clause-aside : goal.stops_at-requires-clause-aside
 stops_at-requires-clause-aside g c = λ off.
