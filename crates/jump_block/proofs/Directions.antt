@@ -1,6 +1,6 @@
 -- Scans on a grid, in each straight direction.
 use Rattle.std.proofs.lemmas.Grind.{common_steps}
-use Rattle.std.proofs.Common.{◌≡◌, ℕ, suc, ◌+◌, ◌-◌, ◌<◌, ◌≤◌, arith, Bool, true, false, ◌||◌}
+use Rattle.std.proofs.Common.{◌≡◌, ℕ, suc, ◌+◌, ◌<◌, ◌≤◌, arith, Bool, true, false, ◌||◌}
 use Rattle.std.proofs.Common.{refl, ap, sym, ◌∙◌, subst}
 use Rattle.std.specs.Prelude.{Option, Some, is_some, nat_eq, if◌then◌else◌}
 use Rattle.std.proofs.lemmas.Bool.Decides.{nat_tests}
@@ -25,7 +25,7 @@ use Rattle.jump_block.specs.declared.straight.Axis.TheVariants.{Row, Column}
 use Rattle.jump_block.specs.declared.straight.Bits.{Bits}
 use Rattle.jump_block.specs.declared.word.Way.{Way}
 use Rattle.jump_block.specs.declared.word.Way.TheVariants.{Forward, Back}
-use Rattle.jump_block.specs.Trail.{Trail, at_start, begun, opens, opens_beside, trail_on}
+use Rattle.jump_block.specs.Trail.{Trail, along, at_start, begun, opens, opens_beside, trail_on}
 use Rattle.jump_block.specs.Scan.{Finds, FindsFrom, IsStart, MeetsFrom, MeetsMark, looked, most_lanes}
 use Rattle.jump_block.specs.Source as block
 use Rattle.jump_block.specs.Source.{AreItsBits, by_line, dir_on, line_of, lines_on, part_on, place_of, scanned}
@@ -90,7 +90,7 @@ beyond_rows g x y h1 = grind (arith, nat_tests, common_steps, outside)
 
 -- a scan may start at a free cell, along its row and along its column
 module _ (b : Bits) (g : GridData) (x : Cell) (are : AreItsBits b g) (free : is_free g x ≡ true) where
-  start_on : (axis : Axis) → IsStart (lines_on b axis).now (by_line g axis) (line_of axis x) (place_of axis x)
+  pub start_on : (axis : Axis) → IsStart (lines_on b axis).now (by_line g axis) (line_of axis x) (place_of axis x)
   start_on Row =
       let inside = free_inside g x free in
       let s = are.whole.sides in
@@ -138,101 +138,82 @@ begins_with : (b : Bool) (a c p q : Bool) → a ≡ p → c ≡ q
     ≡ (if b then record { right = true; left = true } else record { right = p; left = q })
 begins_with b a c p q h1 h2 = grind (arith, nat_tests, common_steps, same_sides)
 
-other_side : (a b : Bool) → (a || b) ≡ (b || a)
-other_side a b = grind arith
-
 -- a side of a cell
 module _ (g : GridData) (d : Dir) (x y p q : ℕ) where
   pub is_open_there : p ≡ column_from_one d x → q ≡ row_from_one d y
       → is_free_from_one g p q ≡ is_open g (cell x y) d
   is_open_there e f = same_from_one g p q _ _ e f ∙ sym (open_from_one g d x y)
 
--- the cell ahead, where it is open
-west_ahead : (g : GridData) (n m y : ℕ) → m ≡ n - 1 → is_open g (cell n y) W ≡ true
-    → ahead W (cell n y) ≡ Some (cell m y)
-west_ahead g n m y h1 h2 = grind (arith, nat_tests, common_steps)
+-- along a line: the cells, and what lies to their right and left
+abbrev cell_on : Axis → Way → Cell → ℕ → Cell
+cell_on Row way x k = cell (along way x.x k) x.y
+cell_on Column way x k = cell x.x (along way x.y k)
 
-north_ahead : (g : GridData) (x n m : ℕ) → m ≡ n - 1 → is_open g (cell x n) N ≡ true
-    → ahead N (cell x n) ≡ Some (cell x m)
-north_ahead g x n m h1 h2 = grind (arith, nat_tests, common_steps)
+abbrev right_of : Axis → Way → Trail → ℕ → Bool
+right_of Row Forward t = t.after
+right_of Row Back t = t.before
+right_of Column Forward t = t.before
+right_of Column Back t = t.after
 
--- a straight run along a line: where its cells stand, and what lies to their right and left
-module _ (g : GridData) (x : Cell) (d : Dir) (straight : is_diagonal d ≡ false) (free : is_free g x ≡ true)
-    (place : ℕ → Cell) (t : Trail) (right left : ℕ → Bool) (starts : place 0 ≡ x)
-    (open_is : (k : ℕ) → t.free (suc k) ≡ is_open g (place k) d)
-    (goes : (k : ℕ) → is_open g (place k) d ≡ true → ahead d (place k) ≡ Some (place (suc k)))
-    (right_begins : right 0 ≡ is_open g x (quarter Right d))
-    (left_begins : left 0 ≡ is_open g x (quarter Left d))
-    (right_is : (k : ℕ) → right (suc k) ≡ is_open g (place k) (turn Right d))
-    (left_is : (k : ℕ) → left (suc k) ≡ is_open g (place k) (turn Left d))
-    (alike : (k : ℕ) → opens_beside (begun g.corner t) k
-    ≡ (opens (at_start g.corner right) k || opens (at_start g.corner left) k)) where
-  abbrev sides_at : ℕ → Sides
-  sides_at k = record { right = at_start g.corner right k; left = at_start g.corner left k }
+abbrev left_of : Axis → Way → Trail → ℕ → Bool
+left_of Row Forward t = t.before
+left_of Row Back t = t.after
+left_of Column Forward t = t.after
+left_of Column Back t = t.before
 
-  told_line : IsTold g x d g.corner (begun g.corner t)
-  told_line = told_by_ray g x d straight free place t.free sides_at (record {
-    starts = starts;
-    begins = begins_with (may_cut g.corner) (right 0) (left 0) _ _ right_begins left_begins;
-    open_is = λ k. sym (open_is k);
-    goes = goes;
-    sides_are = λ k. same_sides _ _ _ _ (right_is k) (left_is k);
-  }) (begun g.corner t) alike (λ k. refl)
+module _ (g : GridData) (x y : ℕ) (axis : Axis) (way : Way) where
+  stands_at : cell_on axis way (cell x y) 0 ≡ cell x y
+  stands_at = grind (arith, nat_tests, common_steps)
 
-module _ (g : GridData) (x : Cell) (free : is_free g x ≡ true) where
-  told_east : IsTold g x E g.corner (begun g.corner (trail_of g Row Forward x))
-  told_east = told_line g x E refl free (λ k. cell (x.x + k) x.y) (trail_of g Row Forward x)
-      (trail_of g Row Forward x).after (trail_of g Row Forward x).before (ap (λ (n : ℕ). cell n x.y) (omega arith))
-      (λ k. is_open_there g E (x.x + k) x.y _ _ (omega arith) (omega arith))
-      (λ k h. let next : x.x + k + 1 ≡ x.x + suc k = omega arith in ap (λ (n : ℕ). Some (cell n x.y)) next)
-      (is_open_there g S x.x x.y _ _ (omega arith) (omega arith))
-      (is_open_there g N x.x x.y _ _ (omega arith) (omega arith))
-      (λ k. is_open_there g SE (x.x + k) x.y _ _ (omega arith) (omega arith))
-      (λ k. is_open_there g NE (x.x + k) x.y _ _ (omega arith) (omega arith))
-      (λ k. other_side (opens (begun g.corner (trail_of g Row Forward x)).before k)
-      (opens (begun g.corner (trail_of g Row Forward x)).after k))
+  goes : (k : ℕ) → is_open g (cell_on axis way (cell x y) k) (dir_on axis way) ≡ true
+      → ahead (dir_on axis way) (cell_on axis way (cell x y) k) ≡ Some (cell_on axis way (cell x y) (suc k))
+  goes k h = grind (arith, nat_tests, common_steps)
 
-  told_west : IsTold g x W g.corner (begun g.corner (trail_of g Row Back x))
-  told_west = told_line g x W refl free (λ k. cell (x.x - k) x.y) (trail_of g Row Back x)
-      (trail_of g Row Back x).before (trail_of g Row Back x).after (ap (λ (n : ℕ). cell n x.y) (omega arith))
-      (λ k. is_open_there g W (x.x - k) x.y _ _ (omega arith) (omega arith))
-      (λ k h. west_ahead g (x.x - k) (x.x - suc k) x.y (omega arith) h)
-      (is_open_there g N x.x x.y _ _ (omega arith) (omega arith))
-      (is_open_there g S x.x x.y _ _ (omega arith) (omega arith))
-      (λ k. is_open_there g NW (x.x - k) x.y _ _ (omega arith) (omega arith))
-      (λ k. is_open_there g SW (x.x - k) x.y _ _ (omega arith) (omega arith)) (λ k. refl)
+  open_is : (k : ℕ) → is_open g (cell_on axis way (cell x y) k) (dir_on axis way)
+      ≡ (trail_of g axis way (cell x y)).free (suc k)
+  open_is k = grind (arith, nat_tests, common_steps, is_open_there)
 
-  told_south : IsTold g x S g.corner (begun g.corner (trail_of g Column Forward x))
-  told_south = told_line g x S refl free (λ k. cell x.x (x.y + k)) (trail_of g Column Forward x)
-      (trail_of g Column Forward x).before (trail_of g Column Forward x).after (ap (λ (n : ℕ). cell x.x n) (omega arith))
-      (λ k. is_open_there g S x.x (x.y + k) _ _ (omega arith) (omega arith))
-      (λ k h. let next : x.y + k + 1 ≡ x.y + suc k = omega arith in ap (λ (n : ℕ). Some (cell x.x n)) next)
-      (is_open_there g W x.x x.y _ _ (omega arith) (omega arith))
-      (is_open_there g E x.x x.y _ _ (omega arith) (omega arith))
-      (λ k. is_open_there g SW x.x (x.y + k) _ _ (omega arith) (omega arith))
-      (λ k. is_open_there g SE x.x (x.y + k) _ _ (omega arith) (omega arith)) (λ k. refl)
+  right_begins : right_of axis way (trail_of g axis way (cell x y)) 0
+      ≡ is_open g (cell x y) (quarter Right (dir_on axis way))
+  right_begins = grind (arith, nat_tests, common_steps, is_open_there)
 
-  told_north : IsTold g x N g.corner (begun g.corner (trail_of g Column Back x))
-  told_north = told_line g x N refl free (λ k. cell x.x (x.y - k)) (trail_of g Column Back x)
-      (trail_of g Column Back x).after (trail_of g Column Back x).before (ap (λ (n : ℕ). cell x.x n) (omega arith))
-      (λ k. is_open_there g N x.x (x.y - k) _ _ (omega arith) (omega arith))
-      (λ k h. north_ahead g x.x (x.y - k) (x.y - suc k) (omega arith) h)
-      (is_open_there g E x.x x.y _ _ (omega arith) (omega arith))
-      (is_open_there g W x.x x.y _ _ (omega arith) (omega arith))
-      (λ k. is_open_there g NE x.x (x.y - k) _ _ (omega arith) (omega arith))
-      (λ k. is_open_there g NW x.x (x.y - k) _ _ (omega arith) (omega arith))
-      (λ k. other_side (opens (begun g.corner (trail_of g Column Back x)).before k)
-      (opens (begun g.corner (trail_of g Column Back x)).after k))
+  left_begins : left_of axis way (trail_of g axis way (cell x y)) 0
+      ≡ is_open g (cell x y) (quarter Left (dir_on axis way))
+  left_begins = grind (arith, nat_tests, common_steps, is_open_there)
 
-told_by : (g : GridData) (x : Cell) (axis : Axis) (way : Way) → is_free g x ≡ true
-    → IsTold g x (dir_on axis way) g.corner (begun g.corner (trail_of g axis way x))
-told_by g x Row Forward = told_east g x
-told_by g x Row Back = told_west g x
-told_by g x Column Forward = told_south g x
-told_by g x Column Back = told_north g x
+  right_is : (k : ℕ) → right_of axis way (trail_of g axis way (cell x y)) (suc k)
+      ≡ is_open g (cell_on axis way (cell x y) k) (turn Right (dir_on axis way))
+  right_is k = grind (arith, nat_tests, common_steps, is_open_there)
+
+  left_is : (k : ℕ) → left_of axis way (trail_of g axis way (cell x y)) (suc k)
+      ≡ is_open g (cell_on axis way (cell x y) k) (turn Left (dir_on axis way))
+  left_is k = grind (arith, nat_tests, common_steps, is_open_there)
+
+alike : (axis : Axis) (way : Way) (rule : Corner) (t : Trail) (k : ℕ) → opens_beside (begun rule t) k
+    ≡ (opens (at_start rule (right_of axis way t)) k || opens (at_start rule (left_of axis way t)) k)
+alike axis way rule t k = grind arith
 
 straight_on : (axis : Axis) (way : Way) → is_diagonal (dir_on axis way) ≡ false
 straight_on axis way = grind (arith, nat_tests, common_steps)
+
+told_by : (g : GridData) (x : Cell) (axis : Axis) (way : Way) → is_free g x ≡ true
+    → IsTold g x (dir_on axis way) g.corner (begun g.corner (trail_of g axis way x))
+told_by g x axis way free =
+    let t = trail_of g axis way x in
+    told_by_ray g x (dir_on axis way) (straight_on axis way) free (cell_on axis way x) t.free
+    (λ k. record {
+      right = at_start g.corner (right_of axis way t) k;
+      left = at_start g.corner (left_of axis way t) k;
+    })
+    (record {
+      starts = stands_at g x.x x.y axis way;
+      begins = begins_with (may_cut g.corner) _ _ _ _ (right_begins g x.x x.y axis way)
+          (left_begins g x.x x.y axis way);
+      open_is = open_is g x.x x.y axis way;
+      goes = goes g x.x x.y axis way;
+      sides_are = λ k. same_sides _ _ _ _ (right_is g x.x x.y axis way k) (left_is g x.x x.y axis way k);
+    })
+    (begun g.corner t) (alike axis way g.corner t) (λ k. refl)
 
 -- what a scan finds tells where a straight jump stops
 module _ (b : Bits) (g : GridData) (x : Cell) (are : AreItsBits b g) (free : is_free g x ≡ true)

@@ -4,6 +4,7 @@ ghost use Rattle.std.specs.Prelude.{◌≡◌, ℕ, ◌+◌, ◌≤◌, Bool, fa
 ghost use Rattle.pruning.specs.Turns.{is_diagonal};
 ghost use Rattle.grid_moves.specs.Ruled as ruled;
 ghost use Rattle.jump_plain.specs.Reach as reach;
+ghost use Rattle.jump_block.specs.Scan.{IsStart};
 ghost use Rattle.jump_block.specs.Source as spec;
 ghost use Rattle.jump_block.specs.Word as ways;
 ghost use Rattle.jump_block.specs.Source.{FindsAside, IsNear, OnEach, OnSome, Stops, StopsAside};
@@ -79,17 +80,26 @@ pub(crate) struct Bits<'a> {
 }
 
 impl<'a> Bits<'a> {
-    // Where a cell stands on its row or its column.
+    // Where a free cell stands on its row or its column.
     #[inline(always)]
     fn start(&self, at: Cell, axis: Axis) -> Start<'a>
-        ensures { result ≡ spec.start_of self.now axis at }
+        requires stands { OnSome self.now at }
+        ensures is { result ≡ spec.start_of self.now axis at }
+        ensures starts { (free : ℕ → ℕ → Bool) × IsStart result.lines.now free result.line result.place }
     {
         let (x, y) = (u32::from(at.x) + 1, u32::from(at.y) + 1);
-        let (lines, line, place) = match axis {
-            Axis::Row => (self.rows, y, x),
-            Axis::Column => (self.columns, x, y),
-        };
-        Start { lines, line, place }
+        match axis {
+            Axis::Row => Start {
+                lines: self.rows,
+                line: y,
+                place: x,
+            },
+            Axis::Column => Start {
+                lines: self.columns,
+                line: x,
+                place: y,
+            },
+        }
     }
 
     /// Reads the words around a free cell, of its row or its column and of the lines beside it.
