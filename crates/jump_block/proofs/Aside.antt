@@ -1,6 +1,6 @@
 -- Diagonals that lead elsewhere than to where the goal lies.
 use Rattle.std.proofs.Common.{◌≡◌, ℕ, arith, Bool, true, false, refl, ap, subst, ◌||◌, ◌∙◌}
-use Rattle.std.specs.Prelude.{⊤, Option, Some, None, is_some, nat_eq}
+use Rattle.std.specs.Prelude.{Option, IfSome, Some, is_some, nat_eq}
 use Rattle.std.proofs.lemmas.Bool.Decides.{nat_tests}
 use Rattle.grid_moves.specs.declared.Cell.{Cell}
 use Rattle.grid_moves.specs.declared.Dir.{Dir}
@@ -26,30 +26,26 @@ off_line d u goal h = record {
 }
 
 -- what one move leaves
-abbrev IfStep : (Cell → Type 0) → Option Cell → Type 0
-IfStep P None = ⊤
-IfStep P (Some v) = P v
-
 off_stepped : (x y : ℕ) (goal : Cell) (d : Dir) (axis : Axis) → is_diagonal d ≡ true
     → is_toward d (record { x = x; y = y }) goal ≡ false
-    → IfStep (λ v. moves_to (part_on axis d) v goal ≡ 0) (ahead d (record { x = x; y = y }))
+    → IfSome (ahead d (record { x = x; y = y })) (λ v. moves_to (part_on axis d) v goal ≡ 0)
 off_stepped x y goal d axis h k = grind (arith, nat_tests)
 
 still_stepped : (x y : ℕ) (goal : Cell) (d : Dir) → is_diagonal d ≡ true
     → is_toward d (record { x = x; y = y }) goal ≡ false
-    → IfStep (λ v. is_toward d v goal ≡ false) (ahead d (record { x = x; y = y }))
+    → IfSome (ahead d (record { x = x; y = y })) (λ v. is_toward d v goal ≡ false)
 still_stepped x y goal d h k = grind (arith, nat_tests)
 
 apart_stepped : (x y : ℕ) (goal : Cell) (d : Dir) → is_diagonal d ≡ true
     → is_toward d (record { x = x; y = y }) goal ≡ false
-    → IfStep (λ v. is_same v goal ≡ false) (ahead d (record { x = x; y = y }))
+    → IfSome (ahead d (record { x = x; y = y })) (λ v. is_same v goal ≡ false)
 apart_stepped x y goal d h k = grind (arith, nat_tests)
 
 -- the cell ahead of one from which a diagonal leads elsewhere
 module _ (g : GridData) (d : Dir) (u v goal : Cell) (diagonal : is_diagonal d ≡ true)
     (legal : legal_ahead g u d ≡ Some v) (aside : is_toward d u goal ≡ false) where
-  stepped : (P : Cell → Type 0) → IfStep P (ahead d u) → P v
-  stepped P h = subst (λ (o : Option Cell). IfStep P o) (legal_ahead-ahead g u v d legal) h
+  stepped : (P : Cell → Type 0) → IfSome (ahead d u) P → P v
+  stepped P h = subst (λ (o : Option Cell). IfSome o P) (legal_ahead-ahead g u v d legal) h
 
   pub aside_ahead : IsAside d v goal
   aside_ahead = record {

@@ -12,6 +12,7 @@ use Rattle.grid_moves.specs.Grid.{GridData, is_free, is_inside}
 use Rattle.grid_moves.specs.Move.{ahead, is_open, may_cut}
 use Rattle.grid_moves.proofs.Legal.{free_inside}
 use Rattle.bit_grid.specs.Bits.{is_free_from_one}
+use Rattle.pruning.specs.declared.turns.Side.{Side}
 use Rattle.pruning.specs.declared.turns.Side.TheVariants.{Right, Left}
 use Rattle.pruning.specs.Turns.{is_diagonal, quarter, turn}
 use Rattle.jump_plain.specs.declared.beside.Sides.{Sides}
@@ -122,11 +123,6 @@ module _ (b : Bits) (g : GridData) (x : Cell) (are : AreItsBits b g) (free : is_
         short = let blocks = are.are_columns.tight in omega arith;
       }
 
-  pub starts : (axis : Axis) (s : Start) → s ≡ start_of b axis x
-      → IsStart s.lines.now (by_line g axis) s.line s.place
-  starts axis s e = subst (λ (t : Start). IsStart t.lines.now (by_line g axis) t.line t.place) (sym e)
-      (start_on axis)
-
 same_sides : (a b c d : Bool) → a ≡ c → b ≡ d
     → (let s : Sides = record { right = a; left = b } in s)
     ≡ (let s : Sides = record { right = c; left = d } in s)
@@ -149,17 +145,15 @@ abbrev cell_on : Axis → Way → Cell → ℕ → Cell
 cell_on Row way x k = cell (along way x.x k) x.y
 cell_on Column way x k = cell x.x (along way x.y k)
 
-abbrev right_of : Axis → Way → Trail → ℕ → Bool
-right_of Row Forward t = t.after
-right_of Row Back t = t.before
-right_of Column Forward t = t.before
-right_of Column Back t = t.after
-
-abbrev left_of : Axis → Way → Trail → ℕ → Bool
-left_of Row Forward t = t.before
-left_of Row Back t = t.after
-left_of Column Forward t = t.after
-left_of Column Back t = t.before
+abbrev side_of : Side → Axis → Way → Trail → ℕ → Bool
+side_of Right Row Forward t = t.after
+side_of Right Row Back t = t.before
+side_of Right Column Forward t = t.before
+side_of Right Column Back t = t.after
+side_of Left Row Forward t = t.before
+side_of Left Row Back t = t.after
+side_of Left Column Forward t = t.after
+side_of Left Column Back t = t.before
 
 module _ (g : GridData) (x y : ℕ) (axis : Axis) (way : Way) where
   stands_at : cell_on axis way (cell x y) 0 ≡ cell x y
@@ -173,24 +167,16 @@ module _ (g : GridData) (x y : ℕ) (axis : Axis) (way : Way) where
       ≡ (trail_of g axis way (cell x y)).free (suc k)
   open_is k = grind (arith, nat_tests, common_steps, is_open_there)
 
-  right_begins : right_of axis way (trail_of g axis way (cell x y)) 0
-      ≡ is_open g (cell x y) (quarter Right (dir_on axis way))
-  right_begins = grind (arith, nat_tests, common_steps, is_open_there)
+  side_begins : (s : Side) → side_of s axis way (trail_of g axis way (cell x y)) 0
+      ≡ is_open g (cell x y) (quarter s (dir_on axis way))
+  side_begins s = grind (arith, nat_tests, common_steps, is_open_there)
 
-  left_begins : left_of axis way (trail_of g axis way (cell x y)) 0
-      ≡ is_open g (cell x y) (quarter Left (dir_on axis way))
-  left_begins = grind (arith, nat_tests, common_steps, is_open_there)
-
-  right_is : (k : ℕ) → right_of axis way (trail_of g axis way (cell x y)) (suc k)
-      ≡ is_open g (cell_on axis way (cell x y) k) (turn Right (dir_on axis way))
-  right_is k = grind (arith, nat_tests, common_steps, is_open_there)
-
-  left_is : (k : ℕ) → left_of axis way (trail_of g axis way (cell x y)) (suc k)
-      ≡ is_open g (cell_on axis way (cell x y) k) (turn Left (dir_on axis way))
-  left_is k = grind (arith, nat_tests, common_steps, is_open_there)
+  side_is : (s : Side) (k : ℕ) → side_of s axis way (trail_of g axis way (cell x y)) (suc k)
+      ≡ is_open g (cell_on axis way (cell x y) k) (turn s (dir_on axis way))
+  side_is s k = grind (arith, nat_tests, common_steps, is_open_there)
 
 alike : (axis : Axis) (way : Way) (rule : Corner) (t : Trail) (k : ℕ) → opens_beside (begun rule t) k
-    ≡ (opens (at_start rule (right_of axis way t)) k || opens (at_start rule (left_of axis way t)) k)
+    ≡ (opens (at_start rule (side_of Right axis way t)) k || opens (at_start rule (side_of Left axis way t)) k)
 alike axis way rule t k = grind arith
 
 straight_on : (axis : Axis) (way : Way) → is_diagonal (dir_on axis way) ≡ false
@@ -202,16 +188,16 @@ told_by g x axis way free =
     let t = trail_of g axis way x in
     told_by_ray g x (dir_on axis way) (straight_on axis way) free (cell_on axis way x) t.free
     (λ k. record {
-      right = at_start g.corner (right_of axis way t) k;
-      left = at_start g.corner (left_of axis way t) k;
+      right = at_start g.corner (side_of Right axis way t) k;
+      left = at_start g.corner (side_of Left axis way t) k;
     })
     (record {
       starts = stands_at g x.x x.y axis way;
-      begins = begins_with (may_cut g.corner) _ _ _ _ (right_begins g x.x x.y axis way)
-          (left_begins g x.x x.y axis way);
+      begins = begins_with (may_cut g.corner) _ _ _ _ (side_begins g x.x x.y axis way Right)
+          (side_begins g x.x x.y axis way Left);
       open_is = open_is g x.x x.y axis way;
       goes = goes g x.x x.y axis way;
-      sides_are = λ k. same_sides _ _ _ _ (right_is g x.x x.y axis way k) (left_is g x.x x.y axis way k);
+      sides_are = λ k. same_sides _ _ _ _ (side_is g x.x x.y axis way Right k) (side_is g x.x x.y axis way Left k);
     })
     (begun g.corner t) (alike axis way g.corner t) (λ k. refl)
 
@@ -223,8 +209,8 @@ module _ (b : Bits) (g : GridData) (x : Cell) (are : AreItsBits b g) (free : is_
   on_line : (P : Trail → Type 0)
       → ((free : ℕ → ℕ → Bool) → IsStart s.lines.now free s.line s.place → P (trail_on free way s.line s.place))
       → P (trail_of g axis way x)
-  on_line P told = subst (λ (t : Start). P (trail_on (by_line g axis) way t.line t.place)) stands
-      (told (by_line g axis) (starts b g x are free axis s stands))
+  on_line P told = subst (λ (t : Start). (free : ℕ → ℕ → Bool) → IsStart t.lines.now free t.line t.place
+      → P (trail_on free way t.line t.place)) stands told (by_line g axis) (start_on b g x are free axis)
 
   told_on : IsTold g x (dir_on axis way) rule (begun rule (trail_of g axis way x))
   told_on = subst (λ (c : Corner). IsTold g x (dir_on axis way) c (begun c (trail_of g axis way x)))
@@ -277,11 +263,3 @@ module _ (b : Bits) (g : GridData) (x : Cell) (are : AreItsBits b g) (free : is_
 pub off_both : (axis : Axis) (way : Way) (u v : Cell) → (nat_eq u.x v.x || nat_eq u.y v.y) ≡ false
     → moves_to (dir_on axis way) u v ≡ 0
 off_both axis way u v h1 = grind (arith, nat_tests, common_steps)
-
-swap : (x a b : Bool) → (x || a || b) ≡ (x || b || a)
-swap x a b = grind arith
-
--- the straight parts of a diagonal
-pub parts : (P : Dir → Bool) (d : Dir) → is_diagonal d ≡ true → (x a b : Bool) → a ≡ P (part_on Row d)
-    → b ≡ P (part_on Column d) → (x || a || b) ≡ (x || P (turn Right d) || P (turn Left d))
-parts P d h1 x a b h2 h3 = grind (arith, nat_tests, common_steps, swap)

@@ -1,6 +1,6 @@
 -- Jumps over bits: the grids for which they stand, where a scan on one halts, and how many cells it covers.
 use Rattle.std.specs.Prelude.{◌≡◌, ⊤, IsTrue, ℕ, ◌+◌, ◌<◌, ◌≤◌, Bool, true, false, if◌then◌else◌}
-use Rattle.std.specs.Prelude.{◌&&◌, nat_eq, nat_lt, Option, Some, None, is_some, codes, refl}
+use Rattle.std.specs.Prelude.{◌&&◌, ◌||◌, nat_eq, nat_lt, Option, Some, None, is_some, codes, refl}
 use Rattle.std.specs.Borrow.{Bor}
 use Rattle.grid_moves.specs.declared.Cell.{Cell}
 use Rattle.grid_moves.specs.declared.Corner.{Corner}
@@ -12,6 +12,7 @@ use Rattle.grid_moves.specs.Move.{is_same}
 use Rattle.bit_grid.specs.declared.lines.ThreeWords.{ThreeWords}
 use Rattle.bit_grid.specs.Bits.{BitData, LineData, AreBitsOf, AreRowsOf, AreColumnsOf, is_free_from_one}
 use Rattle.pruning.specs.First.{first_stop, run_length}
+use Rattle.pruning.specs.Marked.{is_forced}
 use Rattle.jump_plain.specs.declared.scan.Reach.{Reach}
 use Rattle.jump_plain.specs.Reach as reach
 use Rattle.jump_plain.specs.Reach.{mark_ahead}
@@ -155,6 +156,11 @@ StopsAt rule t old new stop = (found : Option Halt) × Finds rule t 0 found × (
 abbrev pub StopsFrom : LineData → Corner → Way → ℕ → ℕ → ℕ → ℕ → Option ℕ → Type 0
 StopsFrom l rule way line place old new stop = (free : ℕ → ℕ → Bool) → IsStart l free line place
     → StopsAt rule (begun rule (trail_on free way line place)) old new stop
+
+-- whether a diagonal jump stops at a cell
+abbrev pub stops_at : GridData → Cell → Dir → Cell → Bool
+stops_at g goal d x = is_same x goal || is_forced g x d || is_some (first_stop g goal x (part_on Row d))
+    || is_some (first_stop g goal x (part_on Column d))
 
 -- so few moves that one more can be counted
 abbrev pub HasFew : Option Halt → Type 0

@@ -201,9 +201,7 @@ impl<'a> Bits<'a> {
         requires rule { self.now.corner ≡ ruled.rule_of_number RULE }
         requires stands { OnSome self.now at }
         requires diagonal { is_diagonal d ≡ true }
-        ensures stops { OnEach self.now at (λ g. result ≡ (is_same at goal || is_forced g at d
-            || is_some (first.first_stop g goal at (spec.part_on Row d))
-            || is_some (first.first_stop g goal at (spec.part_on Column d)))) }
+        ensures stops { OnEach self.now at (λ g. result ≡ spec.stops_at g goal d at) }
         ensures more { steps.old ≤ steps.new }
     {
         if at == goal {
@@ -240,9 +238,7 @@ impl<'a> Bits<'a> {
         requires near { IsNear self.now Row at near }
         requires diagonal { is_diagonal d ≡ true }
         requires aside { AIMED ≡ false → IsAside d at goal }
-        ensures stops { OnEach self.now at (λ g. result ≡ (is_same at goal || is_forced g at d
-            || is_some (first.first_stop g goal at (spec.part_on Row d))
-            || is_some (first.first_stop g goal at (spec.part_on Column d)))) }
+        ensures stops { OnEach self.now at (λ g. result ≡ spec.stops_at g goal d at) }
         ensures more { steps.old ≤ steps.new }
     {
         if may_meet::<AIMED>(d, at, goal) {

@@ -44,8 +44,8 @@ returns g c = record {
       ∙ ap (λ (w : Way). first_stop grid c.args.goal c.args.at (dir_on Column w)) c.way_on-way-2.ensures) in
       stops-fourth (is_same c.args.at c.args.goal) (is_forced grid c.args.at c.args.d)
       (is_some (first_stop grid c.args.goal c.args.at (part_on Row c.args.d)))
-      (is_some (first_stop grid c.args.goal c.args.at (part_on Column c.args.d))) _
-      (sym c.eq.ensures ∙ c.if-eq.false)
+      (is_some (first_stop grid c.args.goal c.args.at (part_on Column c.args.d)))
+      _ (sym c.eq.ensures ∙ c.if-eq.false)
       (sym (c.forces.ensures.forces grid are free) ∙ c.if-forces.false)
       (sym row ∙ sym c.is_some.ensures ∙ c.if-is_some.false) (c.is_some-2.ensures ∙ column);
   more = omega (
