@@ -1,6 +1,6 @@
 -- Jumps over bits: the grids for which they stand, where a scan on one halts, and how many cells it covers.
 use Rattle.std.specs.Prelude.{◌≡◌, ⊤, IsTrue, ℕ, ◌+◌, ◌<◌, ◌≤◌, Bool, true, false, if◌then◌else◌}
-use Rattle.std.specs.Prelude.{◌&&◌, ◌||◌, nat_eq, nat_lt, Option, Some, None, is_some, codes, refl}
+use Rattle.std.specs.Prelude.{◌&&◌, ◌||◌, nat_lt, Option, Some, None, is_some, codes, refl}
 use Rattle.std.specs.Borrow.{Bor}
 use Rattle.grid_moves.specs.declared.Cell.{Cell}
 use Rattle.grid_moves.specs.declared.Corner.{Corner}
@@ -67,9 +67,12 @@ dir_on Row Back = W
 dir_on Column Forward = S
 dir_on Column Back = N
 
--- the diagonal of this number
-abbrev pub diagonal_of : ℕ → Dir
-diagonal_of n = if nat_eq n 0 then NE else if nat_eq n 1 then SE else if nat_eq n 2 then SW else NW
+-- the diagonal to the east or the west and to the south or the north
+abbrev pub diagonal_of : Bool → Bool → Dir
+diagonal_of true false = NE
+diagonal_of true true = SE
+diagonal_of false true = SW
+diagonal_of false false = NW
 
 -- which way a diagonal leads along the row, and along the column; and its straight parts
 abbrev pub way_on : Axis → Dir → Way

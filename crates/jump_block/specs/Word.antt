@@ -1,5 +1,5 @@
 -- Words of a trail: 64 places of a line, and the places beside them.
-use Rattle.std.specs.Prelude.{◌≡◌, ℕ, suc, ◌+◌, ◌*◌, ◌-◌, ◌<◌, ◌≤◌, Bool, true, nat_eq, nat_lt, if◌then◌else◌}
+use Rattle.std.specs.Prelude.{◌≡◌, ℕ, suc, ◌+◌, ◌*◌, ◌-◌, ◌<◌, ◌≤◌, Bool, true, nat_lt, if◌then◌else◌}
 use Rattle.std.specs.Prelude.{length, slice_index_or}
 use Rattle.bit_grid.specs.Bits.{is_set}
 use Rattle.jump_block.specs.declared.word.Way.{Way}
@@ -8,9 +8,9 @@ use Rattle.bit_grid.specs.declared.lines.ThreeWords.{ThreeWords}
 use Rattle.jump_block.specs.declared.block.Block.{Block}
 use Rattle.jump_block.specs.Trail.{Trail, IsClear, halts, opens}
 
--- the way of this number
-abbrev pub way_of : ℕ → Way
-way_of n = if nat_eq n 0 then Forward else Back
+-- the way that leads forward, or else back
+abbrev pub way_of : Bool → Way
+way_of forward = if forward then Forward else Back
 
 -- from this start, k moves lead to the place
 abbrev pub Meets : Way → ℕ → ℕ → ℕ → Type 0

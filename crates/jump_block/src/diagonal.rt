@@ -24,18 +24,18 @@ use pruning::{Side, forced_on, ring_of, turn};
 use std::sync::ledger::Ledger;
 use steps::Steps;
 
-/// The diagonal of this number, so that it can be a constant of a function, which has code of its own for
-/// each.
+/// The diagonal to the east or the west and to the south or the north, so that it can be a constant of a
+/// function, which has code of its own for each.
 #[inline(always)]
-pub(crate) fn diagonal_of(number: usize) -> Dir
-    ensures is { result ≡ spec.diagonal_of number }
+pub(crate) fn diagonal_of(east: bool, south: bool) -> Dir
+    ensures is { result ≡ spec.diagonal_of east south }
     ensures diagonal { is_diagonal result ≡ true }
 {
-    match number {
-        0 => Dir::NE,
-        1 => Dir::SE,
-        2 => Dir::SW,
-        _ => Dir::NW,
+    match (east, south) {
+        (true, false) => Dir::NE,
+        (true, true) => Dir::SE,
+        (false, true) => Dir::SW,
+        (false, false) => Dir::NW,
     }
 }
 

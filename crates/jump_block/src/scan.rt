@@ -80,15 +80,13 @@ fn scan_on<L: Ledger>(
     None
 }
 
-/// The way of this number, so that it can be a constant of a function, which has code of its own for each.
+/// The way that leads forward, or else back, so that it can be a constant of a function, which has code of its
+/// own for each.
 #[inline(always)]
-pub(crate) fn way_of(number: usize) -> Way
-    ensures { result ≡ spec.way_of number }
+pub(crate) fn way_of(forward: bool) -> Way
+    ensures { result ≡ spec.way_of forward }
 {
-    match number {
-        0 => Way::Forward,
-        _ => Way::Back,
-    }
+    if forward { Way::Forward } else { Way::Back }
 }
 
 // How many moves on the goal lies: 0, which the compiler then knows, where it is told that it is not ahead.
@@ -103,7 +101,7 @@ fn moves_to_goal<const AIMED: bool>(to_goal: u32) -> u32
 // The same out of line, on a way and under a rule that the compiler knows: each has a loop of its own, and
 // another one in which the goal is not looked for.
 #[inline(never)]
-fn scan_on_by<const WAY: usize, const RULE: usize, const AIMED: bool, L: Ledger>(
+fn scan_on_by<const FORWARD: bool, const RULE: usize, const AIMED: bool, L: Ledger>(
     rule: Corner,
     lines: &Lines,
     line: u32,
@@ -115,20 +113,29 @@ fn scan_on_by<const WAY: usize, const RULE: usize, const AIMED: bool, L: Ledger>
     requires rule { rule ≡ ruled.rule_of_number RULE }
     requires aside { AIMED ≡ false → to_goal ≡ 0 }
     requires starts { (free : ℕ → ℕ → Bool) × IsStart lines.now free line place }
-    requires passed { PassedFrom lines.now rule (spec.way_of WAY) line place last }
-    ensures finds { FindsFrom lines.now rule (spec.way_of WAY) to_goal line place result }
+    requires passed { PassedFrom lines.now rule (spec.way_of FORWARD) line place last }
+    ensures finds { FindsFrom lines.now rule (spec.way_of FORWARD) to_goal line place result }
     ensures most { steps.new + 3 ≤ steps.old + most_lanes (looked to_goal result) }
     ensures more { steps.old ≤ steps.new }
 {
     let rule = rule_of_number(RULE);
     let to_goal = moves_to_goal::<AIMED>(to_goal);
-    scan_on(way_of(WAY), rule, lines, line, place, to_goal, last, steps)
+    scan_on(
+        way_of(FORWARD),
+        rule,
+        lines,
+        line,
+        place,
+        to_goal,
+        last,
+        steps,
+    )
 }
 
 /// Goes on with a scan past the word in which it starts, where nothing halts it before and the goal is not
 /// ahead, told the block in which it starts.
 #[inline(always)]
-pub(crate) fn scan_rest<const WAY: usize, const RULE: usize, L: Ledger>(
+pub(crate) fn scan_rest<const FORWARD: bool, const RULE: usize, L: Ledger>(
     lines: &Lines,
     line: u32,
     place: u32,
@@ -137,17 +144,17 @@ pub(crate) fn scan_rest<const WAY: usize, const RULE: usize, L: Ledger>(
 ) -> Option<Halt>
     requires starts { (free : ℕ → ℕ → Bool) × IsStart lines.now free line place }
     requires eight { AreEight block }
-    requires block { HasFirst lines.now (spec.way_of WAY) line place block }
-    requires clear { ClearFrom lines.now (ruled.rule_of_number RULE) (spec.way_of WAY) line place }
-    ensures finds { FindsFrom lines.now (ruled.rule_of_number RULE) (spec.way_of WAY) 0 line place result }
+    requires block { HasFirst lines.now (spec.way_of FORWARD) line place block }
+    requires clear { ClearFrom lines.now (ruled.rule_of_number RULE) (spec.way_of FORWARD) line place }
+    ensures finds { FindsFrom lines.now (ruled.rule_of_number RULE) (spec.way_of FORWARD) 0 line place result }
     ensures most { steps.new + 3 ≤ steps.old + most_lanes (looked 0 result) }
     ensures more { steps.old ≤ steps.new }
 {
     let rule = rule_of_number(RULE);
-    match block.seek_rest(way_of(WAY), rule, place) {
+    match block.seek_rest(way_of(FORWARD), rule, place) {
         Seek::Halted(halt) => Some(halt),
         Seek::Passed(words) => {
-            scan_on_by::<WAY, RULE, false, L>(rule, lines, line, place, 0, words, steps)
+            scan_on_by::<FORWARD, RULE, false, L>(rule, lines, line, place, 0, words, steps)
         }
     }
 }
@@ -179,10 +186,10 @@ pub(crate) fn scan<const RULE: usize, const AIMED: bool, L: Ledger>(
         Seek::Halted(halt) => Some(halt),
         Seek::Passed(words) => match way {
             Way::Forward => {
-                scan_on_by::<0, RULE, AIMED, L>(rule, lines, line, place, to_goal, words, steps)
+                scan_on_by::<true, RULE, AIMED, L>(rule, lines, line, place, to_goal, words, steps)
             }
             Way::Back => {
-                scan_on_by::<1, RULE, AIMED, L>(rule, lines, line, place, to_goal, words, steps)
+                scan_on_by::<false, RULE, AIMED, L>(rule, lines, line, place, to_goal, words, steps)
             }
         },
     }

@@ -45,25 +45,26 @@ impl<'a> Bits<'a> {
     // so that others, which are short, keep clear of its many registers. A jump that leads elsewhere than to
     // where the goal lies has a loop of its own too, in which no cell is compared with the goal.
     #[inline(never)]
-    fn diagonal_by<const RULE: usize, const DIAGONAL: usize, const AIMED: bool, L: Ledger>(
-        &self,
-        at: Cell,
-        goal: Cell,
-        steps: &mut Steps<L>,
-    ) -> Option<u16>
+    fn diagonal_by<
+        const RULE: usize,
+        const EAST: bool,
+        const SOUTH: bool,
+        const AIMED: bool,
+        L: Ledger,
+    >(&self, at: Cell, goal: Cell, steps: &mut Steps<L>) -> Option<u16>
         requires rule { self.now.corner ≡ ruled.rule_of_number RULE }
         requires stands { OnSome self.now at }
-        requires aside { AIMED ≡ false → is_toward (diagonal_of DIAGONAL) at goal ≡ false }
-        ensures first { OnEach self.now at (λ g. result ≡ first.first_stop g goal at (diagonal_of DIAGONAL)) }
+        requires aside { AIMED ≡ false → is_toward (diagonal_of EAST SOUTH) at goal ≡ false }
+        ensures first { OnEach self.now at (λ g. result ≡ first.first_stop g goal at (diagonal_of EAST SOUTH)) }
         ensures fewest { steps.old + 3 ≤ steps.new }
     {
         let bits = self.under::<RULE>();
-        bits.diagonal::<RULE, AIMED, L>(at, diagonal_of(DIAGONAL), goal, steps)
+        bits.diagonal::<RULE, AIMED, L>(at, diagonal_of(EAST, SOUTH), goal, steps)
     }
 
     // The same, for any goal.
     #[inline(always)]
-    fn diagonal_stop<const RULE: usize, const DIAGONAL: usize, L: Ledger>(
+    fn diagonal_stop<const RULE: usize, const EAST: bool, const SOUTH: bool, L: Ledger>(
         &self,
         at: Cell,
         goal: Cell,
@@ -71,13 +72,13 @@ impl<'a> Bits<'a> {
     ) -> Option<u16>
         requires rule { self.now.corner ≡ ruled.rule_of_number RULE }
         requires stands { OnSome self.now at }
-        ensures first { OnEach self.now at (λ g. result ≡ first.first_stop g goal at (diagonal_of DIAGONAL)) }
+        ensures first { OnEach self.now at (λ g. result ≡ first.first_stop g goal at (diagonal_of EAST SOUTH)) }
         ensures fewest { steps.old + 3 ≤ steps.new }
     {
-        if is_toward(diagonal_of(DIAGONAL), at, goal) {
-            self.diagonal_by::<RULE, DIAGONAL, true, L>(at, goal, steps)
+        if is_toward(diagonal_of(EAST, SOUTH), at, goal) {
+            self.diagonal_by::<RULE, EAST, SOUTH, true, L>(at, goal, steps)
         } else {
-            self.diagonal_by::<RULE, DIAGONAL, false, L>(at, goal, steps)
+            self.diagonal_by::<RULE, EAST, SOUTH, false, L>(at, goal, steps)
         }
     }
 
@@ -123,15 +124,15 @@ impl<'a> Bits<'a> {
         ensures fewest { steps.old + 3 ≤ steps.new }
     {
         match d {
-            Dir::N if at.x != goal.x => self.mark::<1, RULE, L>(at, Axis::Column, steps),
-            Dir::E if at.y != goal.y => self.mark::<0, RULE, L>(at, Axis::Row, steps),
-            Dir::S if at.x != goal.x => self.mark::<0, RULE, L>(at, Axis::Column, steps),
-            Dir::W if at.y != goal.y => self.mark::<1, RULE, L>(at, Axis::Row, steps),
+            Dir::N if at.x != goal.x => self.mark::<false, RULE, L>(at, Axis::Column, steps),
+            Dir::E if at.y != goal.y => self.mark::<true, RULE, L>(at, Axis::Row, steps),
+            Dir::S if at.x != goal.x => self.mark::<true, RULE, L>(at, Axis::Column, steps),
+            Dir::W if at.y != goal.y => self.mark::<false, RULE, L>(at, Axis::Row, steps),
             Dir::N | Dir::E | Dir::S | Dir::W => self.straight_by::<RULE, L>(at, d, goal, steps),
-            Dir::NE => self.diagonal_stop::<RULE, 0, L>(at, goal, steps),
-            Dir::SE => self.diagonal_stop::<RULE, 1, L>(at, goal, steps),
-            Dir::SW => self.diagonal_stop::<RULE, 2, L>(at, goal, steps),
-            Dir::NW => self.diagonal_stop::<RULE, 3, L>(at, goal, steps),
+            Dir::NE => self.diagonal_stop::<RULE, true, false, L>(at, goal, steps),
+            Dir::SE => self.diagonal_stop::<RULE, true, true, L>(at, goal, steps),
+            Dir::SW => self.diagonal_stop::<RULE, false, true, L>(at, goal, steps),
+            Dir::NW => self.diagonal_stop::<RULE, false, false, L>(at, goal, steps),
         }
     }
 

@@ -145,7 +145,7 @@ impl<'a> Bits<'a> {
 
     /// After how many moves a straight jump stops, for a goal to which it does not lead.
     #[inline(always)]
-    pub(crate) fn mark<const WAY: usize, const RULE: usize, L: Ledger>(
+    pub(crate) fn mark<const FORWARD: bool, const RULE: usize, L: Ledger>(
         &self,
         at: Cell,
         axis: Axis,
@@ -154,11 +154,11 @@ impl<'a> Bits<'a> {
         requires rule { self.now.corner ≡ ruled.rule_of_number RULE }
         requires stands { OnSome self.now at }
         ensures stops { OnEach self.now at
-            (λ g. StopsAside g at (spec.dir_on axis (ways.way_of WAY)) steps.old steps.new result) }
+            (λ g. StopsAside g at (spec.dir_on axis (ways.way_of FORWARD)) steps.old steps.new result) }
         ensures fewest { steps.old + 3 ≤ steps.new }
     {
         let start = self.start(at, axis);
-        first_mark::<WAY, RULE, L>(start.lines, start.line, start.place, steps)
+        first_mark::<FORWARD, RULE, L>(start.lines, start.line, start.place, steps)
     }
 
     /// After how many moves a straight jump stops.
