@@ -72,7 +72,7 @@ module _ (a b c d : Bool) where
       → result ≡ (a || b || c || d)
   stops-fourth result h k l e = rw (h, k, l) e
 
--- a component finds a stop, told the way on which it was looked for
+-- a component finds a stop, given the way on which it was looked for
 pub component_found : (g : GridData) (goal u : Cell) (d : Dir) (axis : Axis) (way : Way) → way ≡ way_on axis d
     → (old new : ℕ) (found : Bool) → FindsAside g u (dir_on axis way) old new found → IsAside d u goal
     → found ≡ is_some (first_stop g goal u (part_on axis d))

@@ -19,7 +19,7 @@ use Rattle.jump_block.specs.Source.{part_on, stops_at}
 
 pub legal_next : (g : GridData) (u v : Cell) (d : Dir) (leads : Bool) → leads ≡ can_move g u d → leads ≡ true
     → v ≡ beyond d u → legal_ahead g u d ≡ Some v
-legal_next g u v d leads told on e = beyond_legal g u v d e (sym told ∙ on)
+legal_next g u v d leads known on e = beyond_legal g u v d e (sym known ∙ on)
 
 swap : (x a b : Bool) → (x || a || b) ≡ (x || b || a)
 swap x a b = grind arith

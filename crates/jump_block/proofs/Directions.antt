@@ -18,7 +18,7 @@ use Rattle.pruning.specs.Turns.{is_diagonal, quarter, turn}
 use Rattle.jump_plain.specs.declared.beside.Sides.{Sides}
 use Rattle.jump_plain.specs.Reach.{moves_to, reach_of, stop_of}
 use Rattle.jump_plain.proofs.Straight.{straight_stop}
-use Rattle.jump_block.proofs.Runs.{IsTold, told_by_ray}
+use Rattle.jump_block.proofs.Runs.{FindsStop, ray_finds}
 use Rattle.jump_block.specs.declared.block.Halt.{Halt}
 use Rattle.jump_block.specs.declared.straight.Start.{Start}
 use Rattle.jump_block.specs.declared.straight.Axis.{Axis}
@@ -182,11 +182,11 @@ alike axis way rule t k = grind arith
 straight_on : (axis : Axis) (way : Way) → is_diagonal (dir_on axis way) ≡ false
 straight_on axis way = grind (arith, nat_tests, common_steps)
 
-told_by : (g : GridData) (x : Cell) (axis : Axis) (way : Way) → is_free g x ≡ true
-    → IsTold g x (dir_on axis way) g.corner (begun g.corner (trail_of g axis way x))
-told_by g x axis way free =
+line_finds : (g : GridData) (x : Cell) (axis : Axis) (way : Way) → is_free g x ≡ true
+    → FindsStop g x (dir_on axis way) g.corner (begun g.corner (trail_of g axis way x))
+line_finds g x axis way free =
     let t = trail_of g axis way x in
-    told_by_ray g x (dir_on axis way) (straight_on axis way) free (cell_on axis way x) t.free
+    ray_finds g x (dir_on axis way) (straight_on axis way) free (cell_on axis way x) t.free
     (λ k. record {
       right = at_start g.corner (side_of Right axis way t) k;
       left = at_start g.corner (side_of Left axis way t) k;
@@ -205,27 +205,27 @@ told_by g x axis way free =
 module _ (b : Bits) (g : GridData) (x : Cell) (are : AreItsBits b g) (free : is_free g x ≡ true)
     (axis : Axis) (way : Way) (s : Start) (stands : s ≡ start_of b axis x) (rule : Corner)
     (same : rule ≡ b.corner) where
-  -- at the start, told by the line
+  -- at the start, known by the line
   on_line : (P : Trail → Type 0)
       → ((free : ℕ → ℕ → Bool) → IsStart s.lines.now free s.line s.place → P (trail_on free way s.line s.place))
       → P (trail_of g axis way x)
-  on_line P told = subst (λ (t : Start). (free : ℕ → ℕ → Bool) → IsStart t.lines.now free t.line t.place
-      → P (trail_on free way t.line t.place)) stands told (by_line g axis) (start_on b g x are free axis)
+  on_line P known = subst (λ (t : Start). (free : ℕ → ℕ → Bool) → IsStart t.lines.now free t.line t.place
+      → P (trail_on free way t.line t.place)) stands known (by_line g axis) (start_on b g x are free axis)
 
-  told_on : IsTold g x (dir_on axis way) rule (begun rule (trail_of g axis way x))
-  told_on = subst (λ (c : Corner). IsTold g x (dir_on axis way) c (begun c (trail_of g axis way x)))
-      (sym (same ∙ are.rule)) (told_by g x axis way free)
+  finds_stop : FindsStop g x (dir_on axis way) rule (begun rule (trail_of g axis way x))
+  finds_stop = subst (λ (c : Corner). FindsStop g x (dir_on axis way) c (begun c (trail_of g axis way x)))
+      (sym (same ∙ are.rule)) (line_finds g x axis way free)
 
   stops : (goal : Cell) (to_goal old new : ℕ) (found : Option Halt) (stop : Option ℕ)
       → to_goal ≡ moves_to (dir_on axis way) x goal
       → Finds rule (begun rule (trail_of g axis way x)) to_goal found → stop ≡ block.stop_of rule found to_goal
       → new ≤ old + most_lanes (looked to_goal found) → Stops g goal x (dir_on axis way) old new stop
   stops goal to_goal old new found stop e is its most =
-      let told = told_on to_goal found is in (
-        its ∙ told.0 ∙ ap (λ (n : ℕ). stop_of (reach_of g x (dir_on axis way)) n) e
+      let known = finds_stop to_goal found is in (
+        its ∙ known.0 ∙ ap (λ (n : ℕ). stop_of (reach_of g x (dir_on axis way)) n) e
             ∙ sym (straight_stop g goal x (dir_on axis way) (straight_on axis way)),
         subst (λ (o : Option ℕ). new ≤ old + most_lanes (scanned g x (dir_on axis way) o)) (sym its)
-            (let within = told.1 in omega (arith, within, most)),
+            (let within = known.1 in omega (arith, within, most)),
       )
 
   pub straight_stops : (goal : Cell) (to_goal same_moves old new : ℕ) (found : Option Halt) (stop : Option ℕ)

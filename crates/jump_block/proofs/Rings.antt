@@ -1,4 +1,4 @@
--- The cells around a cell, told by bits of three rows.
+-- The cells around a cell, read from bits of three rows.
 use Rattle.std.proofs.lemmas.Bool.Decides.{nat_tests}
 use Rattle.std.proofs.lemmas.Grind.{common_steps}
 use Rattle.std.proofs.Common.{◌≡◌, ℕ, zero, suc, ◌+◌, ◌*◌, ◌/◌, ◌%◌, ◌^◌, ◌<◌, arith, Bool, true, ◌&&◌, ap}
@@ -80,7 +80,7 @@ module _ (above middle below eight : ℕ)
   eight_read g x a m b NW = bit above 0 1 (omega (arith, is)) ∙ a 0 (omega arith)
       ∙ is_open_there g NW x.x x.y _ _ (omega arith) (omega arith)
 
--- a diagonal move is told by three cells
+-- a diagonal move is known by three cells
 pub leads_by : (g : GridData) (x : Cell) (d : Dir) → is_free g x ≡ true → is_diagonal d ≡ true
     → (rule : Corner) → rule ≡ g.corner → (ahead left right passes both : Bool)
     → ahead ≡ is_open g x d → left ≡ is_open g x (turn Left d) → right ≡ is_open g x (turn Right d)

@@ -1,4 +1,4 @@
--- What a scan finds, told of the grid: along a run from a cell, by the cells after so many moves.
+-- What a scan finds, said of the grid: along a run from a cell, by the cells after so many moves.
 use Rattle.std.proofs.lemmas.Grind.{common_steps}
 use Rattle.std.proofs.Common.{◌≡◌, ℕ, zero, suc, ◌+◌, ◌<◌, ◌≤◌, arith, Bool, true, false, not, ◌&&◌, ◌||◌}
 use Rattle.std.proofs.Common.{refl, ap, sym, ◌∙◌}
@@ -177,11 +177,11 @@ module _ (g : GridData) (x : Cell) (d : Dir) (h : is_diagonal d ≡ false)
             → reach_of_halt g.corner (record { passed = passed; marked = marked }) ≡ reach_of g x d
         by_next true e =
             ap (λ (m : Bool). reach_of_halt g.corner (record { passed = passed; marked = m }))
-            (h.told ∙ marked_there (t.free (suc passed)) _ (alike_free passed ∙ e))
+            (h.shown ∙ marked_there (t.free (suc passed)) _ (alike_free passed ∙ e))
             ∙ halted_mark passed (clear_there passed h.clear) e
             (opens_there (free (suc passed)) _ (sym (halts_alike passed) ∙ h.here) e)
         by_next false e =
-            let last = h.told ∙ marked_last (t.free (suc passed)) _ (alike_free passed ∙ e) in
+            let last = h.shown ∙ marked_last (t.free (suc passed)) _ (alike_free passed ∙ e) in
             last_mark passed marked last
             ∙ halted_blocked passed (clear_there passed h.clear) e marked
             (last ∙ ap (λ (o : Bool). may_slip g.corner && o) (alike passed))
@@ -224,7 +224,7 @@ module _ (g : GridData) (x : Cell) (d : Dir) (h : is_diagonal d ≡ false)
             by_goal_marked (nat_lt 0 to_goal && nat_le to_goal (h.passed + mark_ahead g.corner)) refl
         by_halt false halt = by_goal_blocked (nat_lt 0 to_goal && nat_le to_goal h.passed) refl
             (halted_run h.passed (clear_there h.passed halt.clear)
-            (sym (alike_free h.passed) ∙ blocked_there (t.free (suc h.passed)) _ halt.told))
+            (sym (alike_free h.passed) ∙ blocked_there (t.free (suc h.passed)) _ halt.shown))
 
 -- the cells ahead as a scan passes them
 pub record IsRay (g : GridData) (x : Cell) (d : Dir) (place : ℕ → Cell) (free : ℕ → Bool)
@@ -236,17 +236,17 @@ pub record IsRay (g : GridData) (x : Cell) (d : Dir) (place : ℕ → Cell) (fre
   pub sides_are : (k : ℕ) → sides (suc k) ≡ sides_ahead g (place k) d
 
 -- what a scan of this trail finds tells the first stop, and how many cells are looked at
-abbrev pub IsTold : GridData → Cell → Dir → Corner → Trail → Type 0
-IsTold g x d rule t = (to_goal : ℕ) (found : Option Halt) → Finds rule t to_goal found
+abbrev pub FindsStop : GridData → Cell → Dir → Corner → Trail → Type 0
+FindsStop g x d rule t = (to_goal : ℕ) (found : Option Halt) → Finds rule t to_goal found
     → (block.stop_of rule found to_goal ≡ stop_of (reach_of g x d) to_goal)
     × (looked to_goal found ≤ scanned g x d (block.stop_of rule found to_goal))
 
-pub told_by_ray : (g : GridData) (x : Cell) (d : Dir) → is_diagonal d ≡ false → is_free g x ≡ true
+pub ray_finds : (g : GridData) (x : Cell) (d : Dir) → is_diagonal d ≡ false → is_free g x ≡ true
     → (place : ℕ → Cell) (free : ℕ → Bool) (sides : ℕ → Sides)
     → IsRay g x d place free sides → (t : Trail)
     → ((k : ℕ) → opens_beside t k ≡ opens (sides k) (sides (suc k)))
-    → ((k : ℕ) → t.free (suc k) ≡ free (suc k)) → IsTold g x d g.corner t
-told_by_ray g x d h f place free sides ray t alike alike_free to_goal found is = (
+    → ((k : ℕ) → t.free (suc k) ≡ free (suc k)) → FindsStop g x d g.corner t
+ray_finds g x d h f place free sides ray t alike alike_free to_goal found is = (
   found_stop g x d h place free sides ray.starts f ray.begins ray.open_is ray.goes ray.sides_are t
       alike alike_free to_goal found is,
   found_within g x d h place free sides ray.starts f ray.begins ray.open_is ray.goes ray.sides_are t

@@ -144,7 +144,7 @@ reach_of_halt rule h =
     if h.marked then record { moves = h.passed + mark_ahead rule; marked = true }
     else record { moves = h.passed; marked = false }
 
--- the first stop, told where the scan halts, or else that the goal is met before
+-- the first stop, given where the scan halts, or else that the goal is met before
 abbrev pub stop_of : Corner → Option Halt → ℕ → Option ℕ
 stop_of rule (Some h) to_goal = reach.stop_of (reach_of_halt rule h) to_goal
 stop_of rule None to_goal = Some to_goal

@@ -50,13 +50,13 @@ abbrev pub TellMoves : (ℕ → Bool) → Way → ℕ → ℕ → ℕ → Type 0
 TellMoves tell way from base bits =
     (j k : ℕ) → j < 64 → Meets way from (base + j) (suc k) → is_set bits j ≡ tell k
 
--- the bits at which a side opens in a word, told the word before
+-- the bits at which a side opens in a word, given the word before
 abbrev pub IsOpened : Way → ℕ → ℕ → ℕ → Type 0
 IsOpened way word last found = (side : ℕ → Bool) (from base : ℕ) → IsWordOf side way from base word
     → IsEdgeOf side way from (near way base) last
     → TellMoves (opens side) way from base found
 
--- the same of each trail that has these words, told the one before
+-- the same of each trail that has these words, given the one before
 abbrev pub TellTrails : (Trail → ℕ → Bool) → Way → ThreeWords → ThreeWords → ℕ → Type 0
 TellTrails tell way words last bits = (t : Trail) (from base : ℕ) → AreWordsOf t way from base words
     → AreEdgesOf t way from (near way base) last → TellMoves (tell t) way from base bits
@@ -108,7 +108,7 @@ abbrev pub IsAhead : Way → ℕ → ℕ → Type 0
 IsAhead Forward from edge = from < edge
 IsAhead Back from edge = edge ≤ from
 
--- the bits at which a scan halts in the word from `base` on, told that it makes n moves, and more only to the
+-- the bits at which a scan halts in the word from `base` on, given that it makes n moves, and more only to the
 -- word's places
 pub record IsFound (t : Trail) (way : Way) (from base n found : ℕ) : Type 0 where
   pub clear : IsClear t n

@@ -154,7 +154,7 @@ impl<'a> Bits<'a> {
         both(ahead, is_passable(self.corner, left, right))
     }
 
-    // The same, told the words around the cell, in which the cells ahead and beside it mostly are.
+    // The same, given the words around the cell, in which the cells ahead and beside it mostly are.
     #[inline(always)]
     fn leads_near<L: Ledger>(
         &self,
@@ -221,7 +221,7 @@ impl<'a> Bits<'a> {
     }
 
     // Whether a diagonal jump stops at a cell. Only in the goal's row or column is the goal looked for, and
-    // by no jump that leads elsewhere; at all other cells a component is asked for its mark alone, told the
+    // by no jump that leads elsewhere; at all other cells a component is asked for its mark alone, given the
     // words around the cell. The call out of line gets a copy of the bits, so that their own stay in
     // registers here.
     #[inline(always)]
@@ -255,7 +255,7 @@ impl<'a> Bits<'a> {
         self.finds_mark::<RULE, L>(at, Axis::Column, way_on(Axis::Column, d), beside, steps)
     }
 
-    /// After how many moves a diagonal jump stops, told whether it may lead to where the goal lies.
+    /// After how many moves a diagonal jump stops, given whether it may lead to where the goal lies.
     #[inline(always)]
     pub(crate) fn diagonal<const RULE: usize, const AIMED: bool, L: Ledger>(
         &self,

@@ -86,7 +86,7 @@ fn finds_next<const FORWARD: bool, const RULE: usize, L: Ledger>(
     finds_far::<FORWARD, RULE, L>(rule, lines, line, place, steps)
 }
 
-/// Whether a scan from a free cell halts at a mark, told the words around the cell.
+/// Whether a scan from a free cell halts at a mark, given the words around the cell.
 #[inline(always)]
 pub(crate) fn finds_mark<const RULE: usize, L: Ledger>(
     way: Way,
@@ -113,7 +113,7 @@ pub(crate) fn finds_mark<const RULE: usize, L: Ledger>(
     }
 }
 
-// After how many moves a jump stops, where nothing halts its scan in the word in which it starts. It is told
+// After how many moves a jump stops, where nothing halts its scan in the word in which it starts. It is given
 // the block with this word and those of the lines beside it, each by itself, so that they stay in registers.
 #[inline(never)]
 fn mark_past<const FORWARD: bool, const RULE: usize, L: Ledger>(

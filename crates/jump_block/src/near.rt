@@ -109,7 +109,7 @@ fn side_word(way: Way, words: ThreeWords) -> u64
     }
 }
 
-/// Whether a diagonal move from this bit is legal, told the words of its row and of those beside it.
+/// Whether a diagonal move from this bit is legal, given the words of its row and of those beside it.
 #[inline(always)]
 pub(crate) fn leads_from_bit(rule: Corner, d: Dir, words: ThreeWords, place: u32) -> bool
     requires small { place < 64 }

@@ -46,7 +46,7 @@ fn next_block(way: Way, index: u32) -> u32
     }
 }
 
-// Goes on past the block in which a scan started, told the last words that it passed there.
+// Goes on past the block in which a scan started, given the last words that it passed there.
 //
 // It reads three blocks at a time: of the line, and of those beside it. The next ones are read only where
 // neither a halt nor the goal is found in those at hand.
@@ -89,7 +89,7 @@ pub(crate) fn way_of(forward: bool) -> Way
     if forward { Way::Forward } else { Way::Back }
 }
 
-// How many moves on the goal lies: 0, which the compiler then knows, where it is told that it is not ahead.
+// How many moves on the goal lies: 0, which the compiler then knows, where it is known not to be ahead.
 #[inline(always)]
 fn moves_to_goal<const AIMED: bool>(to_goal: u32) -> u32
     requires aside { AIMED ≡ false → to_goal ≡ 0 }
@@ -133,7 +133,7 @@ fn scan_on_by<const FORWARD: bool, const RULE: usize, const AIMED: bool, L: Ledg
 }
 
 /// Goes on with a scan past the word in which it starts, where nothing halts it before and the goal is not
-/// ahead, told the block in which it starts.
+/// ahead, given the block in which it starts.
 #[inline(always)]
 pub(crate) fn scan_rest<const FORWARD: bool, const RULE: usize, L: Ledger>(
     lines: &Lines,

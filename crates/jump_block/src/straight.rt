@@ -20,7 +20,7 @@ use jump_plain::jump::moves_to;
 use std::sync::ledger::Ledger;
 use steps::Steps;
 
-/// The first stop, told where the scan halts: the goal where it is met before, else the mark, if any. Where
+/// The first stop, given where the scan halts: the goal where it is met before, else the mark, if any. Where
 /// no corner is cut the mark is the next cell's, and else that of the cell where the scan halts.
 #[inline(always)]
 pub(crate) fn stop_of(rule: Corner, found: Option<Halt>, to_goal: u16) -> Option<u16>
@@ -113,7 +113,7 @@ impl<'a> Bits<'a> {
         words_near(start.lines, start.line, start.place, steps)
     }
 
-    /// Whether a straight jump finds a stop, for a goal to which it does not lead, told the words around the
+    /// Whether a straight jump finds a stop, for a goal to which it does not lead, given the words around the
     /// cell.
     #[inline(always)]
     pub(crate) fn finds_mark<const RULE: usize, L: Ledger>(
