@@ -24,7 +24,8 @@ use Rattle.jump_block.specs.Scan.{Finds}
 use Rattle.jump_block.specs.Word.{AreWordsOf, AreEdgesOf, IsAhead, IsFound, Meets, TellMoves, TellTrails}
 use Rattle.jump_block.specs.Word.{far, moves_before, near}
 use Rattle.jump_block.specs.Near.{AreNear, HasNextBit, HasNextWord, next_bit, next_word, side_word}
-use Rattle.jump_block.specs.Source.{by_rows, row_way, column_way}
+use Rattle.jump_block.specs.declared.straight.Axis.TheVariants.{Row, Column}
+use Rattle.jump_block.specs.Source.{by_line, way_on}
 use Rattle.jump_block.proofs.Reading.{meets_along}
 use Rattle.jump_block.proofs.Blocks.{edges_of, found_further, own_later}
 use Rattle.jump_block.proofs.Directions.{is_open_there}
@@ -68,7 +69,7 @@ module _ (free : ℕ → ℕ → Bool) (way : Way) (rule : Corner) (line from ne
     → AreWordsOf (begun rule t) way (base + from % 64) base first)
     (are : AreNear free line (next * 64) words) (more : HasNextWord way per_line (from / 64))
     (follows : next ≡ next_word way (from / 64))
-    (told : TellTrails halts way words first found)
+    (known : TellTrails halts way words first found)
     (clear : IsClear (begun rule (trail_on free way line from))
     (moves_before way from (far way (from / 64 * 64)))) where
   first_there : AreWordsOf (begun rule (trail_on free way line from)) way from (from / 64 * 64) first
@@ -93,7 +94,7 @@ module _ (free : ℕ → ℕ → Bool) (way : Way) (rule : Corner) (line from ne
       (moves_before way from (near way (next * 64))) found
   next_found = found_further (begun rule (trail_on free way line from)) way from (next * 64) found words first
       next_there (rw edge_is (edge_ahead way from))
-      (record { edges = edges_there; clear = rw edge_is clear }) told
+      (record { edges = edges_there; clear = rw edge_is clear }) known
 
   pub next_marks : (marks : ℕ) → TellTrails (shows_mark rule) way words first marks
       → TellMoves (shows_mark rule (begun rule (trail_on free way line from))) way from (next * 64) marks
@@ -124,29 +125,29 @@ pub bits_lead : (rule : Corner) (way : Way) (place middle side along passes ahea
     → b ≡ is_set (bit_and ahead passes) place
     → b ≡ (is_set side (next_bit way place)
     && is_passable rule (is_set side place) (is_set middle (next_bit way place)))
-bits_lead rule way place middle side along passes ahead b h more a p n told =
-    told ∙ set_and ahead passes place ∙ rw (n place h more, p place h, a place h more) refl
+bits_lead rule way place middle side along passes ahead b h more a p n known =
+    known ∙ set_and ahead passes place ∙ rw (n place h more, p place h, a place h more) refl
 
 -- three of their bits tell whether a diagonal move is legal
 module _ (g : GridData) (x : Cell) (free : is_free g x ≡ true) (rule : Corner) (same : rule ≡ g.corner)
     (w : ThreeWords)
-    (is : AreNear (by_rows g) (x.y + 1) (x.x + 1) w) where
-  abbrev told_by_bits : ℕ → Dir → Bool
-  told_by_bits place d = is_set (side_word (column_way d) w) (next_bit (row_way d) place)
-      && is_passable rule (is_set (side_word (column_way d) w) place)
-      (is_set w.middle (next_bit (row_way d) place))
+    (is : AreNear (by_line g Row) (x.y + 1) (x.x + 1) w) where
+  abbrev legal_by_bits : ℕ → Dir → Bool
+  legal_by_bits place d = is_set (side_word (way_on Column d) w) (next_bit (way_on Row d) place)
+      && is_passable rule (is_set (side_word (way_on Column d) w) place)
+      (is_set w.middle (next_bit (way_on Row d) place))
 
-  leads_here : (d : Dir) → is_diagonal d ≡ true → HasNextBit (row_way d) ((x.x + 1) % 64) → (b : Bool)
-      → b ≡ told_by_bits ((x.x + 1) % 64) d → b ≡ can_move g x d
-  leads_here NE diagonal more b told =
+  leads_here : (d : Dir) → is_diagonal d ≡ true → HasNextBit (way_on Row d) ((x.x + 1) % 64) → (b : Bool)
+      → b ≡ legal_by_bits ((x.x + 1) % 64) d → b ≡ can_move g x d
+  leads_here NE diagonal more b known =
       leads_by g x NE free diagonal rule same (is_set w.before ((x.x + 1) % 64 + 1))
       (is_set w.before ((x.x + 1) % 64)) (is_set w.middle ((x.x + 1) % 64 + 1)) _ b
       (is.before ((x.x + 1) % 64 + 1) (omega arith)
       ∙ is_open_there g NE x.x x.y _ _ (omega arith) (omega arith))
       (is.before ((x.x + 1) % 64) (omega arith) ∙ is_open_there g N x.x x.y _ _ (omega arith) (omega arith))
       (is.middle ((x.x + 1) % 64 + 1) (omega arith)
-      ∙ is_open_there g E x.x x.y _ _ (omega arith) (omega arith)) refl told
-  leads_here SE diagonal more b told =
+      ∙ is_open_there g E x.x x.y _ _ (omega arith) (omega arith)) refl known
+  leads_here SE diagonal more b known =
       leads_by g x SE free diagonal rule same (is_set w.after ((x.x + 1) % 64 + 1))
       (is_set w.middle ((x.x + 1) % 64 + 1)) (is_set w.after ((x.x + 1) % 64)) _ b
       (is.after ((x.x + 1) % 64 + 1) (omega arith)
@@ -154,16 +155,16 @@ module _ (g : GridData) (x : Cell) (free : is_free g x ≡ true) (rule : Corner)
       (is.middle ((x.x + 1) % 64 + 1) (omega arith)
       ∙ is_open_there g E x.x x.y _ _ (omega arith) (omega arith))
       (is.after ((x.x + 1) % 64) (omega arith) ∙ is_open_there g S x.x x.y _ _ (omega arith) (omega arith))
-      (passable-turned rule (is_set w.after ((x.x + 1) % 64)) (is_set w.middle ((x.x + 1) % 64 + 1))) told
-  leads_here SW diagonal more b told =
+      (passable-turned rule (is_set w.after ((x.x + 1) % 64)) (is_set w.middle ((x.x + 1) % 64 + 1))) known
+  leads_here SW diagonal more b known =
       leads_by g x SW free diagonal rule same (is_set w.after ((x.x + 1) % 64 - 1))
       (is_set w.after ((x.x + 1) % 64)) (is_set w.middle ((x.x + 1) % 64 - 1)) _ b
       (is.after ((x.x + 1) % 64 - 1) (omega arith)
       ∙ is_open_there g SW x.x x.y _ _ (omega arith) (omega arith))
       (is.after ((x.x + 1) % 64) (omega arith) ∙ is_open_there g S x.x x.y _ _ (omega arith) (omega arith))
       (is.middle ((x.x + 1) % 64 - 1) (omega arith)
-      ∙ is_open_there g W x.x x.y _ _ (omega arith) (omega arith)) refl told
-  leads_here NW diagonal more b told =
+      ∙ is_open_there g W x.x x.y _ _ (omega arith) (omega arith)) refl known
+  leads_here NW diagonal more b known =
       leads_by g x NW free diagonal rule same (is_set w.before ((x.x + 1) % 64 - 1))
       (is_set w.middle ((x.x + 1) % 64 - 1)) (is_set w.before ((x.x + 1) % 64)) _ b
       (is.before ((x.x + 1) % 64 - 1) (omega arith)
@@ -171,14 +172,14 @@ module _ (g : GridData) (x : Cell) (free : is_free g x ≡ true) (rule : Corner)
       (is.middle ((x.x + 1) % 64 - 1) (omega arith)
       ∙ is_open_there g W x.x x.y _ _ (omega arith) (omega arith))
       (is.before ((x.x + 1) % 64) (omega arith) ∙ is_open_there g N x.x x.y _ _ (omega arith) (omega arith))
-      (passable-turned rule (is_set w.before ((x.x + 1) % 64)) (is_set w.middle ((x.x + 1) % 64 - 1))) told
-  leads_here N diagonal more b told = absurd (cc)
-  leads_here E diagonal more b told = absurd (cc)
-  leads_here S diagonal more b told = absurd (cc)
-  leads_here W diagonal more b told = absurd (cc)
+      (passable-turned rule (is_set w.before ((x.x + 1) % 64)) (is_set w.middle ((x.x + 1) % 64 - 1))) known
+  leads_here N diagonal more b known = absurd (cc)
+  leads_here E diagonal more b known = absurd (cc)
+  leads_here S diagonal more b known = absurd (cc)
+  leads_here W diagonal more b known = absurd (cc)
 
   pub leads_near : (d : Dir) → is_diagonal d ≡ true → (place : ℕ) → place ≡ (x.x + 1) % 64
-      → HasNextBit (row_way d) place → (b : Bool) → b ≡ told_by_bits place d → b ≡ can_move g x d
-  leads_near d diagonal place same_place more b told =
-      leads_here d diagonal (subst (λ (p : ℕ). HasNextBit (row_way d) p) same_place more) b
-      (told ∙ ap (λ (p : ℕ). told_by_bits p d) same_place)
+      → HasNextBit (way_on Row d) place → (b : Bool) → b ≡ legal_by_bits place d → b ≡ can_move g x d
+  leads_near d diagonal place same_place more b known =
+      leads_here d diagonal (subst (λ (p : ℕ). HasNextBit (way_on Row d) p) same_place more) b
+      (known ∙ ap (λ (p : ℕ). legal_by_bits p d) same_place)

@@ -48,8 +48,8 @@ pub lowest_set : (word : ℕ) → 0 < word → word < 18446744073709551616
     → (count_trailing_zeros 64 word < 64) × (is_set word (count_trailing_zeros 64 word) ≡ true)
     × ((j : ℕ) → j < count_trailing_zeros 64 word → is_set word j ≡ false)
 lowest_set word h k =
-    let told = bit_at-trailing_zeros w64 word h k in
-    (told.0, ap (λ (n : ℕ). nat_eq n 1) told.1, λ j l. ap (λ (n : ℕ). nat_eq n 1) (told.2 j l))
+    let known = bit_at-trailing_zeros w64 word h k in
+    (known.0, ap (λ (n : ℕ). nat_eq n 1) known.1, λ j l. ap (λ (n : ℕ). nat_eq n 1) (known.2 j l))
 
 pub highest_set : (word : ℕ) → 0 < word → word < 18446744073709551616
     → (count_leading_zeros 64 word < 64) × (is_set word (63 - count_leading_zeros 64 word) ≡ true)

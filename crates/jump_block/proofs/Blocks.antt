@@ -38,7 +38,7 @@ pub no_edges : (t : Trail) (way : Way) (from base : ℕ) (w : ThreeWords) → ba
     → AreEdgesOf t way from (near way base) w
 no_edges t way from base w h1 h2 = grind (arith, nat_tests, common_steps)
 
--- a number of moves is told by where they lead
+-- a number of moves is known by where they lead
 short_of : (way : Way) (from place k : ℕ) → Meets way from place (suc k) → moves_short_of way from place ≡ k
 short_of way from place k h1 = grind (arith, nat_tests, common_steps)
 
@@ -67,13 +67,13 @@ module _ (t : Trail) (way : Way) (from base n found : ℕ) (is : IsFound t way f
       → ((j : ℕ) → j < 64 → is_past way j bit ≡ true → is_set found j ≡ false)
       → marked ≡ nat_eq (bit_and (marks / 2 ^ bit) 1) 1
       → Halts rule t (moves_short_of way from (base + bit)) marked
-  found_halt rule marks shown bit marked small set first told =
+  found_halt rule marks shown bit marked small set first known =
       let there = is.past bit small set in
       subst (λ (k : ℕ). Halts rule t k marked) (sym (short_of way from (base + bit) there.0 there.1))
       (record {
         clear = λ m h. by_place there.0 there.1 m h (cases_lt m n);
         here = sym (is.bits bit there.0 small there.1) ∙ set;
-        told = told ∙ ap (λ (b : ℕ). nat_eq b 1) (shr_and_one marks bit) ∙ shown bit there.0 small there.1;
+        shown = known ∙ ap (λ (b : ℕ). nat_eq b 1) (shr_and_one marks bit) ∙ shown bit there.0 small there.1;
       })
     where
       by_place : (k : ℕ) → Meets way from (base + bit) (suc k) → (m : ℕ) → m < k → (m < n) ⊎ (n ≤ m)
@@ -114,17 +114,17 @@ pub found_further : (t : Trail) (way : Way) (from base found : ℕ) (w last : Th
     → IsAhead way from (near way base) → HasPassed t way from (near way base) last
     → TellTrails halts way w last found
     → IsFound t way from base (moves_before way from (near way base)) found
-found_further t way from base found w last are ahead passed told =
+found_further t way from base found w last are ahead passed known =
     grind (arith, nat_tests, common_steps, moves_there, places_there)
 
 pub passed_further : (t : Trail) (way : Way) (from base found : ℕ) (w last : ThreeWords)
     → AreWordsOf t way from base w → IsAhead way from (near way base)
     → HasPassed t way from (near way base) last
     → TellTrails halts way w last found → found ≡ 0 → HasPassed t way from (far way base) w
-passed_further t way from base found w last are ahead passed told none = record {
+passed_further t way from base found w last are ahead passed known none = record {
   edges = edges_of t way from base w are;
   clear = found_none t way from base (moves_before way from (near way base)) found
-      (found_further t way from base found w last are ahead passed told) none;
+      (found_further t way from base found w last are ahead passed known) none;
 }
 
 -- the i-th word of a block
@@ -132,7 +132,7 @@ module _ (t : Trail) (way : Way) (from start i n found : ℕ) (b : Block) (w las
     (block : IsBlockOf t way from start i b) (low : i ≤ n) (high : n < 8)
     (words : w ≡ words_of b (nth_word way n)) (ahead : IsAhead way from (edge_before way start i))
     (passed : HasPassed t way from (edge_before way start n) last)
-    (told : TellTrails halts way w last found) where
+    (known : TellTrails halts way w last found) where
   base : ℕ
   base = start + nth_word way n * 64
 
@@ -148,7 +148,7 @@ module _ (t : Trail) (way : Way) (from start i n found : ℕ) (b : Block) (w las
   pub nth_found : IsFound t way from (start + nth_word way n * 64)
       (moves_before way from (near way (start + nth_word way n * 64))) found
   nth_found = found_further t way from (start + nth_word way n * 64) found w last are ahead_here
-      passed_here told
+      passed_here known
 
   pub nth_marks : (rule : Corner) (marks : ℕ) → TellTrails (shows_mark rule) way w last marks
       → TellMoves (shows_mark rule t) way from (start + nth_word way n * 64) marks
@@ -157,7 +157,7 @@ module _ (t : Trail) (way : Way) (from start i n found : ℕ) (b : Block) (w las
   pub nth_passed : found ≡ 0 → HasPassed t way from (edge_before way start (n + 1)) w
   nth_passed none = rw (← ends way start n high)
       (passed_further t way from (start + nth_word way n * 64) found w last are ahead_here passed_here
-      told none)
+      known none)
 
 -- a side that is as it was before does not open
 steady : (a b c : Bool) → a ≡ c → b ≡ c → false ≡ (not a && b)
@@ -234,7 +234,7 @@ own_later way r side from base word later here j k h m = grind (arith, nat_tests
 -- the word in which a scan starts
 module _ (t : Trail) (rule : Corner) (way : Way) (base place found halting over : ℕ) (words last : ThreeWords)
     (low : place < 64) (are : AreWordsOf (begun rule t) way (base + place) base words)
-    (told : TellTrails halts way words last halting)
+    (known : TellTrails halts way words last halting)
     (masked : (j : ℕ) → j < 64 → is_set over j ≡ is_past way place j)
     (found_is : found ≡ bit_and halting over) where
   set_there : (j : ℕ) → j < 64 → is_set found j ≡ (is_set halting j && is_past way place j)
@@ -266,7 +266,7 @@ module _ (t : Trail) (rule : Corner) (way : Way) (base place found halting over 
   word_found = record {
     clear = λ k h. absurd (omega arith);
     bits = λ j k h m. set_there j h ∙ and_true _ _ (all_past way base j k m)
-        ∙ told (begun rule t) (base + place) base are
+        ∙ known (begun rule t) (base + place) base are
         (no_edges (begun rule t) way (base + place) base last (omega arith) (omega arith)) j k h m;
     past = λ j h set. moves_past way base j (and_second _ _ (sym (set_there j h) ∙ set));
     here = λ k l h. places_past way base k h;

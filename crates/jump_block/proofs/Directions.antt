@@ -1,6 +1,6 @@
 -- Scans on a grid, in each straight direction.
 use Rattle.std.proofs.lemmas.Grind.{common_steps}
-use Rattle.std.proofs.Common.{◌≡◌, ℕ, suc, ◌+◌, ◌-◌, ◌<◌, ◌≤◌, arith, Bool, true, false, ◌||◌}
+use Rattle.std.proofs.Common.{◌≡◌, ℕ, suc, ◌+◌, ◌<◌, ◌≤◌, arith, Bool, true, false, ◌||◌}
 use Rattle.std.proofs.Common.{refl, ap, sym, ◌∙◌, subst}
 use Rattle.std.specs.Prelude.{Option, Some, is_some, nat_eq, if◌then◌else◌}
 use Rattle.std.proofs.lemmas.Bool.Decides.{nat_tests}
@@ -8,24 +8,29 @@ use Rattle.grid_moves.specs.declared.Cell.{Cell}
 use Rattle.grid_moves.specs.declared.Corner.{Corner}
 use Rattle.grid_moves.specs.declared.Dir.{Dir}
 use Rattle.grid_moves.specs.declared.Dir.TheVariants.{N, NE, E, SE, S, SW, W, NW}
-use Rattle.grid_moves.specs.Grid.{GridData, IsGrid, is_free, is_inside}
+use Rattle.grid_moves.specs.Grid.{GridData, is_free, is_inside}
 use Rattle.grid_moves.specs.Move.{ahead, is_open, may_cut}
 use Rattle.grid_moves.proofs.Legal.{free_inside}
-use Rattle.bit_grid.specs.Bits.{LineData, is_free_from_one, AreRowsOf, AreColumnsOf}
+use Rattle.bit_grid.specs.Bits.{is_free_from_one}
+use Rattle.pruning.specs.declared.turns.Side.{Side}
 use Rattle.pruning.specs.declared.turns.Side.TheVariants.{Right, Left}
-use Rattle.pruning.specs.First.{first_stop}
 use Rattle.pruning.specs.Turns.{is_diagonal, quarter, turn}
 use Rattle.jump_plain.specs.declared.beside.Sides.{Sides}
 use Rattle.jump_plain.specs.Reach.{moves_to, reach_of, stop_of}
 use Rattle.jump_plain.proofs.Straight.{straight_stop}
-use Rattle.jump_block.proofs.Runs.{IsTold, told_by_ray}
+use Rattle.jump_block.proofs.Runs.{FindsStop, ray_finds}
 use Rattle.jump_block.specs.declared.block.Halt.{Halt}
+use Rattle.jump_block.specs.declared.straight.Start.{Start}
+use Rattle.jump_block.specs.declared.straight.Axis.{Axis}
+use Rattle.jump_block.specs.declared.straight.Axis.TheVariants.{Row, Column}
+use Rattle.jump_block.specs.declared.straight.Bits.{Bits}
 use Rattle.jump_block.specs.declared.word.Way.{Way}
-use Rattle.jump_block.specs.Trail.{Trail, at_start, begun, opens, opens_beside, trail_on}
-use Rattle.jump_block.specs.Scan.{IsStart, MeetsFrom, MeetsMark, looked, most_lanes}
+use Rattle.jump_block.specs.declared.word.Way.TheVariants.{Forward, Back}
+use Rattle.jump_block.specs.Trail.{Trail, along, at_start, begun, opens, opens_beside, trail_on}
+use Rattle.jump_block.specs.Scan.{Finds, FindsFrom, IsStart, MeetsFrom, MeetsMark, looked, most_lanes}
 use Rattle.jump_block.specs.Source as block
-use Rattle.jump_block.specs.Source.{by_rows, by_columns, trail_of, row_dir, column_dir, row_way, column_way}
-use Rattle.jump_block.specs.Source.{StopsAt, StopsFrom, scanned}
+use Rattle.jump_block.specs.Source.{AreItsBits, by_line, dir_on, line_of, lines_on, part_on, place_of, scanned}
+use Rattle.jump_block.specs.Source.{FindsAside, Stops, StopsAside, StopsAt, StopsFrom, start_of, trail_of}
 
 abbrev pub cell : ℕ → ℕ → Cell
 cell x y = record { x = x; y = y }
@@ -84,36 +89,39 @@ beyond_columns g x y h1 = grind (arith, nat_tests, common_steps, outside)
 beyond_rows : (g : GridData) (x y : ℕ) → g.height < y → is_free_from_one g x y ≡ false
 beyond_rows g x y h1 = grind (arith, nat_tests, common_steps, outside)
 
-module _ (g : GridData) (x : Cell) (free : is_free g x ≡ true) where
-  in_column : x.x < g.width
-  in_column = let inside = free_inside g x free in grind (arith, nat_tests)
-
-  in_row : x.y < g.height
-  in_row = let inside = free_inside g x free in grind (arith, nat_tests)
-
-  pub row_start : (l : LineData) → AreRowsOf l g → IsStart l (by_rows g) (x.y + 1) (x.x + 1)
-  row_start l rows = record {
-    count = g.height;
-    positions = g.width;
-    shows = rows;
-    below = omega arith;
-    above = let row = in_row in omega arith;
-    starts = free_from_one g x.x x.y (x.x + 1) (x.y + 1) refl refl ∙ free;
-    first = refl;
-    beyond = λ p h. beyond_columns g p (x.y + 1) h;
-  }
-
-  pub column_start : (l : LineData) → AreColumnsOf l g → IsStart l (by_columns g) (x.x + 1) (x.y + 1)
-  column_start l columns = record {
-    count = g.width;
-    positions = g.height;
-    shows = columns;
-    below = omega arith;
-    above = let column = in_column in omega arith;
-    starts = free_from_one g x.x x.y (x.x + 1) (x.y + 1) refl refl ∙ free;
-    first = border_column g (x.x + 1);
-    beyond = λ p h. beyond_rows g (x.x + 1) p h;
-  }
+-- a scan may start at a free cell, along its row and along its column
+module _ (b : Bits) (g : GridData) (x : Cell) (are : AreItsBits b g) (free : is_free g x ≡ true) where
+  pub start_on : (axis : Axis) → IsStart (lines_on b axis).now (by_line g axis) (line_of axis x) (place_of axis x)
+  start_on Row =
+      let inside = free_inside g x free in
+      let s = are.whole.sides in
+      record {
+        count = g.height;
+        positions = g.width;
+        shows = are.are_rows;
+        below = omega arith;
+        above = grind (arith, nat_tests);
+        starts = free_from_one g x.x x.y (x.x + 1) (x.y + 1) refl refl ∙ free;
+        first = refl;
+        beyond = λ p h. beyond_columns g p (x.y + 1) h;
+        few = let lines = are.are_rows.bordered in omega arith;
+        short = let blocks = are.are_rows.tight in omega arith;
+      }
+  start_on Column =
+      let inside = free_inside g x free in
+      let s = are.whole.sides in
+      record {
+        count = g.width;
+        positions = g.height;
+        shows = are.are_columns;
+        below = omega arith;
+        above = grind (arith, nat_tests);
+        starts = free_from_one g x.x x.y (x.x + 1) (x.y + 1) refl refl ∙ free;
+        first = border_column g (x.x + 1);
+        beyond = λ p h. beyond_rows g (x.x + 1) p h;
+        few = let lines = are.are_columns.bordered in omega arith;
+        short = let blocks = are.are_columns.tight in omega arith;
+      }
 
 same_sides : (a b c d : Bool) → a ≡ c → b ≡ d
     → (let s : Sides = record { right = a; left = b } in s)
@@ -126,243 +134,132 @@ begins_with : (b : Bool) (a c p q : Bool) → a ≡ p → c ≡ q
     ≡ (if b then record { right = true; left = true } else record { right = p; left = q })
 begins_with b a c p q h1 h2 = grind (arith, nat_tests, common_steps, same_sides)
 
-other_side : (a b : Bool) → (a || b) ≡ (b || a)
-other_side a b = grind arith
-
 -- a side of a cell
 module _ (g : GridData) (d : Dir) (x y p q : ℕ) where
   pub is_open_there : p ≡ column_from_one d x → q ≡ row_from_one d y
       → is_free_from_one g p q ≡ is_open g (cell x y) d
   is_open_there e f = same_from_one g p q _ _ e f ∙ sym (open_from_one g d x y)
 
--- the cell ahead, where it is open
-west_ahead : (g : GridData) (n m y : ℕ) → m ≡ n - 1 → is_open g (cell n y) W ≡ true
-    → ahead W (cell n y) ≡ Some (cell m y)
-west_ahead g n m y h1 h2 = grind (arith, nat_tests, common_steps)
+-- along a line: the cells, and what lies to their right and left
+abbrev cell_on : Axis → Way → Cell → ℕ → Cell
+cell_on Row way x k = cell (along way x.x k) x.y
+cell_on Column way x k = cell x.x (along way x.y k)
 
-north_ahead : (g : GridData) (x n m : ℕ) → m ≡ n - 1 → is_open g (cell x n) N ≡ true
-    → ahead N (cell x n) ≡ Some (cell x m)
-north_ahead g x n m h1 h2 = grind (arith, nat_tests, common_steps)
+abbrev side_of : Side → Axis → Way → Trail → ℕ → Bool
+side_of Right Row Forward t = t.after
+side_of Right Row Back t = t.before
+side_of Right Column Forward t = t.before
+side_of Right Column Back t = t.after
+side_of Left Row Forward t = t.before
+side_of Left Row Back t = t.after
+side_of Left Column Forward t = t.after
+side_of Left Column Back t = t.before
 
--- a straight run along a line: where its cells stand, and what lies to their right and left
-module _ (g : GridData) (x : Cell) (d : Dir) (straight : is_diagonal d ≡ false) (free : is_free g x ≡ true)
-    (whole : IsGrid g) (place : ℕ → Cell) (t : Trail) (right left : ℕ → Bool) (starts : place 0 ≡ x)
-    (open_is : (k : ℕ) → t.free (suc k) ≡ is_open g (place k) d)
-    (goes : (k : ℕ) → is_open g (place k) d ≡ true → ahead d (place k) ≡ Some (place (suc k)))
-    (right_begins : right 0 ≡ is_open g x (quarter Right d))
-    (left_begins : left 0 ≡ is_open g x (quarter Left d))
-    (right_is : (k : ℕ) → right (suc k) ≡ is_open g (place k) (turn Right d))
-    (left_is : (k : ℕ) → left (suc k) ≡ is_open g (place k) (turn Left d))
-    (alike : (k : ℕ) → opens_beside (begun g.corner t) k
-    ≡ (opens (at_start g.corner right) k || opens (at_start g.corner left) k)) where
-  abbrev sides_at : ℕ → Sides
-  sides_at k = record { right = at_start g.corner right k; left = at_start g.corner left k }
+module _ (g : GridData) (x y : ℕ) (axis : Axis) (way : Way) where
+  stands_at : cell_on axis way (cell x y) 0 ≡ cell x y
+  stands_at = grind (arith, nat_tests, common_steps)
 
-  told_line : IsTold g x d g.corner (begun g.corner t)
-  told_line = told_by_ray g x d straight free whole place t.free sides_at (record {
-    starts = starts;
-    begins = begins_with (may_cut g.corner) (right 0) (left 0) _ _ right_begins left_begins;
-    open_is = λ k. sym (open_is k);
-    goes = goes;
-    sides_are = λ k. same_sides _ _ _ _ (right_is k) (left_is k);
-  }) (begun g.corner t) alike (λ k. refl)
+  goes : (k : ℕ) → is_open g (cell_on axis way (cell x y) k) (dir_on axis way) ≡ true
+      → ahead (dir_on axis way) (cell_on axis way (cell x y) k) ≡ Some (cell_on axis way (cell x y) (suc k))
+  goes k h = grind (arith, nat_tests, common_steps)
 
-module _ (g : GridData) (x : Cell) (free : is_free g x ≡ true) (whole : IsGrid g) where
-  told_east : IsTold g x E g.corner (begun g.corner (trail_of g E x))
-  told_east = told_line g x E refl free whole (λ k. cell (x.x + k) x.y) (trail_of g E x)
-      (trail_of g E x).after (trail_of g E x).before (ap (λ (n : ℕ). cell n x.y) (omega arith))
-      (λ k. is_open_there g E (x.x + k) x.y _ _ (omega arith) (omega arith))
-      (λ k h. let next : x.x + k + 1 ≡ x.x + suc k = omega arith in ap (λ (n : ℕ). Some (cell n x.y)) next)
-      (is_open_there g S x.x x.y _ _ (omega arith) (omega arith))
-      (is_open_there g N x.x x.y _ _ (omega arith) (omega arith))
-      (λ k. is_open_there g SE (x.x + k) x.y _ _ (omega arith) (omega arith))
-      (λ k. is_open_there g NE (x.x + k) x.y _ _ (omega arith) (omega arith))
-      (λ k. other_side (opens (begun g.corner (trail_of g E x)).before k)
-      (opens (begun g.corner (trail_of g E x)).after k))
+  open_is : (k : ℕ) → is_open g (cell_on axis way (cell x y) k) (dir_on axis way)
+      ≡ (trail_of g axis way (cell x y)).free (suc k)
+  open_is k = grind (arith, nat_tests, common_steps, is_open_there)
 
-  told_west : IsTold g x W g.corner (begun g.corner (trail_of g W x))
-  told_west = told_line g x W refl free whole (λ k. cell (x.x - k) x.y) (trail_of g W x)
-      (trail_of g W x).before (trail_of g W x).after (ap (λ (n : ℕ). cell n x.y) (omega arith))
-      (λ k. is_open_there g W (x.x - k) x.y _ _ (omega arith) (omega arith))
-      (λ k h. west_ahead g (x.x - k) (x.x - suc k) x.y (omega arith) h)
-      (is_open_there g N x.x x.y _ _ (omega arith) (omega arith))
-      (is_open_there g S x.x x.y _ _ (omega arith) (omega arith))
-      (λ k. is_open_there g NW (x.x - k) x.y _ _ (omega arith) (omega arith))
-      (λ k. is_open_there g SW (x.x - k) x.y _ _ (omega arith) (omega arith)) (λ k. refl)
+  side_begins : (s : Side) → side_of s axis way (trail_of g axis way (cell x y)) 0
+      ≡ is_open g (cell x y) (quarter s (dir_on axis way))
+  side_begins s = grind (arith, nat_tests, common_steps, is_open_there)
 
-  told_south : IsTold g x S g.corner (begun g.corner (trail_of g S x))
-  told_south = told_line g x S refl free whole (λ k. cell x.x (x.y + k)) (trail_of g S x)
-      (trail_of g S x).before (trail_of g S x).after (ap (λ (n : ℕ). cell x.x n) (omega arith))
-      (λ k. is_open_there g S x.x (x.y + k) _ _ (omega arith) (omega arith))
-      (λ k h. let next : x.y + k + 1 ≡ x.y + suc k = omega arith in ap (λ (n : ℕ). Some (cell x.x n)) next)
-      (is_open_there g W x.x x.y _ _ (omega arith) (omega arith))
-      (is_open_there g E x.x x.y _ _ (omega arith) (omega arith))
-      (λ k. is_open_there g SW x.x (x.y + k) _ _ (omega arith) (omega arith))
-      (λ k. is_open_there g SE x.x (x.y + k) _ _ (omega arith) (omega arith)) (λ k. refl)
+  side_is : (s : Side) (k : ℕ) → side_of s axis way (trail_of g axis way (cell x y)) (suc k)
+      ≡ is_open g (cell_on axis way (cell x y) k) (turn s (dir_on axis way))
+  side_is s k = grind (arith, nat_tests, common_steps, is_open_there)
 
-  told_north : IsTold g x N g.corner (begun g.corner (trail_of g N x))
-  told_north = told_line g x N refl free whole (λ k. cell x.x (x.y - k)) (trail_of g N x)
-      (trail_of g N x).after (trail_of g N x).before (ap (λ (n : ℕ). cell x.x n) (omega arith))
-      (λ k. is_open_there g N x.x (x.y - k) _ _ (omega arith) (omega arith))
-      (λ k h. north_ahead g x.x (x.y - k) (x.y - suc k) (omega arith) h)
-      (is_open_there g E x.x x.y _ _ (omega arith) (omega arith))
-      (is_open_there g W x.x x.y _ _ (omega arith) (omega arith))
-      (λ k. is_open_there g NE x.x (x.y - k) _ _ (omega arith) (omega arith))
-      (λ k. is_open_there g NW x.x (x.y - k) _ _ (omega arith) (omega arith))
-      (λ k. other_side (opens (begun g.corner (trail_of g N x)).before k)
-      (opens (begun g.corner (trail_of g N x)).after k))
+alike : (axis : Axis) (way : Way) (rule : Corner) (t : Trail) (k : ℕ) → opens_beside (begun rule t) k
+    ≡ (opens (at_start rule (side_of Right axis way t)) k || opens (at_start rule (side_of Left axis way t)) k)
+alike axis way rule t k = grind arith
 
--- a line and a place on it, counted from 1, by equal numbers
-pub one_on : (P : ℕ → ℕ → Type 0) {x y u v : ℕ} → x ≡ u → y ≡ v → P (x + 1) (y + 1) → P (u + 1) (v + 1)
-one_on P {x} {y} {u} {v} e f p =
-    subst (λ (n : ℕ). P (u + 1) (n + 1)) f (subst (λ (n : ℕ). P (n + 1) (y + 1)) e p)
+straight_on : (axis : Axis) (way : Way) → is_diagonal (dir_on axis way) ≡ false
+straight_on axis way = grind (arith, nat_tests, common_steps)
 
-told_by_dir : (g : GridData) (x : Cell) (d : Dir) → is_diagonal d ≡ false → is_free g x ≡ true → IsGrid g
-    → IsTold g x d g.corner (begun g.corner (trail_of g d x))
-told_by_dir g x N h f whole = told_north g x f whole
-told_by_dir g x E h f whole = told_east g x f whole
-told_by_dir g x S h f whole = told_south g x f whole
-told_by_dir g x W h f whole = told_west g x f whole
-told_by_dir g x NE h f whole = absurd (cc)
-told_by_dir g x SE h f whole = absurd (cc)
-told_by_dir g x SW h f whole = absurd (cc)
-told_by_dir g x NW h f whole = absurd (cc)
+line_finds : (g : GridData) (x : Cell) (axis : Axis) (way : Way) → is_free g x ≡ true
+    → FindsStop g x (dir_on axis way) g.corner (begun g.corner (trail_of g axis way x))
+line_finds g x axis way free =
+    let t = trail_of g axis way x in
+    ray_finds g x (dir_on axis way) (straight_on axis way) free (cell_on axis way x) t.free
+    (λ k. record {
+      right = at_start g.corner (side_of Right axis way t) k;
+      left = at_start g.corner (side_of Left axis way t) k;
+    })
+    (record {
+      starts = stands_at g x.x x.y axis way;
+      begins = begins_with (may_cut g.corner) _ _ _ _ (side_begins g x.x x.y axis way Right)
+          (side_begins g x.x x.y axis way Left);
+      open_is = open_is g x.x x.y axis way;
+      goes = goes g x.x x.y axis way;
+      sides_are = λ k. same_sides _ _ _ _ (side_is g x.x x.y axis way Right k) (side_is g x.x x.y axis way Left k);
+    })
+    (begun g.corner t) (alike axis way g.corner t) (λ k. refl)
 
--- what a scan in a straight direction tells
-pub told_on : (g : GridData) (x : Cell) (d : Dir) (rule : Corner) → is_diagonal d ≡ false → rule ≡ g.corner
-    → is_free g x ≡ true → IsGrid g → IsTold g x d rule (begun rule (trail_of g d x))
-told_on g x d rule h r f whole = subst (λ (c : Corner). IsTold g x d c (begun c (trail_of g d x))) (sym r)
-    (told_by_dir g x d h f whole)
+-- what a scan finds tells where a straight jump stops
+module _ (b : Bits) (g : GridData) (x : Cell) (are : AreItsBits b g) (free : is_free g x ≡ true)
+    (axis : Axis) (way : Way) (s : Start) (stands : s ≡ start_of b axis x) (rule : Corner)
+    (same : rule ≡ b.corner) where
+  -- at the start, known by the line
+  on_line : (P : Trail → Type 0)
+      → ((free : ℕ → ℕ → Bool) → IsStart s.lines.now free s.line s.place → P (trail_on free way s.line s.place))
+      → P (trail_of g axis way x)
+  on_line P known = subst (λ (t : Start). (free : ℕ → ℕ → Bool) → IsStart t.lines.now free t.line t.place
+      → P (trail_on free way t.line t.place)) stands known (by_line g axis) (start_on b g x are free axis)
 
--- and where the goal is not ahead, whether it meets a mark, and how many cells are looked at
-pub mark_on : (g : GridData) (x : Cell) (d : Dir) (rule : Corner) → is_diagonal d ≡ false → rule ≡ g.corner
-    → is_free g x ≡ true → IsGrid g → (goal : Cell) → moves_to d x goal ≡ 0 → (old new : ℕ) (marked : Bool)
-    → MeetsMark rule (begun rule (trail_of g d x)) old new marked
-    → (marked ≡ is_some (first_stop g goal x d))
-    × (new ≤ old + most_lanes (scanned g x d (first_stop g goal x d)))
-mark_on g x d rule h r f whole goal off old new marked met = (
-  shown marked ∙ ap (λ (o : Option ℕ). is_some o) stop,
-  subst (λ (o : Option ℕ). new ≤ old + most_lanes (scanned g x d o)) stop (omega (arith, within, few)),
-)
-  where
-    found : Option Halt
-    found = Some (record { passed = met.0; marked = marked })
+  finds_stop : FindsStop g x (dir_on axis way) rule (begun rule (trail_of g axis way x))
+  finds_stop = subst (λ (c : Corner). FindsStop g x (dir_on axis way) c (begun c (trail_of g axis way x)))
+      (sym (same ∙ are.rule)) (line_finds g x axis way free)
 
-    stop : block.stop_of rule found 0 ≡ first_stop g goal x d
-    stop = (told_on g x d rule h r f whole 0 found met.1).0
-        ∙ ap (λ (n : ℕ). stop_of (reach_of g x d) n) (sym off) ∙ sym (straight_stop g goal x d h)
+  stops : (goal : Cell) (to_goal old new : ℕ) (found : Option Halt) (stop : Option ℕ)
+      → to_goal ≡ moves_to (dir_on axis way) x goal
+      → Finds rule (begun rule (trail_of g axis way x)) to_goal found → stop ≡ block.stop_of rule found to_goal
+      → new ≤ old + most_lanes (looked to_goal found) → Stops g goal x (dir_on axis way) old new stop
+  stops goal to_goal old new found stop e is its most =
+      let known = finds_stop to_goal found is in (
+        its ∙ known.0 ∙ ap (λ (n : ℕ). stop_of (reach_of g x (dir_on axis way)) n) e
+            ∙ sym (straight_stop g goal x (dir_on axis way) (straight_on axis way)),
+        subst (λ (o : Option ℕ). new ≤ old + most_lanes (scanned g x (dir_on axis way) o)) (sym its)
+            (let within = known.1 in omega (arith, within, most)),
+      )
 
-    within : met.0 ≤ scanned g x d (block.stop_of rule found 0)
-    within = (told_on g x d rule h r f whole 0 found met.1).2
+  pub straight_stops : (goal : Cell) (to_goal same_moves old new : ℕ) (found : Option Halt) (stop : Option ℕ)
+      → to_goal ≡ moves_to (dir_on axis way) x goal → same_moves ≡ to_goal
+      → FindsFrom s.lines.now rule way same_moves s.line s.place found → stop ≡ block.stop_of rule found to_goal
+      → new ≤ old + most_lanes (looked same_moves found) → Stops g goal x (dir_on axis way) old new stop
+  straight_stops goal to_goal same_moves old new found stop e f is its most =
+      stops goal to_goal old new found stop e
+      (subst (λ (n : ℕ). Finds rule (begun rule (trail_of g axis way x)) n found) f
+      (on_line (λ t. Finds rule (begun rule t) same_moves found) is)) its
+      (subst (λ (n : ℕ). new ≤ old + most_lanes (looked n found)) f most)
 
-    few : new ≤ old + most_lanes met.0
-    few = met.2
+  pub stops_aside : (old new : ℕ) (stop : Option ℕ) → StopsFrom s.lines.now rule way s.line s.place old new stop
+      → StopsAside g x (dir_on axis way) old new stop
+  stops_aside old new stop its goal off =
+      let at = on_line (λ t. StopsAt rule (begun rule t) old new stop) its in
+      stops goal 0 old new at.0 stop (sym off) at.1 at.2 at.3
 
-    shown : (b : Bool)
-        → b ≡ is_some (block.stop_of rule (Some (record { passed = met.0; marked = b })) 0)
-    shown b = grind (arith, nat_tests, common_steps)
+  pub finds_aside : (old new : ℕ) (marked : Bool)
+      → MeetsFrom s.lines.now rule way s.line s.place old new marked
+      → FindsAside g x (dir_on axis way) old new marked
+  finds_aside old new marked its goal off =
+      let met = on_line (λ t. MeetsMark rule (begun rule t) old new marked) its in
+      let found : Option Halt = Some (record { passed = met.0; marked = marked }) in (
+        block.stop_of rule found 0,
+        stops goal 0 old new found _ (sym off) met.1 refl met.2,
+        shown met.0 marked,
+      )
+    where
+      shown : (passed : ℕ) (b : Bool)
+          → b ≡ is_some (block.stop_of rule (Some (record { passed = passed; marked = b })) 0)
+      shown passed b = grind (arith, nat_tests, common_steps)
 
--- or where it stops
-pub stop_on : (g : GridData) (x : Cell) (d : Dir) (rule : Corner) → is_diagonal d ≡ false → rule ≡ g.corner
-    → is_free g x ≡ true → IsGrid g → (old new : ℕ) (stop : Option ℕ)
-    → StopsAt rule (begun rule (trail_of g d x)) old new stop
-    → ((goal : Cell) → moves_to d x goal ≡ 0 → stop ≡ first_stop g goal x d)
-    × (new ≤ old + most_lanes (scanned g x d stop))
-stop_on g x d rule h r f whole old new stop its = (
-  λ goal off. its.2 ∙ told.0 ∙ ap (λ (n : ℕ). stop_of (reach_of g x d) n) (sym off)
-      ∙ sym (straight_stop g goal x d h),
-  subst (λ (o : Option ℕ). new ≤ old + most_lanes (scanned g x d o)) (sym its.2)
-      (let within = told.2 in let few = its.3 in omega (arith, within, few)),
-)
-  where
-    told : (block.stop_of rule its.0 0 ≡ stop_of (reach_of g x d) 0) × block.HasFew its.0
-        × (looked 0 its.0 ≤ scanned g x d (block.stop_of rule its.0 0))
-    told = told_on g x d rule h r f whole 0 its.0 its.1
-
--- the trail by its row or its column
-pub row_trail : (g : GridData) (way : Way) (x : Cell)
-    → trail_of g (row_dir way) x ≡ trail_on (by_rows g) way (x.y + 1) (x.x + 1)
-row_trail g way x = grind (arith, nat_tests, common_steps)
-
-pub column_trail : (g : GridData) (way : Way) (x : Cell)
-    → trail_of g (column_dir way) x ≡ trail_on (by_columns g) way (x.x + 1) (x.y + 1)
-column_trail g way x = grind (arith, nat_tests, common_steps)
-
--- what a scan from a cell meets along its row or its column
-pub row_met : (g : GridData) (way : Way) (x : Cell) (rule : Corner) (l : LineData) → is_free g x ≡ true
-    → AreRowsOf l g → (old new : ℕ) (marked : Bool)
-    → MeetsFrom l rule way (x.y + 1) (x.x + 1) old new marked
-    → MeetsMark rule (begun rule (trail_of g (row_dir way) x)) old new marked
-row_met g way x rule l free are old new marked met =
-    subst (λ (t : Trail). MeetsMark rule (begun rule t) old new marked) (sym (row_trail g way x))
-    (met (by_rows g) (row_start g x free l are))
-
-pub column_met : (g : GridData) (way : Way) (x : Cell) (rule : Corner) (l : LineData) → is_free g x ≡ true
-    → AreColumnsOf l g → (old new : ℕ) (marked : Bool)
-    → MeetsFrom l rule way (x.x + 1) (x.y + 1) old new marked
-    → MeetsMark rule (begun rule (trail_of g (column_dir way) x)) old new marked
-column_met g way x rule l free are old new marked met =
-    subst (λ (t : Trail). MeetsMark rule (begun rule t) old new marked) (sym (column_trail g way x))
-    (met (by_columns g) (column_start g x free l are))
-
-pub row_straight : (way : Way) → is_diagonal (row_dir way) ≡ false
-row_straight way = grind (arith, nat_tests, common_steps)
-
-pub column_straight : (way : Way) → is_diagonal (column_dir way) ≡ false
-column_straight way = grind (arith, nat_tests, common_steps)
-
--- and where a jump stops
-pub row_stop : (g : GridData) (way : Way) (x : Cell) (rule : Corner) (l : LineData) → rule ≡ g.corner
-    → is_free g x ≡ true → IsGrid g → AreRowsOf l g → (old new : ℕ) (stop : Option ℕ)
-    → StopsFrom l rule way (x.y + 1) (x.x + 1) old new stop
-    → ((goal : Cell) → moves_to (row_dir way) x goal ≡ 0 → stop ≡ first_stop g goal x (row_dir way))
-    × (new ≤ old + most_lanes (scanned g x (row_dir way) stop))
-row_stop g way x rule l r f whole are old new stop its =
-    stop_on g x (row_dir way) rule (row_straight way) r f whole old new stop
-    (subst (λ (t : Trail). StopsAt rule (begun rule t) old new stop) (sym (row_trail g way x))
-    (its (by_rows g) (row_start g x f l are)))
-
-pub column_stop : (g : GridData) (way : Way) (x : Cell) (rule : Corner) (l : LineData) → rule ≡ g.corner
-    → is_free g x ≡ true → IsGrid g → AreColumnsOf l g → (old new : ℕ) (stop : Option ℕ)
-    → StopsFrom l rule way (x.x + 1) (x.y + 1) old new stop
-    → ((goal : Cell) → moves_to (column_dir way) x goal ≡ 0 → stop ≡ first_stop g goal x (column_dir way))
-    × (new ≤ old + most_lanes (scanned g x (column_dir way) stop))
-column_stop g way x rule l r f whole are old new stop its =
-    stop_on g x (column_dir way) rule (column_straight way) r f whole old new stop
-    (subst (λ (t : Trail). StopsAt rule (begun rule t) old new stop) (sym (column_trail g way x))
-    (its (by_columns g) (column_start g x f l are)))
-
--- a scan over more moves reads no fewer blocks
-pub more_lanes : (m n : ℕ) → m ≤ n → most_lanes m ≤ most_lanes n
-more_lanes m n h = omega arith
-
--- a cell that is not on the line is not ahead on it
-pub off_row : (way : Way) (u v : Cell) → nat_eq u.y v.y ≡ false → moves_to (row_dir way) u v ≡ 0
-off_row way u v h1 = grind (arith, nat_tests, common_steps)
-
-pub off_column : (way : Way) (u v : Cell) → nat_eq u.x v.x ≡ false → moves_to (column_dir way) u v ≡ 0
-off_column way u v h1 = grind (arith, nat_tests, common_steps)
-
-swap : (x a b : Bool) → (x || a || b) ≡ (x || b || a)
-swap x a b = grind arith
-
--- the straight parts of a diagonal
-pub parts : (P : Dir → Bool) (d : Dir) → is_diagonal d ≡ true → (x a b : Bool) → a ≡ P (row_dir (row_way d))
-    → b ≡ P (column_dir (column_way d)) → (x || a || b) ≡ (x || P (turn Right d) || P (turn Left d))
-parts P d h1 x a b h2 h3 = grind (arith, nat_tests, common_steps, swap)
-
--- a grid's bits are few lines of few blocks
-pub rows_small : (g : GridData) (l : LineData) → IsGrid g → AreRowsOf l g → (l.lines < 65536) × (l.blocks ≤ 128)
-rows_small g l whole are =
-    let s = whole.sides in
-    let b = are.bordered in
-    let t = are.tight in
-    (omega arith, omega arith)
-
-pub columns_small : (g : GridData) (l : LineData) → IsGrid g → AreColumnsOf l g
-    → (l.lines < 65536) × (l.blocks ≤ 128)
-columns_small g l whole are =
-    let s = whole.sides in
-    let b = are.bordered in
-    let t = are.tight in
-    (omega arith, omega arith)
+-- a goal in another row and another column is not ahead
+pub off_both : (axis : Axis) (way : Way) (u v : Cell) → (nat_eq u.x v.x || nat_eq u.y v.y) ≡ false
+    → moves_to (dir_on axis way) u v ≡ 0
+off_both axis way u v h1 = grind (arith, nat_tests, common_steps)

@@ -14,7 +14,7 @@ use Rattle.std.proofs.lemmas.Simd.{length-chunk, Each1-get_or}
 use Rattle.bit_grid.specs.Bits.{is_set}
 use Rattle.jump_block.specs.Eight.{HasNone, IsAllAs}
 
--- eight lanes, each told by its number
+-- eight lanes, each known by its number
 pub record AreLanes (xs : List ℕ) (f : ℕ → ℕ) : Type 0 where
   pub long : length xs ≡ 8
   pub each : (w : ℕ) → w < 8 → slice_index_or xs w 0 ≡ f w

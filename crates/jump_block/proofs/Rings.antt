@@ -1,4 +1,4 @@
--- The cells around a cell, told by bits of three rows.
+-- The cells around a cell, read from bits of three rows.
 use Rattle.std.proofs.lemmas.Bool.Decides.{nat_tests}
 use Rattle.std.proofs.lemmas.Grind.{common_steps}
 use Rattle.std.proofs.Common.{◌≡◌, ℕ, zero, suc, ◌+◌, ◌*◌, ◌/◌, ◌%◌, ◌^◌, ◌<◌, arith, Bool, true, ◌&&◌, ap}
@@ -19,7 +19,8 @@ use Rattle.pruning.specs.Allowed.{can_move}
 use Rattle.pruning.specs.Eight.{has_bit, ring_of}
 use Rattle.pruning.proofs.Moves.{can_move-diagonal}
 use Rattle.jump_block.specs.Near.{AreThree}
-use Rattle.jump_block.specs.Source.{by_rows}
+use Rattle.jump_block.specs.declared.straight.Axis.TheVariants.{Row}
+use Rattle.jump_block.specs.Source.{by_line}
 use Rattle.jump_block.proofs.Directions.{is_open_there}
 
 pub set_from : (word place j : ℕ) → is_set (word / 2 ^ place) j ≡ is_set word (place + j)
@@ -53,69 +54,33 @@ three_at f line first line' first' word e h three = grind (arith, nat_tests, com
 -- the eight bits that are taken from three words
 module _ (above middle below eight : ℕ)
     (is : eight ≡ above % 8 + middle % 2 * 8 + middle / 4 % 2 * 16 + below % 8 * 32) where
-  above_at_0 : has_bit eight 1 ≡ is_set above 0
-  above_at_0 =
-      let same : eight / 1 % 2 ≡ above / 1 % 2 = omega (arith, is) in
-      ap (λ (n : ℕ). nat_eq n 1) same
-
-  above_at_1 : has_bit eight 2 ≡ is_set above 1
-  above_at_1 =
-      let same : eight / 2 % 2 ≡ above / 2 % 2 = omega (arith, is) in
-      ap (λ (n : ℕ). nat_eq n 1) same
-
-  above_at_2 : has_bit eight 4 ≡ is_set above 2
-  above_at_2 =
-      let same : eight / 4 % 2 ≡ above / 4 % 2 = omega (arith, is) in
-      ap (λ (n : ℕ). nat_eq n 1) same
-
-  middle_at_0 : has_bit eight 8 ≡ is_set middle 0
-  middle_at_0 =
-      let same : eight / 8 % 2 ≡ middle / 1 % 2 = omega (arith, is) in
-      ap (λ (n : ℕ). nat_eq n 1) same
-
-  middle_at_2 : has_bit eight 16 ≡ is_set middle 2
-  middle_at_2 =
-      let same : eight / 16 % 2 ≡ middle / 4 % 2 = omega (arith, is) in
-      ap (λ (n : ℕ). nat_eq n 1) same
-
-  below_at_0 : has_bit eight 32 ≡ is_set below 0
-  below_at_0 =
-      let same : eight / 32 % 2 ≡ below / 1 % 2 = omega (arith, is) in
-      ap (λ (n : ℕ). nat_eq n 1) same
-
-  below_at_1 : has_bit eight 64 ≡ is_set below 1
-  below_at_1 =
-      let same : eight / 64 % 2 ≡ below / 2 % 2 = omega (arith, is) in
-      ap (λ (n : ℕ). nat_eq n 1) same
-
-  below_at_2 : has_bit eight 128 ≡ is_set below 2
-  below_at_2 =
-      let same : eight / 128 % 2 ≡ below / 4 % 2 = omega (arith, is) in
-      ap (λ (n : ℕ). nat_eq n 1) same
+  -- each of them is a bit of a word
+  bit : (word j place : ℕ) → eight / place % 2 ≡ word / 2 ^ j % 2 → has_bit eight place ≡ is_set word j
+  bit word j place same = ap (λ (n : ℕ). nat_eq n 1) same
 
   -- the cells around a cell are the middle bit's neighbours
   pub eight_read : (g : GridData) (x : Cell)
-      → AreThree (by_rows g) x.y x.x above → AreThree (by_rows g) (x.y + 1) x.x middle
-      → AreThree (by_rows g) (x.y + 2) x.x below
+      → AreThree (by_line g Row) x.y x.x above → AreThree (by_line g Row) (x.y + 1) x.x middle
+      → AreThree (by_line g Row) (x.y + 2) x.x below
       → (d : Dir) → is_free_on (ring_of eight) d ≡ is_open g x d
-  eight_read g x a m b N = above_at_1 ∙ a 1 (omega arith)
+  eight_read g x a m b N = bit above 1 2 (omega (arith, is)) ∙ a 1 (omega arith)
       ∙ is_open_there g N x.x x.y _ _ (omega arith) (omega arith)
-  eight_read g x a m b NE = above_at_2 ∙ a 2 (omega arith)
+  eight_read g x a m b NE = bit above 2 4 (omega (arith, is)) ∙ a 2 (omega arith)
       ∙ is_open_there g NE x.x x.y _ _ (omega arith) (omega arith)
-  eight_read g x a m b E = middle_at_2 ∙ m 2 (omega arith)
+  eight_read g x a m b E = bit middle 2 16 (omega (arith, is)) ∙ m 2 (omega arith)
       ∙ is_open_there g E x.x x.y _ _ (omega arith) (omega arith)
-  eight_read g x a m b SE = below_at_2 ∙ b 2 (omega arith)
+  eight_read g x a m b SE = bit below 2 128 (omega (arith, is)) ∙ b 2 (omega arith)
       ∙ is_open_there g SE x.x x.y _ _ (omega arith) (omega arith)
-  eight_read g x a m b S = below_at_1 ∙ b 1 (omega arith)
+  eight_read g x a m b S = bit below 1 64 (omega (arith, is)) ∙ b 1 (omega arith)
       ∙ is_open_there g S x.x x.y _ _ (omega arith) (omega arith)
-  eight_read g x a m b SW = below_at_0 ∙ b 0 (omega arith)
+  eight_read g x a m b SW = bit below 0 32 (omega (arith, is)) ∙ b 0 (omega arith)
       ∙ is_open_there g SW x.x x.y _ _ (omega arith) (omega arith)
-  eight_read g x a m b W = middle_at_0 ∙ m 0 (omega arith)
+  eight_read g x a m b W = bit middle 0 8 (omega (arith, is)) ∙ m 0 (omega arith)
       ∙ is_open_there g W x.x x.y _ _ (omega arith) (omega arith)
-  eight_read g x a m b NW = above_at_0 ∙ a 0 (omega arith)
+  eight_read g x a m b NW = bit above 0 1 (omega (arith, is)) ∙ a 0 (omega arith)
       ∙ is_open_there g NW x.x x.y _ _ (omega arith) (omega arith)
 
--- a diagonal move is told by three cells
+-- a diagonal move is known by three cells
 pub leads_by : (g : GridData) (x : Cell) (d : Dir) → is_free g x ≡ true → is_diagonal d ≡ true
     → (rule : Corner) → rule ≡ g.corner → (ahead left right passes both : Bool)
     → ahead ≡ is_open g x d → left ≡ is_open g x (turn Left d) → right ≡ is_open g x (turn Right d)

@@ -1,4 +1,4 @@
--- What a scan finds, told of the grid: along a run from a cell, by the cells after so many moves.
+-- What a scan finds, said of the grid: along a run from a cell, by the cells after so many moves.
 use Rattle.std.proofs.lemmas.Grind.{common_steps}
 use Rattle.std.proofs.Common.{◌≡◌, ℕ, zero, suc, ◌+◌, ◌<◌, ◌≤◌, arith, Bool, true, false, not, ◌&&◌, ◌||◌}
 use Rattle.std.proofs.Common.{refl, ap, sym, ◌∙◌}
@@ -7,7 +7,7 @@ use Rattle.std.proofs.lemmas.Bool.Decides.{nat_tests}
 use Rattle.grid_moves.specs.declared.Cell.{Cell}
 use Rattle.grid_moves.specs.declared.Corner.{Corner}
 use Rattle.grid_moves.specs.declared.Dir.{Dir}
-use Rattle.grid_moves.specs.Grid.{GridData, IsGrid, is_free}
+use Rattle.grid_moves.specs.Grid.{GridData, is_free}
 use Rattle.grid_moves.specs.Move.{ahead, legal_ahead, is_open, may_slip}
 use Rattle.grid_moves.proofs.Legal.{legal_is, by_cut, passable-uncut}
 use Rattle.pruning.specs.declared.turns.Side.{Side}
@@ -21,13 +21,13 @@ use Rattle.jump_plain.specs.declared.beside.Sides.{Sides}
 use Rattle.jump_plain.specs.declared.scan.Reach.{Reach}
 use Rattle.jump_plain.specs.Beside.{sides_of, sides_ahead, opens}
 use Rattle.jump_plain.specs.Reach.{reach_of, further, mark_ahead, first_sides, stop_of}
-use Rattle.pruning.proofs.Lengths.{run_length-next, run_length-none, run_length-few}
+use Rattle.pruning.proofs.Lengths.{run_length-next, run_length-none}
 use Rattle.jump_plain.proofs.Forcing.{seen_from}
 use Rattle.jump_plain.proofs.Scanning.{left_with, reach_begun, reached_end, reached_mark, reached_next}
 use Rattle.jump_block.specs.declared.block.Halt.{Halt}
 use Rattle.jump_block.specs.Trail.{Trail, IsClear, Halts, halts, opens_beside}
 use Rattle.jump_block.specs.Scan.{Finds, looked, nearer}
-use Rattle.jump_block.specs.Source.{reach_of_halt, HasFew, scanned}
+use Rattle.jump_block.specs.Source.{reach_of_halt, scanned}
 use Rattle.jump_block.specs.Source as block
 
 none_if : (o : Option Cell) → is_some o ≡ false → o ≡ None
@@ -177,11 +177,11 @@ module _ (g : GridData) (x : Cell) (d : Dir) (h : is_diagonal d ≡ false)
             → reach_of_halt g.corner (record { passed = passed; marked = marked }) ≡ reach_of g x d
         by_next true e =
             ap (λ (m : Bool). reach_of_halt g.corner (record { passed = passed; marked = m }))
-            (h.told ∙ marked_there (t.free (suc passed)) _ (alike_free passed ∙ e))
+            (h.shown ∙ marked_there (t.free (suc passed)) _ (alike_free passed ∙ e))
             ∙ halted_mark passed (clear_there passed h.clear) e
             (opens_there (free (suc passed)) _ (sym (halts_alike passed) ∙ h.here) e)
         by_next false e =
-            let last = h.told ∙ marked_last (t.free (suc passed)) _ (alike_free passed ∙ e) in
+            let last = h.shown ∙ marked_last (t.free (suc passed)) _ (alike_free passed ∙ e) in
             last_mark passed marked last
             ∙ halted_blocked passed (clear_there passed h.clear) e marked
             (last ∙ ap (λ (o : Bool). may_slip g.corner && o) (alike passed))
@@ -191,17 +191,6 @@ module _ (g : GridData) (x : Cell) (d : Dir) (h : is_diagonal d ≡ false)
     found_stop to_goal (Some h) is =
         ap (λ (r : Reach). stop_of r to_goal) (reach_there h.passed h.marked is)
     found_stop to_goal None is = met_before to_goal (clear_there to_goal is.1) is.0
-
-    pub found_few : IsGrid g → (to_goal : ℕ) (found : Option Halt) → Finds g.corner t to_goal found
-        → HasFew found
-    found_few whole to_goal (Some h) is =
-        let there = comes h.passed (clear_there h.passed is.clear) in
-        let run = there.run in
-        let few = run_length-few g x d in
-        let wide = whole.sides.narrow in
-        let high = whole.sides.low in
-        omega arith
-    found_few whole to_goal None is = tt
 
     nearer_goal : (to_goal moves : ℕ) → (nat_lt 0 to_goal && nat_le to_goal moves) ≡ true
         → (passed : ℕ) → nearer to_goal passed ≤ to_goal
@@ -235,7 +224,7 @@ module _ (g : GridData) (x : Cell) (d : Dir) (h : is_diagonal d ≡ false)
             by_goal_marked (nat_lt 0 to_goal && nat_le to_goal (h.passed + mark_ahead g.corner)) refl
         by_halt false halt = by_goal_blocked (nat_lt 0 to_goal && nat_le to_goal h.passed) refl
             (halted_run h.passed (clear_there h.passed halt.clear)
-            (sym (alike_free h.passed) ∙ blocked_there (t.free (suc h.passed)) _ halt.told))
+            (sym (alike_free h.passed) ∙ blocked_there (t.free (suc h.passed)) _ halt.shown))
 
 -- the cells ahead as a scan passes them
 pub record IsRay (g : GridData) (x : Cell) (d : Dir) (place : ℕ → Cell) (free : ℕ → Bool)
@@ -247,21 +236,19 @@ pub record IsRay (g : GridData) (x : Cell) (d : Dir) (place : ℕ → Cell) (fre
   pub sides_are : (k : ℕ) → sides (suc k) ≡ sides_ahead g (place k) d
 
 -- what a scan of this trail finds tells the first stop, and how many cells are looked at
-abbrev pub IsTold : GridData → Cell → Dir → Corner → Trail → Type 0
-IsTold g x d rule t = (to_goal : ℕ) (found : Option Halt) → Finds rule t to_goal found
-    → (block.stop_of rule found to_goal ≡ stop_of (reach_of g x d) to_goal) × HasFew found
+abbrev pub FindsStop : GridData → Cell → Dir → Corner → Trail → Type 0
+FindsStop g x d rule t = (to_goal : ℕ) (found : Option Halt) → Finds rule t to_goal found
+    → (block.stop_of rule found to_goal ≡ stop_of (reach_of g x d) to_goal)
     × (looked to_goal found ≤ scanned g x d (block.stop_of rule found to_goal))
 
-pub told_by_ray : (g : GridData) (x : Cell) (d : Dir) → is_diagonal d ≡ false → is_free g x ≡ true
-    → IsGrid g → (place : ℕ → Cell) (free : ℕ → Bool) (sides : ℕ → Sides)
+pub ray_finds : (g : GridData) (x : Cell) (d : Dir) → is_diagonal d ≡ false → is_free g x ≡ true
+    → (place : ℕ → Cell) (free : ℕ → Bool) (sides : ℕ → Sides)
     → IsRay g x d place free sides → (t : Trail)
     → ((k : ℕ) → opens_beside t k ≡ opens (sides k) (sides (suc k)))
-    → ((k : ℕ) → t.free (suc k) ≡ free (suc k)) → IsTold g x d g.corner t
-told_by_ray g x d h f whole place free sides ray t alike alike_free to_goal found is = (
+    → ((k : ℕ) → t.free (suc k) ≡ free (suc k)) → FindsStop g x d g.corner t
+ray_finds g x d h f place free sides ray t alike alike_free to_goal found is = (
   found_stop g x d h place free sides ray.starts f ray.begins ray.open_is ray.goes ray.sides_are t
       alike alike_free to_goal found is,
-  found_few g x d h place free sides ray.starts f ray.begins ray.open_is ray.goes ray.sides_are t
-      alike alike_free whole to_goal found is,
   found_within g x d h place free sides ray.starts f ray.begins ray.open_is ray.goes ray.sides_are t
       alike alike_free to_goal found is,
 )

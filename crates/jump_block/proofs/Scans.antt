@@ -73,24 +73,25 @@ module _ {l : LineData} {free : ℕ → ℕ → Bool} {line from : ℕ} (start :
   back_next : (index : ℕ) → free line (index * 512) ≡ true → 0 < index
   back_next index h1 = grind (arith, nat_tests, common_steps)
 
-  pub goes_on : l.blocks ≤ 128 → (way : Way) (rule : Corner) (index : ℕ) → index < l.blocks
+  pub goes_on : (way : Way) (rule : Corner) (index : ℕ) → index < l.blocks
       → IsOnWay way from index
       → IsClear (begun rule (trail_on free way line from))
       (moves_before way from (edge_before way (index * 512) 8))
       → HasNext way index × (next_block way index < l.blocks) × IsOnWay way from (next_block way index)
-  goes_on few Forward rule index below on_way clear =
+  goes_on Forward rule index below on_way clear =
+      let few = start.short in
       let there : from + (index * 512 + 8 * 64 - (from + 1)) ≡ index * 512 + 511 = omega arith in
       let next = forward_next index _ there (free_there Forward rule index below on_way clear) in
       (omega arith, next, omega arith)
-  goes_on few Back rule index below on_way clear =
+  goes_on Back rule index below on_way clear =
       let there : from - (from - (index * 512 + (8 - 8) * 64)) ≡ index * 512 = omega arith in
       let next = back_next index (last_place Back rule index below on_way clear (index * 512) there) in
       (next, omega arith, omega arith)
 
   -- a scan makes few moves
-  few_passed : l.blocks ≤ 128 → (way : Way) (rule : Corner) (passed : ℕ)
+  few_passed : (way : Way) (rule : Corner) (passed : ℕ)
       → IsClear (begun rule (trail_on free way line from)) passed → passed < 65535
-  few_passed few way rule passed clear =
+  few_passed way rule passed clear =
       by_way way (last_free (begun rule (trail_on free way line from)) passed
       (ap (λ (p : ℕ). free line p) (along_start way from) ∙ start.starts) clear)
     where
@@ -98,21 +99,27 @@ module _ {l : LineData} {free : ℕ → ℕ → Bool} {line from : ℕ} (start :
       below p there = grind (arith, nat_tests, common_steps)
 
       by_way : (way : Way) → free line (along way from passed) ≡ true → passed < 65535
-      by_way Forward there = let ample = start.shows.ample in let inside = below (from + passed) there in
+      by_way Forward there =
+          let ample = start.shows.ample in
+          let few = start.short in
+          let inside = below (from + passed) there in
           omega arith
       by_way Back there = by_place (cases_lt passed from)
         where
           by_place : (passed < from) ⊎ (from ≤ passed) → passed < 65535
-          by_place (inl h) = let ample = start.shows.ample in let inside = below from start.starts in
+          by_place (inl h) =
+              let ample = start.shows.ample in
+              let few = start.short in
+              let inside = below from start.starts in
               omega arith
           by_place (inr h) =
               let none : from - passed ≡ 0 = omega arith in
               grind (arith, nat_tests, common_steps)
 
-  pub few_found : l.blocks ≤ 128 → (way : Way) (rule : Corner) (to_goal : ℕ) (found : Option Halt)
+  pub few_found : (way : Way) (rule : Corner) (to_goal : ℕ) (found : Option Halt)
       → Finds rule (begun rule (trail_on free way line from)) to_goal found → HasFew found
-  few_found few way rule to_goal (Some h) is = few_passed few way rule h.passed is.clear
-  few_found few way rule to_goal None is = tt
+  few_found way rule to_goal (Some h) is = few_passed way rule h.passed is.clear
+  few_found way rule to_goal None is = tt
 
 -- blocks meet at their edges
 pub edges_meet : (way : Way) (index : ℕ) → HasNext way index

@@ -11,7 +11,8 @@ use Rattle.jump_block.specs.declared.block.Block.{Block}
 use Rattle.jump_block.specs.Word.{IsBlockOf, edge_before, far, moves_before}
 use Rattle.jump_block.specs.Seek.{HasPassed}
 
--- a scan starts at this place of this line, at a free cell of the map that the lines show
+-- a scan starts at this place of this line, at a free cell of the map that the lines show: few lines of few
+-- blocks
 pub record IsStart (l : LineData) (free : ℕ → ℕ → Bool) (line from : ℕ) : Type 0 where
   pub count : ℕ
   pub positions : ℕ
@@ -21,6 +22,8 @@ pub record IsStart (l : LineData) (free : ℕ → ℕ → Bool) (line from : ℕ
   pub starts : free line from ≡ true
   pub first : free line 0 ≡ false
   pub beyond : (p : ℕ) → positions < p → free line p ≡ false
+  pub few : l.lines < 65536
+  pub short : l.blocks ≤ 128
 
 -- how many blocks of three lines a scan over so many moves reads at most
 abbrev pub most_lanes : ℕ → ℕ

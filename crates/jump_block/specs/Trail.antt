@@ -45,7 +45,7 @@ abbrev pub along : Way → ℕ → ℕ → ℕ
 along Forward from k = from + k
 along Back from k = from - k
 
--- along a line of a map whose cells are told by line and place
+-- along a line of a map whose cells are known by line and place
 abbrev pub trail_on : (ℕ → ℕ → Bool) → Way → ℕ → ℕ → Trail
 trail_on free way line from = record {
   free = λ k. free line (along way from k);
@@ -61,4 +61,4 @@ IsClear t n = (k : ℕ) → k < n → halts t k ≡ false
 pub record Halts (rule : Corner) (t : Trail) (passed : ℕ) (marked : Bool) : Type 0 where
   pub clear : IsClear t passed
   pub here : halts t passed ≡ true
-  pub told : marked ≡ shows_mark rule t passed
+  pub shown : marked ≡ shows_mark rule t passed

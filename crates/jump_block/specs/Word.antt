@@ -1,5 +1,5 @@
 -- Words of a trail: 64 places of a line, and the places beside them.
-use Rattle.std.specs.Prelude.{◌≡◌, ℕ, suc, ◌+◌, ◌*◌, ◌-◌, ◌<◌, ◌≤◌, Bool, true, nat_eq, nat_lt, if◌then◌else◌}
+use Rattle.std.specs.Prelude.{◌≡◌, ℕ, suc, ◌+◌, ◌*◌, ◌-◌, ◌<◌, ◌≤◌, Bool, true, nat_lt, if◌then◌else◌}
 use Rattle.std.specs.Prelude.{length, slice_index_or}
 use Rattle.bit_grid.specs.Bits.{is_set}
 use Rattle.jump_block.specs.declared.word.Way.{Way}
@@ -8,9 +8,9 @@ use Rattle.bit_grid.specs.declared.lines.ThreeWords.{ThreeWords}
 use Rattle.jump_block.specs.declared.block.Block.{Block}
 use Rattle.jump_block.specs.Trail.{Trail, IsClear, halts, opens}
 
--- the way of this number
-abbrev pub way_of : ℕ → Way
-way_of n = if nat_eq n 0 then Forward else Back
+-- the way that leads forward, or else back
+abbrev pub way_of : Bool → Way
+way_of forward = if forward then Forward else Back
 
 -- from this start, k moves lead to the place
 abbrev pub Meets : Way → ℕ → ℕ → ℕ → Type 0
@@ -50,13 +50,13 @@ abbrev pub TellMoves : (ℕ → Bool) → Way → ℕ → ℕ → ℕ → Type 0
 TellMoves tell way from base bits =
     (j k : ℕ) → j < 64 → Meets way from (base + j) (suc k) → is_set bits j ≡ tell k
 
--- the bits at which a side opens in a word, told the word before
+-- the bits at which a side opens in a word, given the word before
 abbrev pub IsOpened : Way → ℕ → ℕ → ℕ → Type 0
 IsOpened way word last found = (side : ℕ → Bool) (from base : ℕ) → IsWordOf side way from base word
     → IsEdgeOf side way from (near way base) last
     → TellMoves (opens side) way from base found
 
--- the same of each trail that has these words, told the one before
+-- the same of each trail that has these words, given the one before
 abbrev pub TellTrails : (Trail → ℕ → Bool) → Way → ThreeWords → ThreeWords → ℕ → Type 0
 TellTrails tell way words last bits = (t : Trail) (from base : ℕ) → AreWordsOf t way from base words
     → AreEdgesOf t way from (near way base) last → TellMoves (tell t) way from base bits
@@ -108,7 +108,7 @@ abbrev pub IsAhead : Way → ℕ → ℕ → Type 0
 IsAhead Forward from edge = from < edge
 IsAhead Back from edge = edge ≤ from
 
--- the bits at which a scan halts in the word from `base` on, told that it makes n moves, and more only to the
+-- the bits at which a scan halts in the word from `base` on, given that it makes n moves, and more only to the
 -- word's places
 pub record IsFound (t : Trail) (way : Way) (from base n found : ℕ) : Type 0 where
   pub clear : IsClear t n

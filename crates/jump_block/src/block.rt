@@ -76,7 +76,7 @@ fn moves_short_of(way: Way, from: u32, place: u32) -> u64
     }
 }
 
-// Where a scan halts, told the bits of a word at which it does, those of them that show a mark, and the
+// Where a scan halts, given the bits of a word at which it does, those of them that show a mark, and the
 // word's first place.
 #[inline(always)]
 fn halt_at(way: Way, marks: u64, found: u64, from: u32, base: u32) -> Halt
@@ -94,7 +94,7 @@ fn halt_at(way: Way, marks: u64, found: u64, from: u32, base: u32) -> Halt
     }
 }
 
-/// Where a scan halts among the places of the word in which it starts, told the words around its start, or
+/// Where a scan halts among the places of the word in which it starts, given the words around its start, or
 /// `None` where it leaves the word.
 #[inline(always)]
 pub(crate) fn halt_near(way: Way, rule: Corner, near: ThreeWords, from: u32) -> Option<Halt>
@@ -126,8 +126,6 @@ pub(crate) fn halt_next<L: Ledger>(
     steps: &mut Steps<L>,
 ) -> Option<Halt>
     requires starts { (free : ℕ → ℕ → Bool) × IsStart lines.now free line from }
-    requires few { lines.now.lines < 65536 }
-    requires short { lines.now.blocks ≤ 128 }
     ensures halts { (free : ℕ → ℕ → Bool) → IsStart lines.now free line from → AreNear free line from near
         → IsClear (begun rule (trail_on free way line from))
         (moves_before way from (spec.far way (from / 64 * 64)))
@@ -192,7 +190,7 @@ impl<'a> Block<'a> {
         }
     }
 
-    /// Searches the block from the i-th word on the way, told the words before.
+    /// Searches the block from the i-th word on the way, given the words before.
     #[inline(always)]
     pub(crate) fn seek(
         &self,
@@ -227,7 +225,7 @@ impl<'a> Block<'a> {
         Seek::Passed(last)
     }
 
-    // Whether all cells of the block are free and nothing changes beside it, told the words before: a scan
+    // Whether all cells of the block are free and nothing changes beside it, given the words before: a scan
     // that comes to it passes it then. It passes some other blocks too, which are searched word by word.
     #[inline(always)]
     fn is_passed(&self, way: Way, last: ThreeWords) -> bool
@@ -244,7 +242,7 @@ impl<'a> Block<'a> {
         )
     }
 
-    /// Searches the whole block, told the words before. Mostly it is passed, which a quick test finds first.
+    /// Searches the whole block, given the words before. Mostly it is passed, which a quick test finds first.
     #[inline(always)]
     pub(crate) fn seek_whole(
         &self,
@@ -269,7 +267,7 @@ impl<'a> Block<'a> {
         self.seek(way, rule, 0, last, from, start)
     }
 
-    /// Where a scan halts among the places of the word in which it starts, told the block with this word, or
+    /// Where a scan halts among the places of the word in which it starts, given the block with this word, or
     /// `None` where it leaves the word.
     #[inline(always)]
     pub(crate) fn halt_first(&self, way: Way, rule: Corner, from: u32) -> Option<Halt>

@@ -11,12 +11,12 @@ ghost use Rattle.bit_grid.specs.Bits.{is_free_from_one};
 ghost use Rattle.pruning.specs.First as first;
 ghost use Rattle.grid_moves.specs.Ruled as ruled;
 ghost use Rattle.jump_block.specs.Source as spec;
-ghost use Rattle.jump_block.specs.Near.{AreNearStart};
-ghost use Rattle.jump_block.specs.Source.{IsAside, OnSome, OnEach};
+ghost use Rattle.jump_block.specs.Source.{IsAside, IsNear, OnSome, OnEach};
+ghost use Rattle.jump_block.specs.declared.straight.Axis.TheVariants.{Row, Column};
 
 use crate::cells::bit_of;
 use crate::near::{has_next_bit, leads_from_bit};
-use crate::straight::Bits;
+use crate::straight::{Axis, Bits};
 use crate::word::Way;
 use bit_grid::ThreeWords;
 use grid_moves::{Cell, Dir, beyond, is_passable, may_cut};
@@ -24,39 +24,29 @@ use pruning::{Side, forced_on, ring_of, turn};
 use std::sync::ledger::Ledger;
 use steps::Steps;
 
-/// The diagonal of this number, so that it can be a constant of a function, which has code of its own for
-/// each.
+/// The diagonal to the east or the west and to the south or the north, so that it can be a constant of a
+/// function, which has code of its own for each.
 #[inline(always)]
-pub(crate) fn diagonal_of(number: usize) -> Dir
-    ensures is { result ≡ spec.diagonal_of number }
+pub(crate) fn diagonal_of(east: bool, south: bool) -> Dir
+    ensures is { result ≡ spec.diagonal_of east south }
     ensures diagonal { is_diagonal result ≡ true }
 {
-    match number {
-        0 => Dir::NE,
-        1 => Dir::SE,
-        2 => Dir::SW,
-        _ => Dir::NW,
+    match (east, south) {
+        (true, false) => Dir::NE,
+        (true, true) => Dir::SE,
+        (false, true) => Dir::SW,
+        (false, false) => Dir::NW,
     }
 }
 
-/// Which way along the row a diagonal leads.
+/// Which way a diagonal leads along the row, and along the column.
 #[inline(always)]
-pub(crate) fn row_way(d: Dir) -> Way
-    ensures { result ≡ spec.row_way d }
+pub(crate) fn way_on(axis: Axis, d: Dir) -> Way
+    ensures { result ≡ spec.way_on axis d }
 {
-    match d {
-        Dir::NE | Dir::SE => Way::Forward,
-        _ => Way::Back,
-    }
-}
-
-/// Which way along the column it leads.
-#[inline(always)]
-pub(crate) fn column_way(d: Dir) -> Way
-    ensures { result ≡ spec.column_way d }
-{
-    match d {
-        Dir::SE | Dir::SW => Way::Forward,
+    match (axis, d) {
+        (Axis::Row, Dir::NE | Dir::SE) => Way::Forward,
+        (Axis::Column, Dir::SE | Dir::SW) => Way::Forward,
         _ => Way::Back,
     }
 }
@@ -95,8 +85,8 @@ pub(crate) fn is_toward(d: Dir, at: Cell, goal: Cell) -> bool
     ensures { result ≡ spec.is_toward d at goal }
 {
     both(
-        is_ahead(row_way(d), at.x, goal.x),
-        is_ahead(column_way(d), at.y, goal.y),
+        is_ahead(way_on(Axis::Row, d), at.x, goal.x),
+        is_ahead(way_on(Axis::Column, d), at.y, goal.y),
     )
 }
 
@@ -164,7 +154,7 @@ impl<'a> Bits<'a> {
         both(ahead, is_passable(self.corner, left, right))
     }
 
-    // The same, told the words around the cell, in which the cells ahead and beside it mostly are.
+    // The same, given the words around the cell, in which the cells ahead and beside it mostly are.
     #[inline(always)]
     fn leads_near<L: Ledger>(
         &self,
@@ -174,13 +164,13 @@ impl<'a> Bits<'a> {
         steps: &mut Steps<L>,
     ) -> bool
         requires stands { OnSome self.now at }
-        requires near { AreNearStart self.now.rows.now (at.y + 1) (at.x + 1) near }
+        requires near { IsNear self.now Row at near }
         requires diagonal { is_diagonal d ≡ true }
         ensures leads { OnEach self.now at (λ g. result ≡ can_move g at d) }
         ensures more { steps.old ≤ steps.new }
     {
         let place = (u32::from(at.x) + 1) % 64;
-        if has_next_bit(row_way(d), place) {
+        if has_next_bit(way_on(Axis::Row, d), place) {
             return leads_from_bit(self.corner, d, near, place);
         }
         let bits = *self;
@@ -211,9 +201,7 @@ impl<'a> Bits<'a> {
         requires rule { self.now.corner ≡ ruled.rule_of_number RULE }
         requires stands { OnSome self.now at }
         requires diagonal { is_diagonal d ≡ true }
-        ensures stops { OnEach self.now at (λ g. result ≡ (is_same at goal || is_forced g at d
-            || is_some (first.first_stop g goal at (spec.row_dir (spec.row_way d)))
-            || is_some (first.first_stop g goal at (spec.column_dir (spec.column_way d))))) }
+        ensures stops { OnEach self.now at (λ g. result ≡ spec.stops_at g goal d at) }
         ensures more { steps.old ≤ steps.new }
     {
         if at == goal {
@@ -222,16 +210,18 @@ impl<'a> Bits<'a> {
         if self.forces(at, d, steps) {
             return true;
         }
-        let on_row = self.straight_on_row::<RULE, L>(at, row_way(d), goal, steps);
+        let way = way_on(Axis::Row, d);
+        let on_row = self.straight::<RULE, L>(at, Axis::Row, way, goal, steps);
         if on_row.is_some() {
             return true;
         }
-        let on_column = self.straight_on_column::<RULE, L>(at, column_way(d), goal, steps);
+        let way = way_on(Axis::Column, d);
+        let on_column = self.straight::<RULE, L>(at, Axis::Column, way, goal, steps);
         on_column.is_some()
     }
 
     // Whether a diagonal jump stops at a cell. Only in the goal's row or column is the goal looked for, and
-    // by no jump that leads elsewhere; at all other cells a component is asked for its mark alone, told the
+    // by no jump that leads elsewhere; at all other cells a component is asked for its mark alone, given the
     // words around the cell. The call out of line gets a copy of the bits, so that their own stay in
     // registers here.
     #[inline(always)]
@@ -245,12 +235,10 @@ impl<'a> Bits<'a> {
     ) -> bool
         requires rule { self.now.corner ≡ ruled.rule_of_number RULE }
         requires stands { OnSome self.now at }
-        requires near { AreNearStart self.now.rows.now (at.y + 1) (at.x + 1) near }
+        requires near { IsNear self.now Row at near }
         requires diagonal { is_diagonal d ≡ true }
         requires aside { AIMED ≡ false → IsAside d at goal }
-        ensures stops { OnEach self.now at (λ g. result ≡ (is_same at goal || is_forced g at d
-            || is_some (first.first_stop g goal at (spec.row_dir (spec.row_way d)))
-            || is_some (first.first_stop g goal at (spec.column_dir (spec.column_way d))))) }
+        ensures stops { OnEach self.now at (λ g. result ≡ spec.stops_at g goal d at) }
         ensures more { steps.old ≤ steps.new }
     {
         if may_meet::<AIMED>(d, at, goal) {
@@ -260,13 +248,14 @@ impl<'a> Bits<'a> {
         if self.forces(at, d, steps) {
             return true;
         }
-        if self.finds_mark_on_row::<RULE, L>(at, row_way(d), near, steps) {
+        if self.finds_mark::<RULE, L>(at, Axis::Row, way_on(Axis::Row, d), near, steps) {
             return true;
         }
-        self.finds_mark_on_column::<RULE, L>(at, column_way(d), steps)
+        let beside = self.near(at, Axis::Column, steps);
+        self.finds_mark::<RULE, L>(at, Axis::Column, way_on(Axis::Column, d), beside, steps)
     }
 
-    /// After how many moves a diagonal jump stops, told whether it may lead to where the goal lies.
+    /// After how many moves a diagonal jump stops, given whether it may lead to where the goal lies.
     #[inline(always)]
     pub(crate) fn diagonal<const RULE: usize, const AIMED: bool, L: Ledger>(
         &self,
@@ -283,12 +272,12 @@ impl<'a> Bits<'a> {
         ensures fewest { steps.old + 3 ≤ steps.new }
     {
         let mut cell = at;
-        let mut near = self.near_on_row(at, steps);
+        let mut near = self.near(at, Axis::Row, steps);
         let mut moves = 0;
         'run: while self.leads_near(cell, d, near, steps) {
             let next = beyond(cell, d);
             moves += 1;
-            near = self.near_on_row(next, steps);
+            near = self.near(next, Axis::Row, steps);
             if self.stops_at::<RULE, AIMED, L>(next, d, goal, near, steps) {
                 return Some(moves);
             }

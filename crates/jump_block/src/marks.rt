@@ -10,7 +10,7 @@ ghost use Rattle.jump_block.specs.Word as ways;
 ghost use Rattle.jump_block.specs.Word.{AreEight};
 
 use crate::block::{Block, Halt, halt_near, halt_next};
-use crate::scan::{Start, scan, scan_rest, way_of};
+use crate::scan::{scan, scan_rest, way_of};
 use crate::straight::stop_of;
 use crate::word::Way;
 use bit_grid::{Lines, ThreeWords};
@@ -31,7 +31,7 @@ fn is_mark(found: Option<Halt>) -> bool
 
 // Whether a scan halts at a mark. It is for the scans that leave the next words too.
 #[inline(never)]
-fn finds_far<const WAY: usize, const RULE: usize, L: Ledger>(
+fn finds_far<const FORWARD: bool, const RULE: usize, L: Ledger>(
     rule: Corner,
     lines: &Lines,
     line: u32,
@@ -40,22 +40,23 @@ fn finds_far<const WAY: usize, const RULE: usize, L: Ledger>(
 ) -> bool
     requires rule { rule ≡ ruled.rule_of_number RULE }
     requires starts { (free : ℕ → ℕ → Bool) × IsStart lines.now free line place }
-    requires few { lines.now.lines < 65536 }
-    requires short { lines.now.blocks ≤ 128 }
-    ensures finds { MeetsFrom lines.now rule (ways.way_of WAY) line place steps.old steps.new result }
+    ensures finds { MeetsFrom lines.now rule (ways.way_of FORWARD) line place steps.old steps.new result }
     ensures more { steps.old ≤ steps.new }
 {
-    let start = Start {
+    is_mark(scan::<RULE, false, L>(
+        way_of(FORWARD),
+        rule_of_number(RULE),
+        lines,
         line,
         place,
-        to_goal: 0,
-    };
-    is_mark(scan::<RULE, false, L>(way_of(WAY), rule_of_number(RULE), lines, start, steps))
+        0,
+        steps,
+    ))
 }
 
 // The same, where nothing halts the scan in the words around the cell: the next three are read before.
 #[inline(never)]
-fn finds_next<const WAY: usize, const RULE: usize, L: Ledger>(
+fn finds_next<const FORWARD: bool, const RULE: usize, L: Ledger>(
     rule: Corner,
     lines: &Lines,
     line: u32,
@@ -65,15 +66,13 @@ fn finds_next<const WAY: usize, const RULE: usize, L: Ledger>(
 ) -> bool
     requires rule { rule ≡ ruled.rule_of_number RULE }
     requires starts { (free : ℕ → ℕ → Bool) × IsStart lines.now free line place }
-    requires few { lines.now.lines < 65536 }
-    requires short { lines.now.blocks ≤ 128 }
     requires near { AreNearStart lines.now line place near }
-    requires clear { ClearFrom lines.now rule (ways.way_of WAY) line place }
-    ensures finds { MeetsFrom lines.now rule (ways.way_of WAY) line place (steps.old + 3) steps.new result }
+    requires clear { ClearFrom lines.now rule (ways.way_of FORWARD) line place }
+    ensures finds { MeetsFrom lines.now rule (ways.way_of FORWARD) line place (steps.old + 3) steps.new result }
     ensures more { steps.old ≤ steps.new }
 {
     let found = halt_next(
-        way_of(WAY),
+        way_of(FORWARD),
         rule_of_number(RULE),
         lines,
         line,
@@ -84,10 +83,10 @@ fn finds_next<const WAY: usize, const RULE: usize, L: Ledger>(
     if found.is_some() {
         return is_mark(found);
     }
-    finds_far::<WAY, RULE, L>(rule, lines, line, place, steps)
+    finds_far::<FORWARD, RULE, L>(rule, lines, line, place, steps)
 }
 
-/// Whether a scan from a free cell halts at a mark, told the words around the cell.
+/// Whether a scan from a free cell halts at a mark, given the words around the cell.
 #[inline(always)]
 pub(crate) fn finds_mark<const RULE: usize, L: Ledger>(
     way: Way,
@@ -100,8 +99,6 @@ pub(crate) fn finds_mark<const RULE: usize, L: Ledger>(
 ) -> bool
     requires rule { rule ≡ ruled.rule_of_number RULE }
     requires starts { (free : ℕ → ℕ → Bool) × IsStart lines.now free line place }
-    requires few { lines.now.lines < 65536 }
-    requires short { lines.now.blocks ≤ 128 }
     requires near { AreNearStart lines.now line place near }
     ensures finds { MeetsFrom lines.now rule way line place (steps.old + 3) steps.new result }
     ensures more { steps.old ≤ steps.new }
@@ -111,15 +108,15 @@ pub(crate) fn finds_mark<const RULE: usize, L: Ledger>(
         return is_mark(found);
     }
     match way {
-        Way::Forward => finds_next::<0, RULE, L>(rule, lines, line, place, near, steps),
-        Way::Back => finds_next::<1, RULE, L>(rule, lines, line, place, near, steps),
+        Way::Forward => finds_next::<true, RULE, L>(rule, lines, line, place, near, steps),
+        Way::Back => finds_next::<false, RULE, L>(rule, lines, line, place, near, steps),
     }
 }
 
-// After how many moves a jump stops, where nothing halts its scan in the word in which it starts. It is told
+// After how many moves a jump stops, where nothing halts its scan in the word in which it starts. It is given
 // the block with this word and those of the lines beside it, each by itself, so that they stay in registers.
 #[inline(never)]
-fn mark_past<const WAY: usize, const RULE: usize, L: Ledger>(
+fn mark_past<const FORWARD: bool, const RULE: usize, L: Ledger>(
     lines: &Lines,
     line: u32,
     place: u32,
@@ -129,13 +126,11 @@ fn mark_past<const WAY: usize, const RULE: usize, L: Ledger>(
     steps: &mut Steps<L>,
 ) -> Option<u16>
     requires starts { (free : ℕ → ℕ → Bool) × IsStart lines.now free line place }
-    requires few { lines.now.lines < 65536 }
-    requires short { lines.now.blocks ≤ 128 }
     requires eight { AreEight (record { middle = middle; before = before; after = after }) }
-    requires block { HasFirst lines.now (ways.way_of WAY) line place
+    requires block { HasFirst lines.now (ways.way_of FORWARD) line place
         (record { middle = middle; before = before; after = after }) }
-    requires clear { ClearFrom lines.now (ruled.rule_of_number RULE) (ways.way_of WAY) line place }
-    ensures stops { StopsFrom lines.now (ruled.rule_of_number RULE) (ways.way_of WAY) line place
+    requires clear { ClearFrom lines.now (ruled.rule_of_number RULE) (ways.way_of FORWARD) line place }
+    ensures stops { StopsFrom lines.now (ruled.rule_of_number RULE) (ways.way_of FORWARD) line place
         steps.old (steps.new + 3) result }
     ensures more { steps.old ≤ steps.new }
 {
@@ -144,7 +139,7 @@ fn mark_past<const WAY: usize, const RULE: usize, L: Ledger>(
         before,
         after,
     };
-    let found = scan_rest::<WAY, RULE, L>(lines, line, place, block, steps);
+    let found = scan_rest::<FORWARD, RULE, L>(lines, line, place, block, steps);
     stop_of(rule_of_number(RULE), found, 0)
 }
 
@@ -154,22 +149,20 @@ fn mark_past<const WAY: usize, const RULE: usize, L: Ledger>(
 /// It is out of line, so that other jumps do not pay for its registers. What is past the word in which the
 /// scan starts is out of line too, as about half of the scans halt in their first word.
 #[inline(never)]
-pub(crate) fn first_mark<const WAY: usize, const RULE: usize, L: Ledger>(
+pub(crate) fn first_mark<const FORWARD: bool, const RULE: usize, L: Ledger>(
     lines: &Lines,
     line: u32,
     place: u32,
     steps: &mut Steps<L>,
 ) -> Option<u16>
     requires starts { (free : ℕ → ℕ → Bool) × IsStart lines.now free line place }
-    requires few { lines.now.lines < 65536 }
-    requires short { lines.now.blocks ≤ 128 }
-    ensures stops { StopsFrom lines.now (ruled.rule_of_number RULE) (ways.way_of WAY) line place
+    ensures stops { StopsFrom lines.now (ruled.rule_of_number RULE) (ways.way_of FORWARD) line place
         steps.old steps.new result }
     ensures fewest { steps.old + 3 ≤ steps.new }
 {
     let rule = rule_of_number(RULE);
     let block = Block::read(lines, line, place / 512, steps);
-    let found = block.halt_first(way_of(WAY), rule, place);
+    let found = block.halt_first(way_of(FORWARD), rule, place);
     if found.is_some() {
         return stop_of(rule, found, 0);
     }
@@ -178,5 +171,5 @@ pub(crate) fn first_mark<const WAY: usize, const RULE: usize, L: Ledger>(
         before,
         after,
     } = block;
-    mark_past::<WAY, RULE, L>(lines, line, place, middle, before, after, steps)
+    mark_past::<FORWARD, RULE, L>(lines, line, place, middle, before, after, steps)
 }

@@ -7,9 +7,11 @@ ghost use Rattle.jump_block.specs.Near as spec;
 ghost use Rattle.jump_block.specs.Near.{AreNear, AreNearStart, HasNextBit, HasNextWord};
 ghost use Rattle.jump_block.specs.Scan.{IsStart};
 ghost use Rattle.jump_block.specs.Source as source;
+ghost use Rattle.jump_block.specs.declared.straight.Axis.TheVariants.{Row, Column};
 
 use crate::cells::is_set;
-use crate::diagonal::{column_way, row_way};
+use crate::diagonal::way_on;
+use crate::straight::Axis;
 use crate::word::Way;
 use bit_grid::{Lines, ThreeWords};
 use grid_moves::{Corner, Dir, passable_bits};
@@ -42,7 +44,6 @@ pub(crate) fn words_near<L: Ledger>(
     steps: &mut Steps<L>,
 ) -> ThreeWords
     requires starts { (free : ℕ → ℕ → Bool) × IsStart lines.now free line place }
-    requires few { lines.now.lines < 65536 }
     ensures near { AreNearStart lines.now line place result }
     ensures three_steps { steps.new ≡ steps.old + 3 }
 {
@@ -108,17 +109,17 @@ fn side_word(way: Way, words: ThreeWords) -> u64
     }
 }
 
-/// Whether a diagonal move from this bit is legal, told the words of its row and of those beside it.
+/// Whether a diagonal move from this bit is legal, given the words of its row and of those beside it.
 #[inline(always)]
 pub(crate) fn leads_from_bit(rule: Corner, d: Dir, words: ThreeWords, place: u32) -> bool
     requires small { place < 64 }
-    requires more { HasNextBit (source.row_way d) place }
-    ensures { result ≡ (is_set (spec.side_word (source.column_way d) words) (spec.next_bit (source.row_way d) place)
-        && moves.is_passable rule (is_set (spec.side_word (source.column_way d) words) place)
-        (is_set words.middle (spec.next_bit (source.row_way d) place))) }
+    requires more { HasNextBit (source.way_on Row d) place }
+    ensures { result ≡ (is_set (spec.side_word (source.way_on Column d) words) (spec.next_bit (source.way_on Row d) place)
+        && moves.is_passable rule (is_set (spec.side_word (source.way_on Column d) words) place)
+        (is_set words.middle (spec.next_bit (source.way_on Row d) place))) }
 {
-    let way = row_way(d);
-    let side = side_word(column_way(d), words);
+    let way = way_on(Axis::Row, d);
+    let side = side_word(way_on(Axis::Column, d), words);
     let passes = passable_bits(rule, side, drawn_back(way, words.middle));
     is_set(drawn_back(way, side) & passes, place)
 }

@@ -13,15 +13,6 @@ use grid_moves::{Corner, rule_of_number};
 use std::sync::ledger::Ledger;
 use steps::Steps;
 
-/// Where a scan starts.
-#[derive(Clone, Copy)]
-pub(crate) struct Start {
-    pub(crate) line: u32,
-    pub(crate) place: u32,
-    /// How many moves on the goal lies, or 0 where it does not lie ahead.
-    pub(crate) to_goal: u32,
-}
-
 // The number of moves that lead to the block's last place on the way.
 #[inline(always)]
 fn moves_through(way: Way, from: u32, start: u32) -> u32
@@ -55,7 +46,7 @@ fn next_block(way: Way, index: u32) -> u32
     }
 }
 
-// Goes on past the block in which a scan started, told the last words that it passed there.
+// Goes on past the block in which a scan started, given the last words that it passed there.
 //
 // It reads three blocks at a time: of the line, and of those beside it. The next ones are read only where
 // neither a halt nor the goal is found in those at hand.
@@ -71,8 +62,6 @@ fn scan_on<L: Ledger>(
     steps: &mut Steps<L>,
 ) -> Option<Halt>
     requires starts { (free : ℕ → ℕ → Bool) × IsStart lines.now free line place }
-    requires few { lines.now.lines < 65536 }
-    requires short { lines.now.blocks ≤ 128 }
     requires passed { PassedFrom lines.now rule way line place last }
     ensures finds { FindsFrom lines.now rule way to_goal line place result }
     ensures most { steps.new + 3 ≤ steps.old + most_lanes (looked to_goal result) }
@@ -91,18 +80,16 @@ fn scan_on<L: Ledger>(
     None
 }
 
-/// The way of this number, so that it can be a constant of a function, which has code of its own for each.
+/// The way that leads forward, or else back, so that it can be a constant of a function, which has code of its
+/// own for each.
 #[inline(always)]
-pub(crate) fn way_of(number: usize) -> Way
-    ensures { result ≡ spec.way_of number }
+pub(crate) fn way_of(forward: bool) -> Way
+    ensures { result ≡ spec.way_of forward }
 {
-    match number {
-        0 => Way::Forward,
-        _ => Way::Back,
-    }
+    if forward { Way::Forward } else { Way::Back }
 }
 
-// How many moves on the goal lies: 0, which the compiler then knows, where it is told that it is not ahead.
+// How many moves on the goal lies: 0, which the compiler then knows, where it is known not to be ahead.
 #[inline(always)]
 fn moves_to_goal<const AIMED: bool>(to_goal: u32) -> u32
     requires aside { AIMED ≡ false → to_goal ≡ 0 }
@@ -114,7 +101,7 @@ fn moves_to_goal<const AIMED: bool>(to_goal: u32) -> u32
 // The same out of line, on a way and under a rule that the compiler knows: each has a loop of its own, and
 // another one in which the goal is not looked for.
 #[inline(never)]
-fn scan_on_by<const WAY: usize, const RULE: usize, const AIMED: bool, L: Ledger>(
+fn scan_on_by<const FORWARD: bool, const RULE: usize, const AIMED: bool, L: Ledger>(
     rule: Corner,
     lines: &Lines,
     line: u32,
@@ -126,22 +113,29 @@ fn scan_on_by<const WAY: usize, const RULE: usize, const AIMED: bool, L: Ledger>
     requires rule { rule ≡ ruled.rule_of_number RULE }
     requires aside { AIMED ≡ false → to_goal ≡ 0 }
     requires starts { (free : ℕ → ℕ → Bool) × IsStart lines.now free line place }
-    requires few { lines.now.lines < 65536 }
-    requires short { lines.now.blocks ≤ 128 }
-    requires passed { PassedFrom lines.now rule (spec.way_of WAY) line place last }
-    ensures finds { FindsFrom lines.now rule (spec.way_of WAY) to_goal line place result }
+    requires passed { PassedFrom lines.now rule (spec.way_of FORWARD) line place last }
+    ensures finds { FindsFrom lines.now rule (spec.way_of FORWARD) to_goal line place result }
     ensures most { steps.new + 3 ≤ steps.old + most_lanes (looked to_goal result) }
     ensures more { steps.old ≤ steps.new }
 {
     let rule = rule_of_number(RULE);
     let to_goal = moves_to_goal::<AIMED>(to_goal);
-    scan_on(way_of(WAY), rule, lines, line, place, to_goal, last, steps)
+    scan_on(
+        way_of(FORWARD),
+        rule,
+        lines,
+        line,
+        place,
+        to_goal,
+        last,
+        steps,
+    )
 }
 
 /// Goes on with a scan past the word in which it starts, where nothing halts it before and the goal is not
-/// ahead, told the block in which it starts.
+/// ahead, given the block in which it starts.
 #[inline(always)]
-pub(crate) fn scan_rest<const WAY: usize, const RULE: usize, L: Ledger>(
+pub(crate) fn scan_rest<const FORWARD: bool, const RULE: usize, L: Ledger>(
     lines: &Lines,
     line: u32,
     place: u32,
@@ -149,25 +143,24 @@ pub(crate) fn scan_rest<const WAY: usize, const RULE: usize, L: Ledger>(
     steps: &mut Steps<L>,
 ) -> Option<Halt>
     requires starts { (free : ℕ → ℕ → Bool) × IsStart lines.now free line place }
-    requires few { lines.now.lines < 65536 }
-    requires short { lines.now.blocks ≤ 128 }
     requires eight { AreEight block }
-    requires block { HasFirst lines.now (spec.way_of WAY) line place block }
-    requires clear { ClearFrom lines.now (ruled.rule_of_number RULE) (spec.way_of WAY) line place }
-    ensures finds { FindsFrom lines.now (ruled.rule_of_number RULE) (spec.way_of WAY) 0 line place result }
+    requires block { HasFirst lines.now (spec.way_of FORWARD) line place block }
+    requires clear { ClearFrom lines.now (ruled.rule_of_number RULE) (spec.way_of FORWARD) line place }
+    ensures finds { FindsFrom lines.now (ruled.rule_of_number RULE) (spec.way_of FORWARD) 0 line place result }
     ensures most { steps.new + 3 ≤ steps.old + most_lanes (looked 0 result) }
     ensures more { steps.old ≤ steps.new }
 {
     let rule = rule_of_number(RULE);
-    match block.seek_rest(way_of(WAY), rule, place) {
+    match block.seek_rest(way_of(FORWARD), rule, place) {
         Seek::Halted(halt) => Some(halt),
         Seek::Passed(words) => {
-            scan_on_by::<WAY, RULE, false, L>(rule, lines, line, place, 0, words, steps)
+            scan_on_by::<FORWARD, RULE, false, L>(rule, lines, line, place, 0, words, steps)
         }
     }
 }
 
-/// Scans along a line from a free cell: finds where the scan halts, or `None` where the goal is met before.
+/// Scans along a line from a free cell: finds where the scan halts, or `None` where the goal, so many moves on,
+/// is met before; 0 where the goal is not ahead.
 ///
 /// Most scans halt in the block in which they start, so what is past it is looked at out of line. `AIMED`
 /// tells whether the goal may be ahead: where it is false, the goal is not ahead and is not looked for.
@@ -176,35 +169,28 @@ pub(crate) fn scan<const RULE: usize, const AIMED: bool, L: Ledger>(
     way: Way,
     rule: Corner,
     lines: &Lines,
-    start: Start,
+    line: u32,
+    place: u32,
+    to_goal: u32,
     steps: &mut Steps<L>,
 ) -> Option<Halt>
     requires rule { rule ≡ ruled.rule_of_number RULE }
-    requires aside { AIMED ≡ false → start.to_goal ≡ 0 }
-    requires starts { (free : ℕ → ℕ → Bool) × IsStart lines.now free start.line start.place }
-    requires few { lines.now.lines < 65536 }
-    requires short { lines.now.blocks ≤ 128 }
-    ensures finds { FindsFrom lines.now rule way start.to_goal start.line start.place result }
-    ensures most { steps.new ≤ steps.old + most_lanes (looked start.to_goal result) }
+    requires aside { AIMED ≡ false → to_goal ≡ 0 }
+    requires starts { (free : ℕ → ℕ → Bool) × IsStart lines.now free line place }
+    ensures finds { FindsFrom lines.now rule way to_goal line place result }
+    ensures most { steps.new ≤ steps.old + most_lanes (looked to_goal result) }
     ensures fewest { steps.old + 3 ≤ steps.new }
 {
-    let block = Block::read(lines, start.line, start.place / 512, steps);
-    match block.seek_start(way, rule, start.place) {
+    let block = Block::read(lines, line, place / 512, steps);
+    match block.seek_start(way, rule, place) {
         Seek::Halted(halt) => Some(halt),
-        Seek::Passed(words) => {
-            let Start {
-                line,
-                place,
-                to_goal,
-            } = start;
-            match way {
-                Way::Forward => {
-                    scan_on_by::<0, RULE, AIMED, L>(rule, lines, line, place, to_goal, words, steps)
-                }
-                Way::Back => {
-                    scan_on_by::<1, RULE, AIMED, L>(rule, lines, line, place, to_goal, words, steps)
-                }
+        Seek::Passed(words) => match way {
+            Way::Forward => {
+                scan_on_by::<true, RULE, AIMED, L>(rule, lines, line, place, to_goal, words, steps)
             }
-        }
+            Way::Back => {
+                scan_on_by::<false, RULE, AIMED, L>(rule, lines, line, place, to_goal, words, steps)
+            }
+        },
     }
 }

@@ -9,10 +9,10 @@ ghost use Rattle.pruning.specs.Stop.{IsFirstStop};
 ghost use Rattle.pruning.specs.Turns.{is_diagonal};
 ghost use Rattle.jump_block.specs.Scan.{most_lanes};
 ghost use Rattle.bit_grid.specs.Bits.{AreBitsOf};
-ghost use Rattle.jump_block.specs.Source.{AreItsBits, JumpsOnEach, JumpsOnSome, OnEach, OnSome, is_forward, is_back, diagonal_of, is_toward, scanned};
+ghost use Rattle.jump_block.specs.Source.{AreItsBits, JumpsOnEach, JumpsOnSome, OnEach, OnSome, is_forward, is_back, diagonal_of, is_toward, scanned, Stops};
 
 use crate::diagonal::{diagonal_of, is_toward};
-use crate::straight::Bits;
+use crate::straight::{Axis, Bits};
 use crate::word::Way;
 use bit_grid::BitGrid;
 use grid_moves::{Cell, Corner, Dir, rule_of_number};
@@ -45,25 +45,26 @@ impl<'a> Bits<'a> {
     // so that others, which are short, keep clear of its many registers. A jump that leads elsewhere than to
     // where the goal lies has a loop of its own too, in which no cell is compared with the goal.
     #[inline(never)]
-    fn diagonal_by<const RULE: usize, const DIAGONAL: usize, const AIMED: bool, L: Ledger>(
-        &self,
-        at: Cell,
-        goal: Cell,
-        steps: &mut Steps<L>,
-    ) -> Option<u16>
+    fn diagonal_by<
+        const RULE: usize,
+        const EAST: bool,
+        const SOUTH: bool,
+        const AIMED: bool,
+        L: Ledger,
+    >(&self, at: Cell, goal: Cell, steps: &mut Steps<L>) -> Option<u16>
         requires rule { self.now.corner ≡ ruled.rule_of_number RULE }
         requires stands { OnSome self.now at }
-        requires aside { AIMED ≡ false → is_toward (diagonal_of DIAGONAL) at goal ≡ false }
-        ensures first { OnEach self.now at (λ g. result ≡ first.first_stop g goal at (diagonal_of DIAGONAL)) }
+        requires aside { AIMED ≡ false → is_toward (diagonal_of EAST SOUTH) at goal ≡ false }
+        ensures first { OnEach self.now at (λ g. result ≡ first.first_stop g goal at (diagonal_of EAST SOUTH)) }
         ensures fewest { steps.old + 3 ≤ steps.new }
     {
         let bits = self.under::<RULE>();
-        bits.diagonal::<RULE, AIMED, L>(at, diagonal_of(DIAGONAL), goal, steps)
+        bits.diagonal::<RULE, AIMED, L>(at, diagonal_of(EAST, SOUTH), goal, steps)
     }
 
     // The same, for any goal.
     #[inline(always)]
-    fn diagonal_stop<const RULE: usize, const DIAGONAL: usize, L: Ledger>(
+    fn diagonal_stop<const RULE: usize, const EAST: bool, const SOUTH: bool, L: Ledger>(
         &self,
         at: Cell,
         goal: Cell,
@@ -71,13 +72,13 @@ impl<'a> Bits<'a> {
     ) -> Option<u16>
         requires rule { self.now.corner ≡ ruled.rule_of_number RULE }
         requires stands { OnSome self.now at }
-        ensures first { OnEach self.now at (λ g. result ≡ first.first_stop g goal at (diagonal_of DIAGONAL)) }
+        ensures first { OnEach self.now at (λ g. result ≡ first.first_stop g goal at (diagonal_of EAST SOUTH)) }
         ensures fewest { steps.old + 3 ≤ steps.new }
     {
-        if is_toward(diagonal_of(DIAGONAL), at, goal) {
-            self.diagonal_by::<RULE, DIAGONAL, true, L>(at, goal, steps)
+        if is_toward(diagonal_of(EAST, SOUTH), at, goal) {
+            self.diagonal_by::<RULE, EAST, SOUTH, true, L>(at, goal, steps)
         } else {
-            self.diagonal_by::<RULE, DIAGONAL, false, L>(at, goal, steps)
+            self.diagonal_by::<RULE, EAST, SOUTH, false, L>(at, goal, steps)
         }
     }
 
@@ -93,17 +94,15 @@ impl<'a> Bits<'a> {
         requires rule { self.now.corner ≡ ruled.rule_of_number RULE }
         requires straight { is_diagonal d ≡ false }
         requires stands { OnSome self.now at }
-        ensures first { OnEach self.now at (λ g. result ≡ first.first_stop g goal at d) }
-        ensures most { OnEach self.now at
-            (λ g. steps.new ≤ steps.old + most_lanes (scanned g at d result)) }
+        ensures stops { OnEach self.now at (λ g. Stops g goal at d steps.old steps.new result) }
         ensures fewest { steps.old + 3 ≤ steps.new }
     {
         let bits = self.under::<RULE>();
         match d {
-            Dir::N => bits.straight_on_column::<RULE, L>(at, Way::Back, goal, steps),
-            Dir::E => bits.straight_on_row::<RULE, L>(at, Way::Forward, goal, steps),
-            Dir::S => bits.straight_on_column::<RULE, L>(at, Way::Forward, goal, steps),
-            _ => bits.straight_on_row::<RULE, L>(at, Way::Back, goal, steps),
+            Dir::N => bits.straight::<RULE, L>(at, Axis::Column, Way::Back, goal, steps),
+            Dir::E => bits.straight::<RULE, L>(at, Axis::Row, Way::Forward, goal, steps),
+            Dir::S => bits.straight::<RULE, L>(at, Axis::Column, Way::Forward, goal, steps),
+            _ => bits.straight::<RULE, L>(at, Axis::Row, Way::Back, goal, steps),
         }
     }
 
@@ -125,15 +124,15 @@ impl<'a> Bits<'a> {
         ensures fewest { steps.old + 3 ≤ steps.new }
     {
         match d {
-            Dir::N if at.x != goal.x => self.mark_on_column::<1, RULE, L>(at, steps),
-            Dir::E if at.y != goal.y => self.mark_on_row::<0, RULE, L>(at, steps),
-            Dir::S if at.x != goal.x => self.mark_on_column::<0, RULE, L>(at, steps),
-            Dir::W if at.y != goal.y => self.mark_on_row::<1, RULE, L>(at, steps),
+            Dir::N if at.x != goal.x => self.mark::<false, RULE, L>(at, Axis::Column, steps),
+            Dir::E if at.y != goal.y => self.mark::<true, RULE, L>(at, Axis::Row, steps),
+            Dir::S if at.x != goal.x => self.mark::<true, RULE, L>(at, Axis::Column, steps),
+            Dir::W if at.y != goal.y => self.mark::<false, RULE, L>(at, Axis::Row, steps),
             Dir::N | Dir::E | Dir::S | Dir::W => self.straight_by::<RULE, L>(at, d, goal, steps),
-            Dir::NE => self.diagonal_stop::<RULE, 0, L>(at, goal, steps),
-            Dir::SE => self.diagonal_stop::<RULE, 1, L>(at, goal, steps),
-            Dir::SW => self.diagonal_stop::<RULE, 2, L>(at, goal, steps),
-            Dir::NW => self.diagonal_stop::<RULE, 3, L>(at, goal, steps),
+            Dir::NE => self.diagonal_stop::<RULE, true, false, L>(at, goal, steps),
+            Dir::SE => self.diagonal_stop::<RULE, true, true, L>(at, goal, steps),
+            Dir::SW => self.diagonal_stop::<RULE, false, true, L>(at, goal, steps),
+            Dir::NW => self.diagonal_stop::<RULE, false, false, L>(at, goal, steps),
         }
     }
 

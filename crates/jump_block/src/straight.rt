@@ -1,29 +1,26 @@
 //! Straight jumps: a scan along a row or a column, and the first stop that follows from where it halts.
 
-ghost use Rattle.std.specs.Prelude.{◌≡◌, ℕ, ◌+◌, ◌≤◌, Bool, false, true, is_some};
+ghost use Rattle.std.specs.Prelude.{◌≡◌, ℕ, ◌+◌, ◌≤◌, Bool, false, true};
 ghost use Rattle.pruning.specs.Turns.{is_diagonal};
-ghost use Rattle.pruning.specs.First as first;
 ghost use Rattle.grid_moves.specs.Ruled as ruled;
 ghost use Rattle.jump_plain.specs.Reach as reach;
-ghost use Rattle.jump_block.specs.Trail.{begun};
-ghost use Rattle.jump_block.specs.Scan.{Finds, looked, most_lanes};
-ghost use Rattle.jump_block.specs.Near.{AreNearStart};
+ghost use Rattle.jump_block.specs.Scan.{IsStart};
 ghost use Rattle.jump_block.specs.Source as spec;
 ghost use Rattle.jump_block.specs.Word as ways;
-ghost use Rattle.jump_block.specs.Source.{LooksOut, OnSome, OnEach, trail_of, scanned};
+ghost use Rattle.jump_block.specs.Source.{FindsAside, IsNear, OnEach, OnSome, Stops, StopsAside};
 
 use crate::block::Halt;
 use crate::marks::{finds_mark, first_mark};
 use crate::near::words_near;
-use crate::scan::{Start, scan};
+use crate::scan::scan;
 use crate::word::Way;
-use bit_grid::{Columns, Rows, ThreeWords};
+use bit_grid::{Columns, Lines, Rows, ThreeWords};
 use grid_moves::{Cell, Corner, Dir, may_cut};
 use jump_plain::jump::moves_to;
 use std::sync::ledger::Ledger;
 use steps::Steps;
 
-/// The first stop, told where the scan halts: the goal where it is met before, else the mark, if any. Where
+/// The first stop, given where the scan halts: the goal where it is met before, else the mark, if any. Where
 /// no corner is cut the mark is the next cell's, and else that of the cell where the scan halts.
 #[inline(always)]
 pub(crate) fn stop_of(rule: Corner, found: Option<Halt>, to_goal: u16) -> Option<u16>
@@ -44,28 +41,33 @@ pub(crate) fn stop_of(rule: Corner, found: Option<Halt>, to_goal: u16) -> Option
     }
 }
 
-// The direction of a way along a row.
+/// Along which lines a straight jump leads. It is a constant wherever it is asked for.
+#[derive(Clone, Copy)]
+pub(crate) enum Axis {
+    Row,
+    Column,
+}
+
+// The direction of a way along such a line.
 #[inline(always)]
-fn row_dir(way: Way) -> Dir
-    ensures is { result ≡ spec.row_dir way }
+fn dir_on(axis: Axis, way: Way) -> Dir
+    ensures is { result ≡ spec.dir_on axis way }
     ensures straight { is_diagonal result ≡ false }
 {
-    match way {
-        Way::Forward => Dir::E,
-        Way::Back => Dir::W,
+    match (axis, way) {
+        (Axis::Row, Way::Forward) => Dir::E,
+        (Axis::Row, Way::Back) => Dir::W,
+        (Axis::Column, Way::Forward) => Dir::S,
+        (Axis::Column, Way::Back) => Dir::N,
     }
 }
 
-// The direction of a way along a column.
-#[inline(always)]
-fn column_dir(way: Way) -> Dir
-    ensures is { result ≡ spec.column_dir way }
-    ensures straight { is_diagonal result ≡ false }
-{
-    match way {
-        Way::Forward => Dir::S,
-        Way::Back => Dir::N,
-    }
+/// Where a straight jump starts: a place on one of the lines of a grid's bits.
+#[derive(Clone, Copy)]
+struct Start<'a> {
+    lines: &'a Lines,
+    line: u32,
+    place: u32,
 }
 
 /// The lines of a grid's bits and the grid's rule, as jumps read them: where the rule is known, it is a
@@ -78,192 +80,114 @@ pub(crate) struct Bits<'a> {
 }
 
 impl<'a> Bits<'a> {
-    // Where a scan along the row halts, or `None` where the goal, so many moves on, is met before.
+    // Where a free cell stands on its row or its column.
     #[inline(always)]
-    fn halt_on_row<const RULE: usize, L: Ledger>(
-        &self,
-        at: Cell,
-        way: Way,
-        to_goal: u16,
-        steps: &mut Steps<L>,
-    ) -> Option<Halt>
-        requires rule { self.now.corner ≡ ruled.rule_of_number RULE }
+    fn start(&self, at: Cell, axis: Axis) -> Start<'a>
         requires stands { OnSome self.now at }
-        ensures finds { OnEach self.now at (λ g. Finds self.now.corner
-            (begun self.now.corner (trail_of g (spec.row_dir way) at)) to_goal result) }
-        ensures most { steps.new ≤ steps.old + most_lanes (looked to_goal result) }
-        ensures fewest { steps.old + 3 ≤ steps.new }
+        ensures is { result ≡ spec.start_of self.now axis at }
+        ensures starts { (free : ℕ → ℕ → Bool) × IsStart result.lines.now free result.line result.place }
     {
-        let along_row = Start {
-            line: u32::from(at.y) + 1,
-            place: u32::from(at.x) + 1,
-            to_goal: u32::from(to_goal),
-        };
-        scan::<RULE, true, L>(way, self.corner, self.rows, along_row, steps)
+        let (x, y) = (u32::from(at.x) + 1, u32::from(at.y) + 1);
+        match axis {
+            Axis::Row => Start {
+                lines: self.rows,
+                line: y,
+                place: x,
+            },
+            Axis::Column => Start {
+                lines: self.columns,
+                line: x,
+                place: y,
+            },
+        }
     }
 
-    // Where a scan along the column halts, or `None` where the goal, so many moves on, is met before.
+    /// Reads the words around a free cell, of its row or its column and of the lines beside it.
     #[inline(always)]
-    fn halt_on_column<const RULE: usize, L: Ledger>(
-        &self,
-        at: Cell,
-        way: Way,
-        to_goal: u16,
-        steps: &mut Steps<L>,
-    ) -> Option<Halt>
-        requires rule { self.now.corner ≡ ruled.rule_of_number RULE }
+    pub(crate) fn near<L: Ledger>(&self, at: Cell, axis: Axis, steps: &mut Steps<L>) -> ThreeWords
         requires stands { OnSome self.now at }
-        ensures finds { OnEach self.now at (λ g. Finds self.now.corner
-            (begun self.now.corner (trail_of g (spec.column_dir way) at)) to_goal result) }
-        ensures most { steps.new ≤ steps.old + most_lanes (looked to_goal result) }
-        ensures fewest { steps.old + 3 ≤ steps.new }
-    {
-        let along_column = Start {
-            line: u32::from(at.x) + 1,
-            place: u32::from(at.y) + 1,
-            to_goal: u32::from(to_goal),
-        };
-        scan::<RULE, true, L>(way, self.corner, self.columns, along_column, steps)
-    }
-
-    // The words around a free cell, of its row and of those beside it.
-    #[inline(always)]
-    pub(crate) fn near_on_row<L: Ledger>(&self, at: Cell, steps: &mut Steps<L>) -> ThreeWords
-        requires stands { OnSome self.now at }
-        ensures near { AreNearStart self.now.rows.now (at.y + 1) (at.x + 1) result }
+        ensures near { IsNear self.now axis at result }
         ensures three_steps { steps.new ≡ steps.old + 3 }
     {
-        words_near(self.rows, u32::from(at.y) + 1, u32::from(at.x) + 1, steps)
+        let start = self.start(at, axis);
+        words_near(start.lines, start.line, start.place, steps)
     }
 
-    /// Whether a straight jump along the row finds a stop, for a goal to which it does not lead, told the
-    /// words around the cell.
+    /// Whether a straight jump finds a stop, for a goal to which it does not lead, given the words around the
+    /// cell.
     #[inline(always)]
-    pub(crate) fn finds_mark_on_row<const RULE: usize, L: Ledger>(
+    pub(crate) fn finds_mark<const RULE: usize, L: Ledger>(
         &self,
         at: Cell,
+        axis: Axis,
         way: Way,
         near: ThreeWords,
         steps: &mut Steps<L>,
     ) -> bool
         requires rule { self.now.corner ≡ ruled.rule_of_number RULE }
         requires stands { OnSome self.now at }
-        requires near { AreNearStart self.now.rows.now (at.y + 1) (at.x + 1) near }
-        ensures finds { OnEach self.now at (λ g. (goal : Cell)
-            → reach.moves_to (spec.row_dir way) at goal ≡ 0
-            → result ≡ is_some (first.first_stop g goal at (spec.row_dir way))) }
-        ensures most { OnEach self.now at (λ g. (goal : Cell) → reach.moves_to (spec.row_dir way) at goal ≡ 0
-            → LooksOut g goal at (spec.row_dir way) 3 steps.old steps.new) }
+        requires near { IsNear self.now axis at near }
+        ensures finds { OnEach self.now at
+            (λ g. FindsAside g at (spec.dir_on axis way) (steps.old + 3) steps.new result) }
         ensures more { steps.old ≤ steps.new }
     {
-        let (line, place) = (u32::from(at.y) + 1, u32::from(at.x) + 1);
-        finds_mark::<RULE, L>(way, self.corner, self.rows, line, place, near, steps)
+        let start = self.start(at, axis);
+        finds_mark::<RULE, L>(
+            way,
+            self.corner,
+            start.lines,
+            start.line,
+            start.place,
+            near,
+            steps,
+        )
     }
 
-    /// Whether a straight jump along the column finds a stop, for a goal to which it does not lead. The words
-    /// around the cell are read here.
+    /// After how many moves a straight jump stops, for a goal to which it does not lead.
     #[inline(always)]
-    pub(crate) fn finds_mark_on_column<const RULE: usize, L: Ledger>(
+    pub(crate) fn mark<const FORWARD: bool, const RULE: usize, L: Ledger>(
         &self,
         at: Cell,
-        way: Way,
-        steps: &mut Steps<L>,
-    ) -> bool
-        requires rule { self.now.corner ≡ ruled.rule_of_number RULE }
-        requires stands { OnSome self.now at }
-        ensures finds { OnEach self.now at (λ g. (goal : Cell)
-            → reach.moves_to (spec.column_dir way) at goal ≡ 0
-            → result ≡ is_some (first.first_stop g goal at (spec.column_dir way))) }
-        ensures most { OnEach self.now at (λ g. (goal : Cell)
-            → reach.moves_to (spec.column_dir way) at goal ≡ 0
-            → LooksOut g goal at (spec.column_dir way) 6 steps.old steps.new) }
-        ensures more { steps.old ≤ steps.new }
-    {
-        let (line, place) = (u32::from(at.x) + 1, u32::from(at.y) + 1);
-        let near = words_near(self.columns, line, place, steps);
-        finds_mark::<RULE, L>(way, self.corner, self.columns, line, place, near, steps)
-    }
-
-    /// After how many moves a straight jump along the row stops, for a goal to which it does not lead.
-    #[inline(always)]
-    pub(crate) fn mark_on_row<const WAY: usize, const RULE: usize, L: Ledger>(
-        &self,
-        at: Cell,
+        axis: Axis,
         steps: &mut Steps<L>,
     ) -> Option<u16>
         requires rule { self.now.corner ≡ ruled.rule_of_number RULE }
         requires stands { OnSome self.now at }
-        ensures first { OnEach self.now at (λ g. (goal : Cell)
-            → reach.moves_to (spec.row_dir (ways.way_of WAY)) at goal ≡ 0
-            → result ≡ first.first_stop g goal at (spec.row_dir (ways.way_of WAY))) }
-        ensures most { OnEach self.now at
-            (λ g. steps.new ≤ steps.old + most_lanes (scanned g at (spec.row_dir (ways.way_of WAY)) result)) }
+        ensures stops { OnEach self.now at
+            (λ g. StopsAside g at (spec.dir_on axis (ways.way_of FORWARD)) steps.old steps.new result) }
         ensures fewest { steps.old + 3 ≤ steps.new }
     {
-        let (line, place) = (u32::from(at.y) + 1, u32::from(at.x) + 1);
-        first_mark::<WAY, RULE, L>(self.rows, line, place, steps)
+        let start = self.start(at, axis);
+        first_mark::<FORWARD, RULE, L>(start.lines, start.line, start.place, steps)
     }
 
-    /// The same along the column.
+    /// After how many moves a straight jump stops.
     #[inline(always)]
-    pub(crate) fn mark_on_column<const WAY: usize, const RULE: usize, L: Ledger>(
+    pub(crate) fn straight<const RULE: usize, L: Ledger>(
         &self,
         at: Cell,
-        steps: &mut Steps<L>,
-    ) -> Option<u16>
-        requires rule { self.now.corner ≡ ruled.rule_of_number RULE }
-        requires stands { OnSome self.now at }
-        ensures first { OnEach self.now at (λ g. (goal : Cell)
-            → reach.moves_to (spec.column_dir (ways.way_of WAY)) at goal ≡ 0
-            → result ≡ first.first_stop g goal at (spec.column_dir (ways.way_of WAY))) }
-        ensures most { OnEach self.now at
-            (λ g. steps.new ≤ steps.old
-            + most_lanes (scanned g at (spec.column_dir (ways.way_of WAY)) result)) }
-        ensures fewest { steps.old + 3 ≤ steps.new }
-    {
-        let (line, place) = (u32::from(at.x) + 1, u32::from(at.y) + 1);
-        first_mark::<WAY, RULE, L>(self.columns, line, place, steps)
-    }
-
-    /// After how many moves a straight jump along the row stops.
-    #[inline(always)]
-    pub(crate) fn straight_on_row<const RULE: usize, L: Ledger>(
-        &self,
-        at: Cell,
+        axis: Axis,
         way: Way,
         goal: Cell,
         steps: &mut Steps<L>,
     ) -> Option<u16>
         requires rule { self.now.corner ≡ ruled.rule_of_number RULE }
         requires stands { OnSome self.now at }
-        ensures first { OnEach self.now at (λ g. result ≡ first.first_stop g goal at (spec.row_dir way)) }
-        ensures most { OnEach self.now at
-            (λ g. steps.new ≤ steps.old + most_lanes (scanned g at (spec.row_dir way) result)) }
+        ensures stops { OnEach self.now at
+            (λ g. Stops g goal at (spec.dir_on axis way) steps.old steps.new result) }
         ensures fewest { steps.old + 3 ≤ steps.new }
     {
-        let to_goal = moves_to(row_dir(way), at, goal);
-        let found = self.halt_on_row::<RULE, L>(at, way, to_goal, steps);
-        stop_of(self.corner, found, to_goal)
-    }
-
-    /// After how many moves a straight jump along the column stops.
-    #[inline(always)]
-    pub(crate) fn straight_on_column<const RULE: usize, L: Ledger>(
-        &self,
-        at: Cell,
-        way: Way,
-        goal: Cell,
-        steps: &mut Steps<L>,
-    ) -> Option<u16>
-        requires rule { self.now.corner ≡ ruled.rule_of_number RULE }
-        requires stands { OnSome self.now at }
-        ensures first { OnEach self.now at (λ g. result ≡ first.first_stop g goal at (spec.column_dir way)) }
-        ensures most { OnEach self.now at
-            (λ g. steps.new ≤ steps.old + most_lanes (scanned g at (spec.column_dir way) result)) }
-        ensures fewest { steps.old + 3 ≤ steps.new }
-    {
-        let to_goal = moves_to(column_dir(way), at, goal);
-        let found = self.halt_on_column::<RULE, L>(at, way, to_goal, steps);
+        let to_goal = moves_to(dir_on(axis, way), at, goal);
+        let start = self.start(at, axis);
+        let found = scan::<RULE, true, L>(
+            way,
+            self.corner,
+            start.lines,
+            start.line,
+            start.place,
+            u32::from(to_goal),
+            steps,
+        );
         stop_of(self.corner, found, to_goal)
     }
 }

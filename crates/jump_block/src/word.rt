@@ -31,7 +31,7 @@ pub(crate) enum Way {
     Back,
 }
 
-// The bits at which a side opens, told the word that the way led through before.
+// The bits at which a side opens, given the word that the way led through before.
 #[inline(always)]
 #[tactic(auto, using(crate::proofs::Words::opened_on_forward, crate::proofs::Words::opened_on_back))]
 fn opened(way: Way, word: u64, last: u64) -> u64

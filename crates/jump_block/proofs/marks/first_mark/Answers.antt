@@ -13,7 +13,7 @@ stop_of-requires g c =
     let free = c.requires.starts.0 in
     let start = c.requires.starts.1 in
     record {
-      few = few_found start c.requires.short c.way_of.result c.rule_of_number-rule.result 0
+      few = few_found start c.way_of.result c.rule_of_number-rule.result 0
           c.halt_first-found.result
           (found_some _ _ c.halt_first-found.result (sym c.is_some.ensures ∙ c.if-is_some.true)
           (c.halt_first-found.ensures.halts (trail_on free c.way_of.result c.args.line c.args.place)

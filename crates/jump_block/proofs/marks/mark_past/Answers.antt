@@ -6,7 +6,7 @@ use Rattle.jump_block.proofs.marks.mark_past.Goals as goal
 
 pub stop_of-requires : goal.stop_of-requires
 stop_of-requires g c = record {
-  few = few_found c.requires.starts.1 c.requires.short _ _ 0 c.scan_rest-found.result
+  few = few_found c.requires.starts.1 _ _ 0 c.scan_rest-found.result
       (c.scan_rest-found.ensures.finds c.requires.starts.0 c.requires.starts.1);
 }
 

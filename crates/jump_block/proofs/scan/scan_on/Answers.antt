@@ -17,7 +17,7 @@ blocks-2-init g c =
 pub next_block-index-requires : goal.next_block-index-requires
 next_block-index-requires g c =
     record {
-      more = (goes_on c.requires.starts.1 c.requires.short c.args.way c.args.rule c.blocks-2.index
+      more = (goes_on c.requires.starts.1 c.args.way c.args.rule c.blocks-2.index
           c.blocks-2.invariant.below
           c.blocks-2.invariant.on_way
           (c.blocks-2.invariant.passed c.requires.starts.0 c.requires.starts.1).clear).0;
@@ -25,22 +25,22 @@ next_block-index-requires g c =
 
 pub read-block-requires-clause-index : goal.read-block-requires-clause-index
 read-block-requires-clause-index g c =
-    rw c.next_block-index.ensures (goes_on c.requires.starts.1 c.requires.short c.args.way c.args.rule
+    rw c.next_block-index.ensures (goes_on c.requires.starts.1 c.args.way c.args.rule
     c.blocks-2.index c.blocks-2.invariant.below
     c.blocks-2.invariant.on_way (c.blocks-2.invariant.passed c.requires.starts.0 c.requires.starts.1).clear).1
 
 pub seek_whole-requires-clause-small : goal.seek_whole-requires-clause-small
 seek_whole-requires-clause-small g c =
-    let below = rw (← c.next_block-index.ensures) at (goes_on c.requires.starts.1 c.requires.short c.args.way
+    let below = rw (← c.next_block-index.ensures) at (goes_on c.requires.starts.1 c.args.way
     c.args.rule c.blocks-2.index c.blocks-2.invariant.below
     c.blocks-2.invariant.on_way
     (c.blocks-2.invariant.passed c.requires.starts.0 c.requires.starts.1).clear).1 in
-    let few = c.requires.short in
+    let few = c.requires.starts.1.short in
     omega (arith, below, few)
 
 pub seek_whole-requires-clause-ahead : goal.seek_whole-requires-clause-ahead
 seek_whole-requires-clause-ahead g c =
-    let on = goes_on c.requires.starts.1 c.requires.short c.args.way c.args.rule c.blocks-2.index
+    let on = goes_on c.requires.starts.1 c.args.way c.args.rule c.blocks-2.index
     c.blocks-2.invariant.below
     c.blocks-2.invariant.on_way (c.blocks-2.invariant.passed c.requires.starts.0 c.requires.starts.1).clear in
     grind (arith, nat_tests, common_steps, ahead_next)
@@ -48,7 +48,7 @@ seek_whole-requires-clause-ahead g c =
 pub returns-in-Halted-clause-finds : goal.returns-in-Halted-clause-finds
 returns-in-Halted-clause-finds g c = λ free start.
     let t : Trail = trail_on free c.args.way c.args.line c.args.place in
-    let on = goes_on start c.requires.short c.args.way c.args.rule c.blocks-2.index c.blocks-2.invariant.below
+    let on = goes_on start c.args.way c.args.rule c.blocks-2.index c.blocks-2.invariant.below
     c.blocks-2.invariant.on_way (c.blocks-2.invariant.passed free start).clear in
     let passed = passed_next c.args.way c.args.place c.blocks-2.index c.next_block-index.result
     c.next_block-index.ensures on.0 c.blocks-2.invariant.on_way (begun c.args.rule t) c.blocks-2.last
@@ -68,7 +68,7 @@ returns-in-Halted-clause-most g c =
     let start = c.requires.starts.1 in
     let t : Trail = trail_on free c.args.way c.args.line c.args.place in
     let halt = returns-in-Halted-clause-finds g c free start in
-    let on = goes_on start c.requires.short c.args.way c.args.rule c.blocks-2.index c.blocks-2.invariant.below
+    let on = goes_on start c.args.way c.args.rule c.blocks-2.index c.blocks-2.invariant.below
     c.blocks-2.invariant.on_way (c.blocks-2.invariant.passed free start).clear in
     let unmet : (nat_lt 0 c.args.to_goal && nat_le c.args.to_goal
     (moves_before c.args.way c.args.place (edge_before c.args.way (c.blocks-2.index * 512) 8))) ≡ false =
@@ -85,7 +85,7 @@ returns-in-Halted-clause-most g c =
 
 pub blocks-2-smaller : goal.blocks-2-smaller
 blocks-2-smaller g c =
-    let on = goes_on c.requires.starts.1 c.requires.short c.args.way c.args.rule c.blocks-2.index
+    let on = goes_on c.requires.starts.1 c.args.way c.args.rule c.blocks-2.index
     c.blocks-2.invariant.below
     c.blocks-2.invariant.on_way (c.blocks-2.invariant.passed c.requires.starts.0 c.requires.starts.1).clear in
     grind (arith, nat_tests, common_steps, fewer_left)
@@ -96,7 +96,7 @@ blocks-2-preserved g c =
     (moves_before c.args.way c.args.place (edge_before c.args.way (c.blocks-2.index * 512) 8))) ≡ false =
     ap (λ (n : ℕ). nat_lt 0 c.args.to_goal && nat_le c.args.to_goal n)
     (sym c.moves_through.ensures) ∙ sym c.is_met.ensures ∙ c.blocks-2-test.true in
-    let on = goes_on c.requires.starts.1 c.requires.short c.args.way c.args.rule c.blocks-2.index
+    let on = goes_on c.requires.starts.1 c.args.way c.args.rule c.blocks-2.index
     c.blocks-2.invariant.below
     c.blocks-2.invariant.on_way (c.blocks-2.invariant.passed c.requires.starts.0 c.requires.starts.1).clear in
     record {

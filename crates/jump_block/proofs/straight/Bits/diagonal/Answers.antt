@@ -1,16 +1,14 @@
 use Rattle.std.proofs.lemmas.Bool.Decides.{nat_tests}
 use Rattle.std.proofs.lemmas.Grind.{common_steps}
-use Rattle.std.proofs.Common.{◌≡◌, ℕ, ◌+◌, true, false, arith, refl, sym, ◌∙◌}
-use Rattle.std.specs.Prelude.{Option, is_some}
-use Rattle.grid_moves.specs.declared.Dir.{Dir}
+use Rattle.std.proofs.Common.{◌≡◌, ℕ, ◌+◌, true, false, arith, sym, ◌∙◌}
+use Rattle.std.specs.Prelude.{Option}
 use Rattle.grid_moves.proofs.Ahead.{legal_ahead-free}
 use Rattle.pruning.specs.First.{first_stop, run_length}
-use Rattle.jump_block.proofs.Directions.{parts}
 use Rattle.jump_plain.proofs.Besides.{beyond_stuck}
 use Rattle.pruning.proofs.Lengths.{run_length-next, run_length-few}
-use Rattle.jump_plain.proofs.Diagonal.{later, is_stop-read, stops_nowhere, stops_here, stops_later}
+use Rattle.jump_plain.proofs.Diagonal.{later, stops_nowhere, stops_here, stops_later}
 use Rattle.jump_block.proofs.Aside.{aside_ahead, still_aside}
-use Rattle.jump_block.proofs.Diagonals.{legal_next}
+use Rattle.jump_block.proofs.Diagonals.{legal_next, stop_read}
 use Rattle.jump_block.proofs.straight.Bits.diagonal.Goals as goal
 
 -- no moves later is now
@@ -22,8 +20,8 @@ none_before n = omega arith
 
 pub run-init : goal.run-init
 run-init g c = record {
-  read = omega (arith, c.near_on_row-near.ensures.three_steps);
-  near = c.near_on_row-near.ensures.near;
+  read = omega (arith, c.near-near.ensures.three_steps);
+  near = c.near-near.ensures.near;
   aside = λ off. off;
   there = λ grid are free. record {
     free = free;
@@ -49,10 +47,8 @@ returns-then-stops_at-clause-first g c = λ grid are free.
     let next = legal_ahead-free grid c.run.cell c.beyond-next.result c.args.d legal in
     stops_here grid c.args.goal c.run.cell c.args.d c.run.moves
     (first_stop grid c.args.goal c.args.at c.args.d) there.stop c.beyond-next.result legal
-    (is_stop-read grid c.args.goal c.args.d c.beyond-next.result c.requires.diagonal c.stops_at.result true
-    (c.stops_at.ensures.stops grid are next ∙ parts
-    (λ (e : Dir). is_some (first_stop grid c.args.goal c.beyond-next.result e)) c.args.d c.requires.diagonal
-    _ _ _ refl refl) c.if-stops_at.true)
+    (stop_read grid c.args.goal c.args.d c.beyond-next.result c.requires.diagonal _ true
+    (c.stops_at.ensures.stops grid are next) c.if-stops_at.true)
 
 pub run-smaller : goal.run-smaller
 run-smaller g c =
@@ -69,13 +65,13 @@ run-smaller g c =
     let run = there.run in
     omega arith
 
-pub near_on_row-near-requires-in-run : goal.near_on_row-near-requires-in-run
-near_on_row-near-requires-in-run g c = grind (arith, nat_tests, common_steps, legal_next, legal_ahead-free)
+pub near-near-requires-in-run : goal.near-near-requires-in-run
+near-near-requires-in-run g c = grind (arith, nat_tests, common_steps, legal_next, legal_ahead-free)
 
 pub run-preserved : goal.run-preserved
 run-preserved g c = record {
   read = grind (arith, nat_tests, common_steps);
-  near = c.near_on_row-near-in-run.ensures.near;
+  near = c.near-near-in-run.ensures.near;
   aside = λ off.
       let grid = c.requires.stands.0 in
       let are = c.requires.stands.1 in
@@ -93,11 +89,8 @@ run-preserved g c = record {
         free = next;
         stop = stops_later grid c.args.goal c.run.cell c.args.d c.run.moves
             (first_stop grid c.args.goal c.args.at c.args.d) there.stop c.beyond-next.result legal
-            (is_stop-read grid c.args.goal c.args.d c.beyond-next.result c.requires.diagonal c.stops_at.result
-            false (c.stops_at.ensures.stops grid are next ∙ parts
-            (λ (e : Dir). is_some (first_stop grid c.args.goal c.beyond-next.result e)) c.args.d
-            c.requires.diagonal
-            _ _ _ refl refl) c.if-stops_at.false);
+            (stop_read grid c.args.goal c.args.d c.beyond-next.result c.requires.diagonal _ false
+            (c.stops_at.ensures.stops grid are next) c.if-stops_at.false);
         run = grind (arith, nat_tests, common_steps, run_length-next);
       };
 }
@@ -114,7 +107,7 @@ pub leads_near-requires-clause-near : goal.leads_near-requires-clause-near
 leads_near-requires-clause-near g c = c.run.invariant.near
 
 pub stops_at-requires-clause-near : goal.stops_at-requires-clause-near
-stops_at-requires-clause-near g c = c.near_on_row-near-in-run.ensures.near
+stops_at-requires-clause-near g c = c.near-near-in-run.ensures.near
 
 pub stops_at-requires-clause-aside : goal.stops_at-requires-clause-aside
 stops_at-requires-clause-aside g c = λ off.

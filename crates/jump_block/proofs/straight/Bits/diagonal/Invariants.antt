@@ -2,8 +2,8 @@ use Rattle.std.proofs.Common.{◌≡◌, ◌+◌, ◌-◌, ◌≤◌, true, fals
 use Rattle.grid_moves.specs.Grid.{GridData, is_free}
 use Rattle.pruning.specs.First.{first_stop, run_length}
 use Rattle.jump_plain.proofs.Diagonal.{later}
-use Rattle.jump_block.specs.Near.{AreNearStart}
-use Rattle.jump_block.specs.Source.{AreItsBits, is_toward}
+use Rattle.jump_block.specs.declared.straight.Axis.TheVariants.{Row}
+use Rattle.jump_block.specs.Source.{AreItsBits, IsNear, is_toward}
 use Rattle.jump_block.proofs.straight.Bits.diagonal.Given as goal
 
 -- the cell is so many moves on, the words around it are at hand, and the first stop in all is that from
@@ -11,7 +11,7 @@ use Rattle.jump_block.proofs.straight.Bits.diagonal.Given as goal
 abbrev pub invariant-run : goal.invariant-run
 invariant-run g l = record {
   read : l.fn.steps + 3 ≤ l.steps;
-  near : AreNearStart l.self.rows.now (l.cell.y + 1) (l.cell.x + 1) l.near;
+  near : IsNear l.self Row l.cell l.near;
   aside : is_toward l.d l.fn.at l.goal ≡ false → is_toward l.d l.cell l.goal ≡ false;
   there : (grid : GridData) → AreItsBits l.self grid → is_free grid l.fn.at ≡ true → record {
     free : is_free grid l.cell ≡ true;

@@ -4,34 +4,30 @@ use Rattle.jump_block.proofs.straight.Bits.stop_by.Goals as goal
 
 pub returns-in-N : goal.returns-in-N
 returns-in-N g c = rw c.in-N.is (record {
-  first = λ grid are free. c.mark_on_column.ensures.first grid are free c.args.goal
-      (grind (arith, nat_tests));
-  most = λ n. c.mark_on_column.ensures.most;
-  fewest = c.mark_on_column.ensures.fewest;
+  first = λ grid are free. (c.mark.ensures.stops grid are free c.args.goal (grind (arith, nat_tests))).0;
+  most = λ n grid are free. (c.mark.ensures.stops grid are free c.args.goal (grind (arith, nat_tests))).1;
+  fewest = c.mark.ensures.fewest;
 })
 
 pub returns-in-E : goal.returns-in-E
 returns-in-E g c = rw c.in-E.is (record {
-  first = λ grid are free. c.mark_on_row.ensures.first grid are free c.args.goal
-      (grind (arith, nat_tests));
-  most = λ n. c.mark_on_row.ensures.most;
-  fewest = c.mark_on_row.ensures.fewest;
+  first = λ grid are free. (c.mark-in-E.ensures.stops grid are free c.args.goal (grind (arith, nat_tests))).0;
+  most = λ n grid are free. (c.mark-in-E.ensures.stops grid are free c.args.goal (grind (arith, nat_tests))).1;
+  fewest = c.mark-in-E.ensures.fewest;
 })
 
 pub returns-in-S : goal.returns-in-S
 returns-in-S g c = rw c.in-S.is (record {
-  first = λ grid are free. c.mark_on_column-in-S.ensures.first grid are free c.args.goal
-      (grind (arith, nat_tests));
-  most = λ n. c.mark_on_column-in-S.ensures.most;
-  fewest = c.mark_on_column-in-S.ensures.fewest;
+  first = λ grid are free. (c.mark-in-S.ensures.stops grid are free c.args.goal (grind (arith, nat_tests))).0;
+  most = λ n grid are free. (c.mark-in-S.ensures.stops grid are free c.args.goal (grind (arith, nat_tests))).1;
+  fewest = c.mark-in-S.ensures.fewest;
 })
 
 pub returns-in-W : goal.returns-in-W
 returns-in-W g c = rw c.in-W.is (record {
-  first = λ grid are free. c.mark_on_row-in-W.ensures.first grid are free c.args.goal
-      (grind (arith, nat_tests));
-  most = λ n. c.mark_on_row-in-W.ensures.most;
-  fewest = c.mark_on_row-in-W.ensures.fewest;
+  first = λ grid are free. (c.mark-in-W.ensures.stops grid are free c.args.goal (grind (arith, nat_tests))).0;
+  most = λ n grid are free. (c.mark-in-W.ensures.stops grid are free c.args.goal (grind (arith, nat_tests))).1;
+  fewest = c.mark-in-W.ensures.fewest;
 })
 
 pub returns-in-NE : goal.returns-in-NE
