@@ -1,1 +1,3 @@
 pub mod Writing
+pub mod Parted
+pub mod Spaced

@@ -1,51 +1,33 @@
 -- Each claim on a grid is judged: it is accepted, or one clause refuses it.
-use Rattle.std.proofs.Common.{◌≡◌, ℕ, refl, Bool, true, false, ◌&&◌, List, length}
+use Rattle.std.proofs.Common.{◌≡◌, ℕ, refl, Bool, true, false, List}
 use Rattle.std.specs.Prelude.{Option, Some, None, Result, Ok, Err}
 use Rattle.root2_cost.specs.declared.Cost.{Cost}
 use Rattle.grid_moves.specs.declared.Cell.{Cell}
 use Rattle.grid_moves.specs.Grid.{GridData}
-use Rattle.grid_moves.proofs.Legal.{and_both}
-use Rattle.path_points.specs.declared.checking.BadAt.{BadAt}
-use Rattle.path_points.proofs.Checks.{IsVerdict}
 use Rattle.potential_check.specs.declared.certificate.Claim.{Claim}
 use Rattle.potential_check.specs.declared.certificate.Claim.TheVariants.{Least, NoWalk}
 use Rattle.potential_check.specs.declared.verdict.Proof.{Proof}
 use Rattle.potential_check.specs.declared.verdict.Proof.TheVariants as proof
 use Rattle.potential_check.specs.declared.verdict.Reject.{Reject}
 use Rattle.potential_check.specs.declared.verdict.Reject.TheVariants.{Walk, Start, Goal, Move, Open}
-use Rattle.potential_check.specs.Accepted.{begins_at, ends_at, ends_at_cost, is_cost, leaves}
-use Rattle.potential_check.specs.Accepted.{starts_at_nothing}
+use Rattle.potential_check.specs.Accepted.{ends_at_cost, is_cost, leaves, starts_at_nothing}
 use Rattle.potential_check.specs.Judged.{JudgesClaim, JudgesWalk}
 use Rattle.potential_check.specs.Moves.{first_failing}
 use Rattle.potential_check.specs.Potential.{is_listed, potential_of, rises}
 use Rattle.potential_check.proofs.Judging.{judged_goal, judged_least, judged_listed, judged_move, judged_none}
 use Rattle.potential_check.proofs.Judging.{judged_open, judged_start, judged_unlisted, judged_walk}
-use Rattle.potential_check.proofs.Walks.{judged_broken, judged_elsewhere, judged_other, judged_right}
-use Rattle.walk_judge.proofs.Judgements.{has_verdict}
+use Rattle.potential_check.proofs.Walks.{IsJudged, has_answer, judges}
 
 module _ (g : GridData) (s t : Cell) (cost : Cost) (points : List Cell) where
   -- the points stand for a right walk, or they are bad
   walk_judged : (bad : Option ℕ) × JudgesWalk g s t cost points bad
-  walk_judged = by_start (begins_at s points) refl
+  walk_judged = let v = has_answer g s t points in by_answer v.0 v.1
     where
-      by_ends : (paid : Cost) → begins_at s points ≡ true → IsVerdict g points (Ok paid) → (b : Bool)
-          → (ends_at t points && is_cost paid cost) ≡ b → (bad : Option ℕ) × JudgesWalk g s t cost points bad
-      by_ends paid begins told true e =
-          let p = and_both (ends_at t points) (is_cost paid cost) e in
-          (None, judged_right g s t cost points paid begins told p.0 p.1)
-      by_ends paid begins told false e =
-          (Some (length points), judged_other g s t cost points paid begins told e)
-
-      by_answer : begins_at s points ≡ true → (answer : Result Cost BadAt) → IsVerdict g points answer
+      by_answer : (answer : Result Cost ℕ) → IsJudged g s t points answer
           → (bad : Option ℕ) × JudgesWalk g s t cost points bad
-      by_answer begins (Ok paid) is =
-          by_ends paid begins is (ends_at t points && is_cost paid cost) refl
-      by_answer begins (Err bad) is =
-          (Some bad.0, judged_broken g s t cost points bad begins is)
-
-      by_start : (b : Bool) → begins_at s points ≡ b → (bad : Option ℕ) × JudgesWalk g s t cost points bad
-      by_start false off = (Some 0, judged_elsewhere g s t cost points off)
-      by_start true begins = let v = has_verdict g points in by_answer begins v.0 v.1
+      by_answer (Err i) judged = (Some i, judges g s t points cost (Err i) judged false tt)
+      by_answer (Ok paid) judged =
+          (_, judges g s t points cost (Ok paid) judged (is_cost paid cost) refl)
 
   module _ (values : List (Cell × Cost)) where
     abbrev Judges : Type 0

@@ -9,7 +9,6 @@ pub mod Feasible
 pub mod Ranked
 pub mod Judging
 pub mod Words
-pub mod Leading
 pub mod LinesLeft
 pub mod Listing
 pub mod Breaking

@@ -1,6 +1,5 @@
 -- Which certificates are accepted, and how the others are refused: by the first clause that fails.
-use Rattle.std.specs.Prelude.{◌≡◌, ℕ, ◌-◌, ◌≤◌, Bool, true, false, nat_eq, ◌&&◌, not, List, ◌∷◌, length}
-use Rattle.std.specs.Prelude.{slice_get, Option, Some, None, pos}
+use Rattle.std.specs.Prelude.{◌≡◌, ℕ, Bool, true, false, nat_eq, ◌&&◌, not, List, ◌∷◌, length, Some, pos}
 use Rattle.std.specs.Ordering.{int_eq}
 use Rattle.root2_cost.specs.declared.Cost.{Cost}
 use Rattle.root2_cost.specs.declared.Signed.{Signed}
@@ -8,11 +7,8 @@ use Rattle.root2_cost.specs.Order.{IsAtMost}
 use Rattle.root2_cost.specs.Sums.{no_cost}
 use Rattle.grid_moves.specs.declared.Cell.{Cell}
 use Rattle.grid_moves.specs.Grid.{GridData, is_free}
-use Rattle.grid_moves.specs.Move.{is_same}
-use Rattle.grid_moves.specs.Points.{unfolding_of}
 use Rattle.grid_moves.specs.Walk.{IsWalk, cost_of}
 use Rattle.grid_moves.specs.Walk as walks
-use Rattle.path_points.specs.Checked.{IsFirstBad, IsShortWalk, most_steps}
 use Rattle.potential_check.specs.declared.certificate.Certificate.{Certificate}
 use Rattle.potential_check.specs.declared.certificate.Claim.{Claim}
 use Rattle.potential_check.specs.declared.certificate.Claim.TheVariants.{Least, NoWalk}
@@ -23,6 +19,7 @@ use Rattle.potential_check.specs.declared.verdict.Reject.TheVariants.{Size, Ends
 use Rattle.potential_check.specs.declared.verdict.Reject.TheVariants.{Open}
 use Rattle.potential_check.specs.Potential.{potential_of, rises, is_listed, NoMove, IsFeasible}
 use Rattle.potential_check.specs.Moves.{first_failing}
+use Rattle.potential_check.specs.Walks.{IsBadPoint, IsRightWalk}
 
 -- the stated size is the grid's
 abbrev pub has_size : GridData → Certificate → Bool
@@ -32,19 +29,6 @@ has_size g c = nat_eq g.width c.width && nat_eq g.height c.height
 abbrev pub has_free_ends : GridData → Certificate → Bool
 has_free_ends g c = is_free g c.start && is_free g c.goal
 
--- there is such a point, and it is this cell
-abbrev pub is_at : Cell → Option Cell → Bool
-is_at c None = false
-is_at c (Some p) = is_same p c
-
--- the first point is this cell
-abbrev pub begins_at : Cell → List Cell → Bool
-begins_at s points = is_at s (slice_get points 0)
-
--- the last point is this cell
-abbrev pub ends_at : Cell → List Cell → Bool
-ends_at t points = is_at t (slice_get points (length points - 1))
-
 -- the pairs are one
 abbrev pub is_cost : Cost → Cost → Bool
 is_cost p q = nat_eq p.a q.a && nat_eq p.b q.b
@@ -53,26 +37,12 @@ is_cost p q = nat_eq p.a q.a && nat_eq p.b q.b
 abbrev pub is_value : Signed → Cost → Bool
 is_value s c = int_eq s.a (pos c.a) && int_eq s.b (pos c.b)
 
--- the points unfold to a walk from s to t of this cost and of at most 2^24 steps
-pub record IsRightWalk (g : GridData) (s t : Cell) (cost : Cost) (points : List Cell) : Type 0 where
-  pub cells : List Cell
-  pub unfolds : unfolding_of points ≡ Some (s ∷ cells)
-  pub walk : IsWalk g s t cells
-  pub short : length cells ≤ most_steps
-  pub priced : cost_of (s ∷ cells) ≡ cost
-
--- the points, counted from 0, are no such walk, and i is the number that tells it: 0 where the first point
--- is not
--- the start; else that of the first later point to which no legal run of at least one step leads from the
--- point
--- before, or that brings the steps above 2^24; else the number of points, where the last one is not the
--- goal or
--- the walk has another cost
+-- the points are no right walk of this cost, and the number tells it: they are no right walk, or one of another
+-- cost, which their number tells
 pub data IsBadWalk (g : GridData) (s t : Cell) (cost : Cost) (points : List Cell) : ℕ → Type 0 where
-  elsewhere : begins_at s points ≡ false → IsBadWalk g s t cost points 0
-  broken : {i : ℕ} → begins_at s points ≡ true → IsFirstBad g points i → IsBadWalk g s t cost points i
-  other : (paid : Cost) → begins_at s points ≡ true → IsShortWalk g points paid
-      → (ends_at t points && is_cost paid cost) ≡ false → IsBadWalk g s t cost points (length points)
+  bad_point : {i : ℕ} → IsBadPoint g s t points i → IsBadWalk g s t cost points i
+  other : (paid : Cost) → IsRightWalk g s t paid points → is_cost paid cost ≡ false
+      → IsBadWalk g s t cost points (length points)
 
 -- the potential is nothing at the start
 abbrev pub starts_at_nothing : Cell → Cell → Cost → List (Cell × Cost) → Bool

@@ -6,7 +6,8 @@ use Rattle.grid_moves.specs.Grid.{GridData}
 use Rattle.potential_check.specs.declared.certificate.Claim.{Claim}
 use Rattle.potential_check.specs.declared.verdict.Proof.{Proof}
 use Rattle.potential_check.specs.declared.verdict.Reject.{Reject}
-use Rattle.potential_check.specs.Accepted.{AcceptsClaim, IsBadWalk, IsRightWalk, RefusesClaim, claimed}
+use Rattle.potential_check.specs.Accepted.{AcceptsClaim, IsBadWalk, RefusesClaim, claimed}
+use Rattle.potential_check.specs.Walks.{IsRightWalk}
 
 -- the points are a right walk, or a bad one with this number
 pub record JudgesWalk (g : GridData) (s t : Cell) (cost : Cost) (points : List Cell) (bad : Option ℕ) :

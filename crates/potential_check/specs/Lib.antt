@@ -1,6 +1,7 @@
 pub mod Certificate
 pub mod Potential
 pub mod Moves
+pub mod Walks
 pub mod Accepted
 pub mod Heights
 pub mod Rising

@@ -5,7 +5,7 @@ use Rattle.grid_moves.specs.declared.Cell.{Cell}
 use Rattle.grid_moves.specs.declared.Corner.TheVariants.{Never, One}
 use Rattle.grid_moves.specs.Examples.{pillar}
 use Rattle.grid_moves.specs.Grid.{grid_of}
-use Rattle.text_line.specs.Numbers.{number_of}
+use Rattle.cell_lines.specs.Parts.{point_of}
 use Rattle.potential_check.specs.declared.certificate.Claim.TheVariants.{Least, NoWalk}
 use Rattle.potential_check.specs.declared.fault.CertFault.TheVariants.{Line, Order}
 use Rattle.potential_check.specs.Accepted.{leaves}
@@ -44,7 +44,7 @@ pub round_the_pillar : certificate_of (beginning ++ codes
       claim = Least (record { a = 4; b = 0 })
           (record { x = 0; y = 0 } ∷ record { x = 2; y = 0 } ∷ record { x = 2; y = 2 } ∷ []) values;
     })
-unfolding certificate_of number_of
+unfolding certificate_of point_of
 round_the_pillar = refl
 
 -- no legal move raises the values by more than its cost
@@ -74,22 +74,22 @@ greater_value = refl
 -- two lines exchanged: the second is out of order
 pub exchanged : certificate_of (beginning ++ codes "value 0 0 0 0\nvalue 0 1 1 0\nvalue 1 0 1 0\nend\n")
     ≡ Err (Order 8)
-unfolding certificate_of number_of
+unfolding certificate_of point_of
 exchanged = refl
 
 -- and so is one that is given twice
 pub given_twice : certificate_of (beginning ++ codes "value 0 0 0 0\nvalue 0 0 0 0\nend\n") ≡ Err (Order 7)
-unfolding certificate_of number_of
+unfolding certificate_of point_of
 given_twice = refl
 
 -- a listed cell outside the size is misspelt, also where it is out of order
 pub outside : certificate_of (beginning ++ codes "value 2 2 0 0\nvalue 3 0 0 0\nend\n") ≡ Err (Line 7)
-unfolding certificate_of number_of
+unfolding certificate_of point_of
 outside = refl
 
 pub no_end : certificate_of (beginning ++ codes "value 0 0 0 0\nvalue 1 0 1 0\nvalue 0 1 1 0\n")
     ≡ Err (Line 9)
-unfolding certificate_of number_of
+unfolding certificate_of point_of
 no_end = refl
 
 -- that no walk leads through between two blocked cells; a carriage return is dropped, and the last line
@@ -108,7 +108,7 @@ pub no_walk : certificate_of (codes "jps-cert 1\r\nsize 2 2\nends 0 0 1 1\nnone\
       };
       claim = NoWalk (record { x = 0; y = 0 } ∷ []);
     })
-unfolding certificate_of number_of
+unfolding certificate_of point_of
 no_walk = refl
 
 pub none_leaves : first_failing (grid_of 2 2 (codes ".@@.") Never) (leaves (record { x = 0; y = 0 } ∷ []))
@@ -133,9 +133,9 @@ pub empty_list : certificate_of (codes "jps-cert 1\nsize 2 2\nends 0 0 1 1\nnone
       };
       claim = NoWalk [];
     })
-unfolding certificate_of number_of
+unfolding certificate_of point_of
 empty_list = refl
 
 pub space_after : certificate_of (codes "jps-cert 1\nsize 2 2\nends 0 0 1 1\nnone\nend\n\n ") ≡ Err (Line 7)
-unfolding certificate_of number_of
+unfolding certificate_of point_of
 space_after = refl

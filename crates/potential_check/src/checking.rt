@@ -12,12 +12,13 @@ ghost use Rattle.potential_check.specs.Potential as potentials;
 ghost use Rattle.potential_check.specs.declared.certificate.Claim.TheVariants as claims;
 ghost use Rattle.potential_check.specs.declared.verdict.Reject.{Reject};
 
+use crate::between::walk_between;
 use crate::certificate::{Certificate, Claim};
 use crate::heights::Heights;
 use crate::rising::Hills;
 use crate::verdict::{Proof, Reject};
 use grid_moves::{Cell, Grid, Terrain, estimate};
-use path_points::{Cells, Costs, Points, check_walk};
+use path_points::{Cells, Costs, Points};
 use root2_cost::{Cost, Signed};
 
 /// What the certificate proves of the grid, or the first clause that it fails.
@@ -179,42 +180,15 @@ fn is_value(s: Signed, c: Cost) -> bool
     s == c.signed()
 }
 
-// Whether there is such a point, and it is this cell.
-fn is_at(c: Cell, point: Option<Cell>) -> bool
-    ensures { result ≡ spec.is_at c point }
-{
-    match point {
-        Some(p) => p == c,
-        None => false,
-    }
-}
-
-// Whether the first point is this cell.
-fn begins_at(s: Cell, points: &Points) -> bool
-    ensures { result ≡ spec.begins_at s points.now }
-{
-    is_at(s, points.as_slice().first().copied())
-}
-
-// Whether the last point is this cell.
-fn ends_at(t: Cell, points: &Points) -> bool
-    ensures { result ≡ spec.ends_at t points.now }
-{
-    is_at(t, points.as_slice().last().copied())
-}
-
 // The number that tells that the points are no walk from start to goal of this cost, if they aren't.
 fn bad_point(g: &Grid, s: Cell, t: Cell, cost: Cost, points: &Points) -> Option<u32>
     requires { length points.now < 2 ^ 30 }
     ensures { JudgesWalk g.now s t cost points.now result }
 {
-    if !begins_at(s, points) {
-        return Some(0);
-    }
-    match check_walk(g, points) {
-        Err(bad) => Some(bad.0),
+    match walk_between(g, s, t, points) {
+        Err(bad) => Some(bad),
         Ok(paid) => {
-            if ends_at(t, points) && paid == cost {
+            if paid == cost {
                 None
             } else {
                 Some(points.as_slice().len() as u32)

@@ -14,6 +14,7 @@
 //! Networks, 1962; Schrijver, Combinatorial Optimization, 2003, chapter 8.
 #![tactic(auto)]
 
+mod between;
 mod certificate;
 mod checking;
 mod fault;
@@ -23,6 +24,7 @@ mod reading;
 mod rising;
 mod verdict;
 
+pub use between::walk_between;
 pub use certificate::{Certificate, Claim};
 pub use checking::check;
 pub use fault::CertFault;

@@ -3,7 +3,7 @@ use Rattle.std.proofs.lemmas.Bool.Decides.{nat_tests}
 use Rattle.std.proofs.Common.{◌≡◌, ℕ, ◌+◌, ◌*◌, ◌^◌, ◌≤◌, Bool, true, List, [], ◌∷◌, length}
 use Rattle.std.proofs.Common.{mul-le-mul}
 use Rattle.std.proofs.Common.{arith}
-use Rattle.std.specs.Prelude.{codes, decimal, nat_le, nat_lt}
+use Rattle.std.specs.Prelude.{codes, nat_le, nat_lt}
 use Rattle.std.specs.List.{list_all}
 use Rattle.std.proofs.lemmas.Bool.{and_parts, ltb-true, leb-true, cases_Bool}
 use Rattle.std.proofs.lemmas.List.{length-append, length-map}
@@ -18,14 +18,8 @@ use Rattle.potential_check.specs.Certificate.{are_listed, ascend_from, cells_of,
 use Rattle.potential_check.specs.Certificate.{lies_inside}
 use Rattle.potential_make.specs.Written.{certificate_text, claim_text, head_text, least_text, member_text}
 use Rattle.potential_make.specs.Written.{point_text, texts_of, value_text}
-use Rattle.potential_make.proofs.Digits.{coordinates, small_is}
-use Rattle.potential_make.proofs.Spelled.{Fits, fits_line}
-use Rattle.text_line.proofs.Written.{four_digits, nine_digits}
-
--- digits of the parts of costs
-cost_digits : (cost : Cost) → is_small cost ≡ true → (length (decimal cost.a) ≤ 9)
-    × (length (decimal cost.b) ≤ 9)
-cost_digits cost p = let s = small_is cost p in ((nine_digits cost.a s.0).few, (nine_digits cost.b s.1).few)
+use Rattle.potential_make.proofs.Spelled.{Fits, coordinates, cost_digits, fits_line}
+use Rattle.text_line.proofs.Written.{four_digits}
 
 -- pieces of a text
 point_length : (c : Cell) → is_short c ≡ true → length (point_text c) ≤ 10
@@ -88,7 +82,7 @@ least_length : (cost : Cost) (points : List Cell) → is_small cost ≡ true →
 least_length cost points p q =
     let d = cost_digits cost p in
     let few = texts_length is_short point_text 10 point_length points q in
-    simp length-append (omega (arith, d.0, d.1, few))
+    simp length-append (omega (arith, d.0.few, d.1.few, few))
 
 claim_length : (width height : ℕ) (claim : Claim) → width ≤ 4096 → height ≤ 4096 → Fits width height claim
     → HasFewPoints claim → length (claim_text claim) ≤ 800000000

@@ -1,201 +1,240 @@
 -- The text of a certificate spells it.
-use Rattle.std.proofs.Common.{◌≡◌, ℕ, ◌^◌, ◌<◌, Bool, true, false, ◌&&◌, List, [], ◌∷◌, ◌++◌, map}
+use Rattle.std.proofs.Common.{◌≡◌, ℕ, ◌^◌, ◌<◌, Bool, true, ◌&&◌, List, [], ◌∷◌, ◌++◌, map}
 use Rattle.std.proofs.Common.{refl, ap, ◌∙◌, arith, append_assoc}
-use Rattle.std.specs.Prelude.{codes, decimal, Some, Option}
-use Rattle.std.specs.Char.{is_ascii_digit}
-use Rattle.std.specs.List.{All, list_all, slice_split}
-use Rattle.std.proofs.lemmas.Bool.{and_parts}
+use Rattle.std.specs.Prelude.{codes, decimal, None, Some, Option, if◌then◌else◌}
+use Rattle.std.specs.List.{list_all}
+use Rattle.std.proofs.lemmas.Bool.{and_parts, and_from}
 use Rattle.std.proofs.lemmas.Bool.Decides.{nat_tests}
-use Rattle.std.proofs.lemmas.List.{append-nil}
-use Rattle.std.proofs.lemmas.List.Elements.{All-nil, All-cons, All-append}
-use Rattle.std.proofs.lemmas.List.Folds.{list_all-append}
-use Rattle.std.proofs.lemmas.List.Splits.{slice_split_at, slice_split_none}
+use Rattle.std.proofs.lemmas.Slice.Eq.{bytes_eq-Decides}
+use Rattle.text_line.specs.Fields.{is_nothing}
 use Rattle.text_line.specs.Lines.{lines_of}
-use Rattle.text_line.proofs.Written.{is_plain, lines_then, plain_both, plain_digits, nine_digits}
+use Rattle.text_line.proofs.Written.{AreDigits, four_digits, lines_then, nine_digits}
 use Rattle.root2_cost.specs.declared.Cost.{Cost}
 use Rattle.grid_moves.specs.declared.Cell.{Cell}
+use Rattle.cell_lines.specs.Cells.{cell_text}
+use Rattle.cell_lines.specs.Parts.{first_two, points_in, two_numbers}
+use Rattle.cell_lines.proofs.Spaced.{filled_digits, is_spaced, line_of, line_parts, line_plain, point_back}
+use Rattle.cell_lines.proofs.Spaced.{is_filled, point_filled, two_back}
 use Rattle.potential_check.specs.declared.certificate.Claim.{Claim}
 use Rattle.potential_check.specs.declared.certificate.Claim.TheVariants.{Least, NoWalk}
 use Rattle.potential_check.specs.Certificate.{are_listed, are_sides, cells_of, is_short, is_small}
-use Rattle.potential_check.specs.Forms.{ends_on, is_space, least_on, member_on, points_in, points_on, size_on}
-use Rattle.potential_check.specs.Forms.{value_on}
+use Rattle.potential_check.specs.Forms.{ends_on, least_on, member_on, points_on, size_on}
+use Rattle.potential_check.specs.Forms.{behind, value_on, words_after}
 use Rattle.potential_check.specs.Spelling.{SpellInOrder, Spells, SpellsClaim}
-use Rattle.potential_make.specs.Written.{certificate_text, claim_text, member_text, pair_text, point_text}
+use Rattle.potential_make.specs.Written.{certificate_text, claim_text, head_text, point_text, points_text}
 use Rattle.potential_make.specs.Written.{texts_of, value_text}
-use Rattle.potential_make.proofs.Digits.{cell_read, cell_then, pair_read, word_read, coordinates, small_is}
 
 -- a cell and its value have few enough digits for their line
 abbrev pub fits_line : (Cell × Cost) → Bool
 fits_line e = is_short e.0 && is_small e.1
 
--- written numbers end no line
-plain_number : (n : ℕ) → n < 10 ^ 9 → list_all is_plain (decimal n) ≡ true
-plain_number n low = plain_digits (decimal n) (nine_digits n low).all
+pub coordinates : (c : Cell) → is_short c ≡ true
+    → AreDigits 4 c.x (decimal c.x) × AreDigits 4 c.y (decimal c.y)
+coordinates c short = (four_digits c.x (grind (arith, nat_tests)), four_digits c.y (grind (arith, nat_tests)))
 
-plain_pair : (m n : ℕ) → m < 10 ^ 9 → n < 10 ^ 9 → list_all is_plain (pair_text m n) ≡ true
-plain_pair m n small low = simp (list_all-append is_plain, plain_number m small, plain_number n low)
+pub cost_digits : (cost : Cost) → is_small cost ≡ true
+    → AreDigits 9 cost.a (decimal cost.a) × AreDigits 9 cost.b (decimal cost.b)
+cost_digits cost small =
+    (nine_digits cost.a (grind (arith, nat_tests)), nine_digits cost.b (grind (arith, nat_tests)))
 
-plain_cell : (c : Cell) → is_short c ≡ true → list_all is_plain (pair_text c.x c.y) ≡ true
-plain_cell c e =
-    let digits = coordinates c e in
-    simp (
-      list_all-append is_plain,
-      plain_digits (decimal c.x) digits.0.all,
-      plain_digits (decimal c.y) digits.1.all,
-    )
+-- the lines, each by its first word and the others
+abbrev Line : Type 0
+Line = List ℕ × List (List ℕ)
 
-plain_cost : (cost : Cost) → is_small cost ≡ true → list_all is_plain (pair_text cost.a cost.b) ≡ true
-plain_cost cost e = let s = small_is cost e in plain_pair cost.a cost.b s.0 s.1
+abbrev pair_line : List ℕ → ℕ → ℕ → Line
+pair_line word m n = (word, decimal m ∷ decimal n ∷ [])
 
--- the lines
-abbrev size_line : ℕ → ℕ → List ℕ
-size_line width height = codes "size " ++ pair_text width height
+abbrev four_line : List ℕ → ℕ → ℕ → ℕ → ℕ → Line
+four_line word m n k l = (word, decimal m ∷ decimal n ∷ decimal k ∷ decimal l ∷ [])
 
-abbrev ends_line : Cell → Cell → List ℕ
-ends_line s t = codes "ends " ++ pair_text s.x s.y ++ codes " " ++ pair_text t.x t.y
+abbrev word_line : List ℕ → Line
+word_line word = (word, [])
 
-abbrev least_line : Cost → List ℕ
-least_line cost = codes "least " ++ pair_text cost.a cost.b
+abbrev points_line : List Cell → Line
+points_line points = (codes "points", map cell_text points)
 
-abbrev points_line : List Cell → List ℕ
-points_line points = codes "points" ++ texts_of point_text points
+abbrev value_line : (Cell × Cost) → Line
+value_line e = four_line (codes "value") e.0.x e.0.y e.1.a e.1.b
 
-abbrev value_line : (Cell × Cost) → List ℕ
-value_line e = codes "value " ++ pair_text e.0.x e.0.y ++ codes " " ++ pair_text e.1.a e.1.b
+abbrev member_line : Cell → Line
+member_line c = pair_line (codes "in") c.x c.y
 
-abbrev member_line : Cell → List ℕ
-member_line c = codes "in " ++ pair_text c.x c.y
+abbrev claim_lines : Claim → List Line
+claim_lines (Least cost points values) =
+    pair_line (codes "least") cost.a cost.b ∷ points_line points ∷ map value_line values
+claim_lines (NoWalk cells) = word_line (codes "none") ∷ map member_line cells
 
--- what they spell
-size_spells : (width height : ℕ) → width < 10 ^ 9 → height < 10 ^ 9 → are_sides width height ≡ true
-    → size_on (size_line width height) ≡ Some (width, height)
-size_spells width height w h are =
-    rw (word_read (codes "size ") (pair_text width height), pair_read width height w h, are) refl
+abbrev head_lines : ℕ → ℕ → Cell → Cell → List Line
+head_lines width height s t =
+    (codes "jps-cert", codes "1" ∷ []) ∷ pair_line (codes "size") width height
+    ∷ four_line (codes "ends") s.x s.y t.x t.y ∷ []
 
-ends_spells : (s t : Cell) → is_short s ≡ true → is_short t ≡ true → ends_on (ends_line s t) ≡ Some (s, t)
-ends_spells s t p q =
-    let rest : List ℕ = decimal t.x ++ 32 ∷ decimal t.y in
-    let line : List ℕ = decimal s.x ++ 32 ∷ (decimal s.y ++ 32 ∷ rest) in
-    let is : ends_line s t ≡ codes "ends " ++ line = simp append_assoc in
-    ap ends_on is ∙ rw (word_read (codes "ends ") line, cell_then s rest p, cell_read 32 t refl q) refl
+-- a line and its end
+abbrev ended : Line → List ℕ
+ended line = line_of line ++ codes "\n"
 
-least_spells : (cost : Cost) → is_small cost ≡ true → least_on (least_line cost) ≡ Some cost
-least_spells cost e =
-    let s = small_is cost e in
-    rw (word_read (codes "least ") (pair_text cost.a cost.b), pair_read cost.a cost.b s.0 s.1) refl
+-- lines with their ends before a text
+abbrev written : List Line → List ℕ → List ℕ
+written [] rest = rest
+written (line ∷ lines) rest = ended line ++ written lines rest
 
-value_spells : (e : Cell × Cost) → fits_line e ≡ true → value_on (value_line e) ≡ Some e
-value_spells (c, cost) fits =
-    let f = and_parts (is_short c) (is_small cost) fits in
-    let b = small_is cost f.1 in
-    let rest : List ℕ = pair_text cost.a cost.b in
-    let line : List ℕ = decimal c.x ++ 32 ∷ (decimal c.y ++ 32 ∷ rest) in
-    let is : value_line (c, cost) ≡ codes "value " ++ line = simp append_assoc in
-    ap value_on is
-    ∙ rw (word_read (codes "value ") line, cell_then c rest f.0, pair_read cost.a cost.b b.0 b.1) refl
+list_written : {X : Type 0} (line : X → Line) (xs : List X) (rest : List ℕ)
+    → texts_of (λ x. ended (line x)) xs ++ rest ≡ written (map line xs) rest
+list_written line [] rest = refl
+list_written line (x ∷ xs) rest = append_assoc (ended (line x)) (texts_of (λ x. ended (line x)) xs) rest
+    ∙ ap (λ (l : List ℕ). ended (line x) ++ l) (list_written line xs rest)
 
-member_spells : (c : Cell) → is_short c ≡ true → member_on (member_line c) ≡ Some c
-member_spells c p =
-    let line : List ℕ = decimal c.x ++ 32 ∷ decimal c.y in
-    let is : member_line c ≡ codes "in " ++ line = simp append_assoc in
-    ap member_on is ∙ rw (word_read (codes "in ") line, cell_read 32 c refl p) refl
-
--- points as words
-abbrev point_word : Cell → List ℕ
-point_word c = decimal c.x ++ 44 ∷ decimal c.y
-
-no_spaces : (digits : List ℕ) → list_all is_ascii_digit digits ≡ true → All (λ b. is_space b ≡ false) digits
-no_spaces [] all = All-nil (λ b. is_space b ≡ false)
-no_spaces (b ∷ digits) all =
-    let parts = and_parts (is_ascii_digit b) (list_all is_ascii_digit digits) all in
-    All-cons (λ b. is_space b ≡ false) b digits (filled b parts.0) (no_spaces digits parts.1)
+points_written : (points : List Cell) → points_text points ≡ ended (points_line points)
+points_written points = ap (λ (l : List ℕ). codes "points" ++ l ++ codes "\n") (words points)
   where
-    filled : (byte : ℕ) → is_ascii_digit byte ≡ true → is_space byte ≡ false
-    filled byte e = grind (arith, nat_tests)
+    words : (points : List Cell)
+        → texts_of point_text points ≡ texts_of (λ word. 32 ∷ word) (map cell_text points)
+    words [] = refl
+    words (p ∷ points) = ap (λ (l : List ℕ). point_text p ++ l) (words points)
 
-point_filled : (c : Cell) → is_short c ≡ true → All (λ b. is_space b ≡ false) (point_word c)
-point_filled c e =
-    let digits = coordinates c e in
-    All-append (λ b. is_space b ≡ false) (decimal c.x) (44 ∷ decimal c.y)
-    (no_spaces (decimal c.x) digits.0.all)
-    (All-cons (λ b. is_space b ≡ false) 44 (decimal c.y) refl (no_spaces (decimal c.y) digits.1.all))
+claim_written : (claim : Claim) (rest : List ℕ) → claim_text claim ++ rest ≡ written (claim_lines claim) rest
+claim_written (Least cost points values) rest =
+    let first : List ℕ = ended (pair_line (codes "least") cost.a cost.b) in
+    append_assoc (first ++ points_text points) (texts_of value_text values) rest
+    ∙ append_assoc first (points_text points) (texts_of value_text values ++ rest)
+    ∙ ap (λ (l : List ℕ). first ++ (l ++ (texts_of value_text values ++ rest))) (points_written points)
+    ∙ ap (λ (l : List ℕ). first ++ (ended (points_line points) ++ l)) (list_written value_line values rest)
+claim_written (NoWalk cells) rest = ap (λ (l : List ℕ). codes "none\n" ++ l) (list_written member_line cells rest)
 
-texts_first : (c : Cell) (points : List Cell)
-    → texts_of point_text (c ∷ points) ≡ 32 ∷ (point_word c ++ texts_of point_text points)
-texts_first c points = simp append_assoc
+head_written : (width height : ℕ) (s t : Cell) (rest : List ℕ)
+    → head_text width height s t ++ rest ≡ written (head_lines width height s t) rest
+head_written width height s t rest =
+    let size : List ℕ = ended (pair_line (codes "size") width height) in
+    let ends : List ℕ = ended (four_line (codes "ends") s.x s.y t.x t.y) in
+    append_assoc (codes "jps-cert 1\n" ++ size) ends rest ∙ append_assoc (codes "jps-cert 1\n") size (ends ++ rest)
 
-words_split : (c : Cell) (points : List Cell) → list_all is_short (c ∷ points) ≡ true
-    → slice_split is_space (point_word c ++ texts_of point_text points) ≡ map point_word (c ∷ points)
-words_split c [] all =
-    let parts = and_parts (is_short c) true all in
-    ap (λ (l : List ℕ). slice_split is_space l) (append-nil (point_word c))
-    ∙ slice_split_none is_space (point_word c) (point_filled c parts.0)
-words_split c (d ∷ points) all =
-    let parts = and_parts (is_short c) (list_all is_short (d ∷ points)) all in
-    ap (λ (l : List ℕ). slice_split is_space (point_word c ++ l)) (texts_first d points)
-    ∙ slice_split_at is_space (point_word c) 32 (point_word d ++ texts_of point_text points)
-    (point_filled c parts.0)
-    refl
-    ∙ ap (λ (l : List (List ℕ)). point_word c ∷ l) (words_split d points parts.1)
+-- lines of words are lines of the text
+lines_back : (lines : List Line) (rest : List ℕ) → list_all is_spaced lines ≡ true
+    → lines_of (written lines rest) ≡ map line_of lines ++ lines_of rest
+lines_back [] rest all = refl
+lines_back (line ∷ lines) rest all =
+    let each = and_parts (is_spaced line) (list_all is_spaced lines) all in
+    ap lines_of (append_assoc (line_of line) (codes "\n") (written lines rest))
+    ∙ lines_then (line_of line) (written lines rest) (line_plain line each.0)
+    ∙ ap (λ (l : List (List ℕ)). line_of line ∷ l) (lines_back lines rest each.1)
 
-words_spell : (points : List Cell) → list_all is_short points ≡ true → points_in (map point_word points)
-    ≡ Some points
-words_spell [] all = refl
-words_spell (c ∷ points) all =
-    let parts = and_parts (is_short c) (list_all is_short points) all in
-    rw (cell_read 44 c refl parts.0, words_spell points parts.1) refl
+-- a line of words that spells this
+record Says {X : Type 0} (on : List ℕ → Option X) (line : Line) (x : X) : Type 0 where
+  spaced : is_spaced line ≡ true
+  spells : on (line_of line) ≡ Some x
 
-points_spell : (c : Cell) (points : List Cell) → list_all is_short (c ∷ points) ≡ true
-    → points_on (points_line (c ∷ points)) ≡ Some (c ∷ points)
-points_spell c points all =
-    let is : points_line (c ∷ points) ≡ codes "points " ++ (point_word c ++ texts_of point_text points) =
-    ap (λ (l : List ℕ). codes "points" ++ l) (texts_first c points) in
-    ap points_on is
-    ∙ rw (word_read (codes "points ") (point_word c ++ texts_of point_text points), words_split c points all)
-    (words_spell (c ∷ points) all)
+-- two numbers behind a word, or four
+pair_says : (word : List ℕ) → list_all is_filled word ≡ true → (most m n : ℕ)
+    → AreDigits most m (decimal m) → AreDigits most n (decimal n)
+    → Says (λ l. two_numbers most (words_after word l)) (pair_line word m n) (m, n)
+pair_says word filled most m n a b =
+    let all : is_spaced (pair_line word m n) ≡ true =
+    rw (filled, filled_digits (decimal m) a.all, filled_digits (decimal n) b.all) refl in
+    record {
+      spaced = all;
+      spells = rw (
+        line_parts (pair_line word m n) all,
+        (bytes_eq-Decides word word).1 refl,
+        two_back most m n [] a b,
+      ) refl;
+    }
 
--- and they end no line
-plain_ends : (s t : Cell) → is_short s ≡ true → is_short t ≡ true → list_all is_plain (ends_line s t) ≡ true
-plain_ends s t p q =
-    plain_both (codes "ends " ++ pair_text s.x s.y ++ codes " ") (pair_text t.x t.y)
-    (plain_both (codes "ends " ++ pair_text s.x s.y) (codes " ") (plain_cell s p) refl) (plain_cell t q)
+record SaysFour (word : List ℕ) (most more m n k l : ℕ) : Type 0 where
+  spaced : is_spaced (four_line word m n k l) ≡ true
+  first : first_two most (words_after word (line_of (four_line word m n k l)))
+      ≡ Some ((m, n), decimal k ∷ decimal l ∷ [])
+  second : two_numbers more (decimal k ∷ decimal l ∷ []) ≡ Some (k, l)
 
-plain_points : (points : List Cell) → list_all is_short points ≡ true
-    → list_all is_plain (texts_of point_text points) ≡ true
-plain_points [] all = refl
-plain_points (c ∷ points) all =
-    let parts = and_parts (is_short c) (list_all is_short points) all in
-    let digits = coordinates c parts.0 in
-    simp (
-      list_all-append is_plain,
-      plain_digits (decimal c.x) digits.0.all,
-      plain_digits (decimal c.y) digits.1.all,
-      plain_points points parts.1,
-    )
+four_says : (word : List ℕ) → list_all is_filled word ≡ true → (most more m n k l : ℕ)
+    → AreDigits most m (decimal m) → AreDigits most n (decimal n) → AreDigits more k (decimal k)
+    → AreDigits more l (decimal l) → SaysFour word most more m n k l
+four_says word filled most more m n k l a b c d =
+    let all : is_spaced (four_line word m n k l) ≡ true =
+    rw (
+      filled,
+      filled_digits (decimal m) a.all,
+      filled_digits (decimal n) b.all,
+      filled_digits (decimal k) c.all,
+      filled_digits (decimal l) d.all,
+    ) refl in
+    record {
+      spaced = all;
+      first = rw (line_parts (four_line word m n k l) all, (bytes_eq-Decides word word).1 refl)
+          (two_back most m n (decimal k ∷ decimal l ∷ []) a b);
+      second = rw (two_back more k l [] c d) refl;
+    }
 
-plain_value : (e : Cell × Cost) → fits_line e ≡ true → list_all is_plain (value_line e) ≡ true
-plain_value e h1 = grind (arith, nat_tests, and_parts, plain_both, plain_cell, plain_cost)
+-- so the lines say what was written
+size_says : (width height : ℕ) → width < 10 ^ 9 → height < 10 ^ 9 → are_sides width height ≡ true
+    → Says size_on (pair_line (codes "size") width height) (width, height)
+size_says width height w h are =
+    let s = pair_says (codes "size") refl 9 width height (nine_digits width w) (nine_digits height h) in
+    record { spaced = s.spaced; spells = rw (s.spells, are) refl }
 
--- the lines of a list of what passes a test, and the last line
-module _ {X : Type 0} (p : X → Bool) (line text : X → List ℕ) (is : (x : X) → text x ≡ line x ++ 10 ∷ [])
-    (plain : (x : X) → p x ≡ true → list_all is_plain (line x) ≡ true) where
-  list_lines : (xs : List X) → list_all p xs ≡ true
-      → lines_of (texts_of text xs ++ codes "end\n") ≡ map line xs ++ codes "end" ∷ []
-  list_lines [] all = refl
-  list_lines (x ∷ xs) all =
-      let parts = and_parts (p x) (list_all p xs) all in
-      let rest : List ℕ = texts_of text xs ++ codes "end\n" in
-      let first : texts_of text (x ∷ xs) ++ codes "end\n" ≡ line x ++ 10 ∷ rest = rw (is x)
-      (simp append_assoc) in
-      ap lines_of first ∙ lines_then (line x) rest (plain x parts.0)
-      ∙ ap (λ (l : List (List ℕ)). line x ∷ l) (list_lines xs parts.1)
+ends_says : (s t : Cell) → is_short s ≡ true → is_short t ≡ true
+    → Says ends_on (four_line (codes "ends") s.x s.y t.x t.y) (s, t)
+ends_says s t p q =
+    let a = coordinates s p in
+    let b = coordinates t q in
+    let l = four_says (codes "ends") refl 4 4 s.x s.y t.x t.y a.0 a.1 b.0 b.1 in
+    record { spaced = l.spaced; spells = rw (l.first, l.second) refl }
 
-module _ {X : Type 0} (p : X → Bool) (line : X → List ℕ) (on : List ℕ → Option X)
-    (spells : (x : X) → p x ≡ true → on (line x) ≡ Some x) where
-  list_spells : (xs : List X) → list_all p xs ≡ true → SpellInOrder on (map line xs) xs
-  list_spells [] all = tt
-  list_spells (x ∷ xs) all =
-      let parts = and_parts (p x) (list_all p xs) all in (spells x parts.0, list_spells xs parts.1)
+least_says : (cost : Cost) → is_small cost ≡ true
+    → Says least_on (pair_line (codes "least") cost.a cost.b) cost
+least_says cost small =
+    let d = cost_digits cost small in
+    let l = pair_says (codes "least") refl 9 cost.a cost.b d.0 d.1 in
+    record { spaced = l.spaced; spells = rw l.spells refl }
+
+value_says : (e : Cell × Cost) → fits_line e ≡ true → Says value_on (value_line e) e
+value_says (c, cost) fits =
+    let f = and_parts (is_short c) (is_small cost) fits in
+    let a = coordinates c f.0 in
+    let b = cost_digits cost f.1 in
+    let l = four_says (codes "value") refl 4 9 c.x c.y cost.a cost.b a.0 a.1 b.0 b.1 in
+    record { spaced = l.spaced; spells = rw (l.first, l.second) refl }
+
+member_says : (c : Cell) → is_short c ≡ true → Says member_on (member_line c) c
+member_says c short =
+    let d = coordinates c short in
+    let l = pair_says (codes "in") refl 4 c.x c.y d.0 d.1 in
+    record { spaced = l.spaced; spells = rw l.spells refl }
+
+points_back : (points : List Cell) → list_all is_short points ≡ true
+    → (list_all (list_all is_filled) (map cell_text points) ≡ true)
+    × (points_in (map cell_text points) ≡ Some points)
+points_back [] all = (refl, refl)
+points_back (c ∷ points) all =
+    let each = and_parts (is_short c) (list_all is_short points) all in
+    let x : c.x < 10000 = grind (arith, nat_tests) in
+    let y : c.y < 10000 = grind (arith, nat_tests) in
+    let later = points_back points each.1 in
+    (rw (point_filled c x y, later.0) refl, rw (point_back c x y, later.1) refl)
+
+abbrev said : List (List ℕ) → Option (List Cell)
+said words =
+    if is_nothing (behind (codes "points") words) then None else points_in (behind (codes "points") words)
+
+points_say : (c : Cell) (points : List Cell) → list_all is_short (c ∷ points) ≡ true
+    → Says points_on (points_line (c ∷ points)) (c ∷ points)
+points_say c points all =
+    let back = points_back (c ∷ points) all in
+    record {
+      spaced = back.0;
+      spells = ap said (line_parts (points_line (c ∷ points)) back.0) ∙ back.1;
+    }
+
+-- a list of what passes a test
+module _ {X : Type 0} (p : X → Bool) (line : X → Line) (on : List ℕ → Option X)
+    (says : (x : X) → p x ≡ true → Says on (line x) x) where
+  list_says : (xs : List X) → list_all p xs ≡ true
+      → (list_all is_spaced (map line xs) ≡ true) × SpellInOrder on (map line_of (map line xs)) xs
+  list_says [] all = (refl, tt)
+  list_says (x ∷ xs) all =
+      let each = and_parts (p x) (list_all p xs) all in
+      let first = says x each.0 in
+      let later = list_says xs each.1 in
+      (rw (first.spaced, later.0) refl, (first.spells, later.1))
 
 -- a claim that fits: its numbers are short enough for their lines, and its list ascends
 pub record FitsLeast (width height : ℕ) (cost : Cost) (points : List Cell)
@@ -220,55 +259,45 @@ Fits width height (NoWalk cells) = FitsNone width height cells
 record ClaimLines (width height : ℕ) (s t : Cell) (claim : Claim) : Type 0 where
   first : List ℕ
   body : List (List ℕ)
-  lines : lines_of (claim_text claim ++ codes "end\n") ≡ first ∷ (body ++ codes "end" ∷ [])
+  lines : map line_of (claim_lines claim) ≡ first ∷ body
+  spaced : list_all is_spaced (claim_lines claim) ≡ true
   spells : SpellsClaim (record { width = width; height = height; start = s; goal = t }) claim first body
 
-claim_lines : (width height : ℕ) (s t : Cell) (claim : Claim) → Fits width height claim
+claim_spells : (width height : ℕ) (s t : Cell) (claim : Claim) → Fits width height claim
     → ClaimLines width height s t claim
-claim_lines width height s t (Least cost points values) f = record {
-  first = least_line cost;
-  body = points_line points ∷ map value_line values;
-  lines =
-      let rest : List ℕ = texts_of value_text values ++ codes "end\n" in
-      let is : claim_text (Least cost points values) ++ codes "end\n"
-      ≡ least_line cost ++ 10 ∷ (points_line points ++ 10 ∷ rest) = simp append_assoc in
-      ap lines_of is
-      ∙ lines_then (least_line cost) (points_line points ++ 10 ∷ rest)
-      (plain_cost cost f.cost_small)
-      ∙ ap (λ (l : List (List ℕ)). least_line cost ∷ l)
-      (lines_then (points_line points) rest
-      (plain_points points f.points_short)
-      ∙ ap (λ (l : List (List ℕ)). points_line points ∷ l)
-      (list_lines fits_line value_line value_text (λ e. simp append_assoc) plain_value values f.values_fit));
-  spells = record {
-    second = points_line points;
-    list = map value_line values;
-    body_is = refl;
-    cost_is = least_spells cost f.cost_small;
-    points_is = spell_points points f.first f.more f.points_are f.points_short;
-    values_are = list_spells fits_line value_line value_on value_spells values f.values_fit;
-    listed = f.listed;
-  };
-}
+claim_spells width height s t (Least cost points values) f =
+    let first = least_says cost f.cost_small in
+    let second : Says points_on (points_line points) points =
+    say_points points f.first f.more f.points_are f.points_short in
+    let list = list_says fits_line value_line value_on value_says values f.values_fit in
+    record {
+      first = line_of (pair_line (codes "least") cost.a cost.b);
+      body = line_of (points_line points) ∷ map line_of (map value_line values);
+      lines = refl;
+      spaced = and_from _ _ first.spaced (and_from _ _ second.spaced list.0);
+      spells = record {
+        second = line_of (points_line points);
+        list = map line_of (map value_line values);
+        body_is = refl;
+        cost_is = first.spells;
+        points_is = second.spells;
+        values_are = list.1;
+        listed = f.listed;
+      };
+    }
   where
-    spell_points : (points : List Cell) (c : Cell) (more : List Cell) → points ≡ c ∷ more
-        → list_all is_short points ≡ true → points_on (points_line points) ≡ Some points
-    spell_points points c more e all = rw e (points_spell c more (rw e at all))
-claim_lines width height s t (NoWalk cells) f = record {
-  first = codes "none";
-  body = map member_line cells;
-  lines =
-      let rest : List ℕ = texts_of member_text cells ++ codes "end\n" in
-      lines_then (codes "none") rest refl
-      ∙ ap (λ (l : List (List ℕ)). codes "none" ∷ l) (list_lines is_short member_line member_text
-      (λ c. simp append_assoc)
-      plain_cell cells f.cells_short);
-  spells = record {
-    none_is = refl;
-    cells_are = list_spells is_short member_line member_on member_spells cells f.cells_short;
-    listed = f.listed;
-  };
-}
+    say_points : (points : List Cell) (c : Cell) (more : List Cell) → points ≡ c ∷ more
+        → list_all is_short points ≡ true → Says points_on (points_line points) points
+    say_points points c more e all = rw e (points_say c more (rw e at all))
+claim_spells width height s t (NoWalk cells) f =
+    let list = list_says is_short member_line member_on member_says cells f.cells_short in
+    record {
+      first = codes "none";
+      body = map line_of (map member_line cells);
+      lines = refl;
+      spaced = list.0;
+      spells = record { none_is = refl; cells_are = list.1; listed = f.listed };
+    }
 
 -- the whole text
 pub text_spells : (width height : ℕ) (s t : Cell) (claim : Claim) → width < 10 ^ 9 → height < 10 ^ 9
@@ -276,29 +305,29 @@ pub text_spells : (width height : ℕ) (s t : Cell) (claim : Claim) → width < 
     → Spells (certificate_text width height s t claim)
     (record { head = record { width = width; height = height; start = s; goal = t }; claim = claim })
 text_spells width height s t claim w h sides p q f =
-    let c = claim_lines width height s t claim f in
-    let rest : List ℕ = claim_text claim ++ codes "end\n" in
-    let is : certificate_text width height s t claim
-    ≡ codes "jps-cert 1" ++ 10 ∷ (size_line width height ++ 10 ∷ (ends_line s t ++ 10 ∷ rest)) =
-    simp append_assoc in
+    let c = claim_spells width height s t claim f in
+    let size = size_says width height w h sides in
+    let ends = ends_says s t p q in
+    let head : List Line = head_lines width height s t in
+    let rest : List ℕ = written (claim_lines claim) (codes "end\n") in
+    let is : certificate_text width height s t claim ≡ written head rest =
+    append_assoc (head_text width height s t) (claim_text claim) (codes "end\n")
+    ∙ ap (λ (l : List ℕ). head_text width height s t ++ l) (claim_written claim (codes "end\n"))
+    ∙ head_written width height s t rest in
     record {
       version = codes "jps-cert 1";
-      size = size_line width height;
-      ends = ends_line s t;
+      size = line_of (pair_line (codes "size") width height);
+      ends = line_of (four_line (codes "ends") s.x s.y t.x t.y);
       claim = c.first;
       body = c.body;
       others = [];
-      lines = ap lines_of is
-          ∙ lines_then (codes "jps-cert 1") (size_line width height ++ 10 ∷ (ends_line s t ++ 10 ∷ rest)) refl
-          ∙ ap (λ (l : List (List ℕ)). codes "jps-cert 1" ∷ l)
-          (lines_then (size_line width height) (ends_line s t ++ 10 ∷ rest)
-          (plain_pair width height w h)
-          ∙ ap (λ (l : List (List ℕ)). size_line width height ∷ l)
-          (lines_then (ends_line s t) rest (plain_ends s t p q)
-          ∙ ap (λ (l : List (List ℕ)). ends_line s t ∷ l) c.lines));
+      lines = ap lines_of is ∙ lines_back head rest (rw (size.spaced, ends.spaced) refl)
+          ∙ ap (λ (l : List (List ℕ)). map line_of head ++ l)
+          (lines_back (claim_lines claim) (codes "end\n") c.spaced
+          ∙ ap (λ (l : List (List ℕ)). l ++ codes "end" ∷ []) c.lines);
       version_is = refl;
-      size_is = size_spells width height w h sides;
-      ends_is = ends_spells s t p q;
+      size_is = size.spells;
+      ends_is = ends.spells;
       claim_is = c.spells;
       nothing = tt;
     }

@@ -9,32 +9,38 @@ use Rattle.plain_search.specs.declared.lists.Listed.TheVariants.{Found, None}
 use Rattle.potential_check.specs.declared.certificate.Claim.{Claim}
 use Rattle.potential_check.specs.declared.certificate.Claim.TheVariants.{Least, NoWalk}
 
--- two numbers, parted by a space
-abbrev pub pair_text : ℕ → ℕ → List ℕ
-pair_text m n = decimal m ++ codes " " ++ decimal n
+-- a number behind a space
+abbrev pub number_text : ℕ → List ℕ
+number_text n = codes " " ++ decimal n
 
--- the end of a line, and the line of start and goal
+-- a line of a word and numbers
+abbrev pub line_text : List ℕ → List ℕ → List ℕ
+line_text word numbers = word ++ texts_of number_text numbers ++ codes "\n"
+
+-- the line of start and goal
 abbrev pub ends_text : Cell → Cell → List ℕ
-ends_text s t = codes "\nends " ++ pair_text s.x s.y ++ codes " " ++ pair_text t.x t.y ++ codes "\n"
+ends_text s t = line_text (codes "ends") (s.x ∷ s.y ∷ t.x ∷ t.y ∷ [])
 
 -- the lines of the version, the sides and the ends
 abbrev pub head_text : ℕ → ℕ → Cell → Cell → List ℕ
-head_text width height s t = codes "jps-cert 1\nsize " ++ pair_text width height ++ ends_text s t
+head_text width height s t =
+    codes "jps-cert 1\n" ++ line_text (codes "size") (width ∷ height ∷ []) ++ ends_text s t
+
+-- the line of the points
+abbrev pub points_text : List Cell → List ℕ
+points_text points = codes "points" ++ texts_of point_text points ++ codes "\n"
 
 -- the line of the cost, and that of the points
 abbrev pub least_text : Cost → List Cell → List ℕ
-least_text cost points =
-    codes "least " ++ pair_text cost.a cost.b ++ codes "\npoints" ++ texts_of point_text points ++ codes "\n"
+least_text cost points = line_text (codes "least") (cost.a ∷ cost.b ∷ []) ++ points_text points
 
 -- the line of a cell and its value
 abbrev pub value_text : (Cell × Cost) → List ℕ
-value_text entry =
-    codes "value " ++ pair_text entry.0.x entry.0.y ++ codes " " ++ pair_text entry.1.a entry.1.b
-    ++ codes "\n"
+value_text entry = line_text (codes "value") (entry.0.x ∷ entry.0.y ∷ entry.1.a ∷ entry.1.b ∷ [])
 
 -- the line of a listed cell
 abbrev pub member_text : Cell → List ℕ
-member_text c = codes "in " ++ pair_text c.x c.y ++ codes "\n"
+member_text c = line_text (codes "in") (c.x ∷ c.y ∷ [])
 
 -- the lines of a claim
 abbrev pub claim_text : Claim → List ℕ

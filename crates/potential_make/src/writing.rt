@@ -35,20 +35,31 @@ pub fn certificate(alloc: Global, g: &Grid, from: Cell, to: Cell) -> Result<Vec<
     Ok(text)
 }
 
-// Appends two numbers, parted by a space.
-fn put_pair(out: &mut Vec<u8>, m: u32, n: u32) -> Result<(), NoMemory>
-    ensures { OnOk result (out.new.items ≡ out.old.items ++ spec.pair_text m n) }
+// Appends the number behind a space.
+fn put_next(out: &mut Vec<u8>, n: u32) -> Result<(), NoMemory>
+    ensures { OnOk result (out.new.items ≡ out.old.items ++ spec.number_text n) }
 {
-    put_number(out, u64::from(m))?;
     put(out, b" ")?;
     put_number(out, u64::from(n))
 }
 
-// Appends a cell's column and row, parted by a space.
-fn put_cell(out: &mut Vec<u8>, c: Cell) -> Result<(), NoMemory>
-    ensures { OnOk result (out.new.items ≡ out.old.items ++ spec.pair_text c.x c.y) }
+// Appends each number behind a space.
+fn put_numbers(out: &mut Vec<u8>, numbers: &[u32]) -> Result<(), NoMemory>
+    ensures { OnOk result (out.new.items ≡ out.old.items ++ spec.texts_of spec.number_text numbers.now) }
 {
-    put_pair(out, u32::from(c.x), u32::from(c.y))
+    for n in numbers {
+        put_next(out, *n)?;
+    }
+    Ok(())
+}
+
+// Appends a line of the word and the numbers.
+fn put_line(out: &mut Vec<u8>, word: &[u8], numbers: &[u32]) -> Result<(), NoMemory>
+    ensures { OnOk result (out.new.items ≡ out.old.items ++ spec.line_text word.now numbers.now) }
+{
+    put(out, word)?;
+    put_numbers(out, numbers)?;
+    put(out, b"\n")
 }
 
 // Appends the lines that begin a certificate.
@@ -57,20 +68,25 @@ fn put_head(out: &mut Vec<u8>, g: &Grid, from: Cell, to: Cell) -> Result<(), NoM
     ensures whole { IsGrid g.now }
 {
     let (width, height) = (u32::from(g.width()), u32::from(g.height()));
-    put(out, b"jps-cert 1\nsize ")?;
-    put_pair(out, width, height)?;
+    put(out, b"jps-cert 1\n")?;
+    put_line(out, b"size", &[width, height])?;
     put_ends(out, from, to)
 }
 
-// Appends the line of the ends, behind the end of the line before.
+// Appends the line of the ends.
 fn put_ends(out: &mut Vec<u8>, from: Cell, to: Cell) -> Result<(), NoMemory>
     ensures { OnOk result (out.new.items ≡ out.old.items ++ spec.ends_text from to) }
 {
-    put(out, b"\nends ")?;
-    put_cell(out, from)?;
-    put(out, b" ")?;
-    put_cell(out, to)?;
-    put(out, b"\n")
+    put_line(
+        out,
+        b"ends",
+        &[
+            u32::from(from.x),
+            u32::from(from.y),
+            u32::from(to.x),
+            u32::from(to.y),
+        ],
+    )
 }
 
 // Appends the lines of the claim.
@@ -98,9 +114,8 @@ fn put_claim(out: &mut Vec<u8>, found: &Listed) -> Result<(), NoMemory>
 fn put_least(out: &mut Vec<u8>, cost: Cost, points: &[Cell]) -> Result<(), NoMemory>
     ensures { OnOk result (out.new.items ≡ out.old.items ++ spec.least_text cost points.now) }
 {
-    put(out, b"least ")?;
-    put_pair(out, cost.a, cost.b)?;
-    put(out, b"\npoints")?;
+    put_line(out, b"least", &[cost.a, cost.b])?;
+    put(out, b"points")?;
     put_points(out, points)?;
     put(out, b"\n")
 }
@@ -109,11 +124,11 @@ fn put_least(out: &mut Vec<u8>, cost: Cost, points: &[Cell]) -> Result<(), NoMem
 fn put_value(out: &mut Vec<u8>, c: Cell, cost: Cost) -> Result<(), NoMemory>
     ensures { OnOk result (out.new.items ≡ out.old.items ++ spec.value_text (c, cost)) }
 {
-    put(out, b"value ")?;
-    put_cell(out, c)?;
-    put(out, b" ")?;
-    put_pair(out, cost.a, cost.b)?;
-    put(out, b"\n")
+    put_line(
+        out,
+        b"value",
+        &[u32::from(c.x), u32::from(c.y), cost.a, cost.b],
+    )
 }
 
 // Appends a line for each value.
@@ -130,9 +145,7 @@ fn put_values(out: &mut Vec<u8>, values: &[(Cell, Cost)]) -> Result<(), NoMemory
 fn put_member(out: &mut Vec<u8>, c: Cell) -> Result<(), NoMemory>
     ensures { OnOk result (out.new.items ≡ out.old.items ++ spec.member_text c) }
 {
-    put(out, b"in ")?;
-    put_cell(out, c)?;
-    put(out, b"\n")
+    put_line(out, b"in", &[u32::from(c.x), u32::from(c.y)])
 }
 
 // Appends a line for each cell.

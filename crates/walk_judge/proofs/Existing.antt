@@ -1,21 +1,20 @@
 -- Whatever is told of the walks between two cells has a judgement, where their least cost is known.
-use Rattle.std.proofs.Common.{◌≡◌, refl, Bool, true, false, List, length}
+use Rattle.std.proofs.Common.{◌≡◌, refl, ℕ, Bool, true, false, List}
 use Rattle.std.specs.Prelude.{Option, Some, None, Result, Ok, Err}
 use Rattle.root2_cost.specs.declared.Cost.{Cost}
 use Rattle.grid_moves.specs.declared.Cell.{Cell}
 use Rattle.grid_moves.specs.Grid.{GridData}
-use Rattle.path_points.specs.declared.checking.BadAt.{BadAt}
-use Rattle.path_points.proofs.Checks.{IsVerdict}
 use Rattle.plain_search.specs.Costs.{IsCostTo}
-use Rattle.potential_check.specs.Accepted.{IsRightWalk, begins_at, ends_at, is_cost}
-use Rattle.potential_check.proofs.Walks.{short_right, is_cost-itself}
+use Rattle.potential_check.specs.Accepted.{is_cost}
+use Rattle.potential_check.specs.Walks.{IsRightWalk}
+use Rattle.potential_check.proofs.Walks.{IsJudged, has_answer}
 use Rattle.walk_judge.specs.declared.judging.Judged.{Judged}
 use Rattle.walk_judge.specs.declared.judging.Judged.TheVariants.{Least, NoWalk as Nothing, BadWalk, Longer}
 use Rattle.walk_judge.specs.declared.judging.Judged.TheVariants.{Exists}
 use Rattle.walk_judge.specs.declared.telling.Told.{Told}
 use Rattle.walk_judge.specs.declared.telling.Told.TheVariants as told
-use Rattle.walk_judge.specs.Judgement.{elsewhere, broken, short_of, IsJudgement}
-use Rattle.walk_judge.proofs.Judgements.{has_verdict, judged_same, judged_longer}
+use Rattle.walk_judge.specs.Judgement.{IsJudgement}
+use Rattle.walk_judge.proofs.Judgements.{judged_same, judged_longer}
 
 module _ (g : GridData) (s t : Cell) where
   -- a legal walk has one
@@ -29,25 +28,13 @@ module _ (g : GridData) (s t : Cell) where
       by_cost false other =
           (Longer paid least, judged_longer g s t points paid least (Some least) refl known right other)
 
-  -- points that begin at the start have one
-  begun_judged : (points : List Cell) → begins_at s points ≡ true → (answer : Result Cost BadAt)
-      → IsVerdict g points answer → (least : Option Cost) → IsCostTo g s t least
-      → (j : Judged) × IsJudgement g s t (told.Walk points) j
-  begun_judged points begins (Err bad) verdict least known = (BadWalk bad.0, broken begins verdict.bad)
-  begun_judged points begins (Ok paid) verdict least known = by_end (ends_at t points) refl
-    where
-      by_end : (b : Bool) → ends_at t points ≡ b → (j : Judged) × IsJudgement g s t (told.Walk points) j
-      by_end true ends = right_judged points paid
-          (short_right g s t paid points paid verdict.walk begins ends (is_cost-itself paid)) least known
-      by_end false away = (BadWalk (length points), short_of paid begins verdict.walk away)
-
   pub judgement_exists : (what : Told) (least : Option Cost) → IsCostTo g s t least
       → (j : Judged) × IsJudgement g s t what j
   judgement_exists told.None None none = (Nothing, none)
   judgement_exists told.None (Some least) known = (Exists least, known)
-  judgement_exists (told.Walk points) least known = by_start (begins_at s points) refl
+  judgement_exists (told.Walk points) least known = let a = has_answer g s t points in by_answer a.0 a.1
     where
-      by_start : (b : Bool) → begins_at s points ≡ b → (j : Judged) × IsJudgement g s t (told.Walk points) j
-      by_start true begins = let verdict = has_verdict g points in
-          begun_judged points begins verdict.0 verdict.1 least known
-      by_start false off = (BadWalk 0, elsewhere off)
+      by_answer : (answer : Result Cost ℕ) → IsJudged g s t points answer
+          → (j : Judged) × IsJudgement g s t (told.Walk points) j
+      by_answer (Ok paid) judged = right_judged points paid judged.walk least known
+      by_answer (Err i) judged = (BadWalk i, judged.bad)

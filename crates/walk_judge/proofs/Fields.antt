@@ -10,7 +10,8 @@ use Rattle.grid_moves.specs.declared.Cell.{Cell}
 use Rattle.text_line.specs.Fields.{is_nothing}
 use Rattle.walk_judge.specs.declared.telling.Told.{Told}
 use Rattle.walk_judge.specs.declared.telling.Told.TheVariants as told
-use Rattle.walk_judge.specs.Telling.{point_of, points_in, is_none, walk_of, told_in, AreFieldsOf}
+use Rattle.cell_lines.specs.Parts.{point_of, points_in}
+use Rattle.walk_judge.specs.Telling.{is_none, walk_of, told_in, AreFieldsOf}
 
 -- each point, where it is one
 abbrev pub some_points : List Cell → List (Option Cell)

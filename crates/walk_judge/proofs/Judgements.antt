@@ -1,71 +1,26 @@
 -- Judgements: each told walk has one, and accepted are the legal least walks.
-use Rattle.std.proofs.lemmas.Bool.Decides.{nat_tests}
-use Rattle.std.proofs.Common.{◌≡◌, ℕ, arith, refl, ap, sym, ◌∙◌, subst, Bool, true, false, List, [], ◌∷◌}
-use Rattle.std.specs.Prelude.{Option, Some, Result, Ok, Err}
+use Rattle.std.proofs.Common.{◌≡◌, ℕ, arith, refl, ap, sym, ◌∙◌, subst, true, false, List, ◌∷◌}
+use Rattle.std.specs.Prelude.{Option, Some}
 use Rattle.root2_cost.specs.declared.Cost.{Cost}
 use Rattle.root2_cost.specs.Order.{IsAtMost}
-use Rattle.root2_cost.specs.Sums.{no_cost}
 use Rattle.grid_moves.specs.declared.Cell.{Cell}
 use Rattle.grid_moves.specs.Grid.{GridData, IsGrid, is_free}
 use Rattle.grid_moves.specs.Reply.{StandsForLeast}
 use Rattle.grid_moves.specs.Walk.{NoWalk, cost_of}
-use Rattle.path_points.specs.declared.checking.BadAt.{BadAt}
-use Rattle.path_points.specs.Checked.{IsFirstBad, IsShortWalk}
-use Rattle.path_points.proofs.Checks.{IsVerdict, checked_from, verdict_at_start, verdict_from}
 use Rattle.plain_search.specs.Costs.{IsCostTo}
 use Rattle.plain_search.specs.Lists.{IsLeastCost}
 use Rattle.plain_search.proofs.Closing.{one_least}
-use Rattle.potential_check.specs.Accepted.{IsRightWalk, is_cost}
-use Rattle.potential_check.proofs.Walks.{right_begins, right_ends, right_short, is_cost-itself, is_cost-same}
+use Rattle.potential_check.specs.Accepted.{is_cost}
+use Rattle.potential_check.specs.Walks.{IsBadPoint, IsRightWalk}
+use Rattle.potential_check.proofs.Walks.{has_answer, is_cost-itself, is_cost-same}
 use Rattle.walk_judge.specs.declared.judging.Judged.{Judged}
 use Rattle.walk_judge.specs.declared.judging.Judged.TheVariants.{Least, NoWalk as Nothing, BadWalk, Longer}
 use Rattle.walk_judge.specs.declared.judging.Judged.TheVariants.{Exists}
 use Rattle.walk_judge.specs.declared.telling.Told.{Told}
 use Rattle.walk_judge.specs.declared.telling.Told.TheVariants as told
-use Rattle.walk_judge.specs.Judgement.{IsBadPoint, elsewhere, broken, short_of, IsJudgement}
+use Rattle.walk_judge.specs.Judgement.{IsJudgement}
 use Rattle.grid_moves.proofs.Short.{least_is_short}
 use Rattle.grid_moves.proofs.Walks.{end_free}
-
--- points stand for a walk, or have a first bad one
-pub has_verdict : (g : GridData) (points : List Cell) → (answer : Result Cost BadAt)
-    × IsVerdict g points answer
-has_verdict g [] = (Err (record { 0 = 0 }), verdict_at_start g [] refl)
-has_verdict g (u ∷ points) = by_free (is_free g u) refl
-  where
-    by_free : (b : Bool) → is_free g u ≡ b → (answer : Result Cost BadAt) × IsVerdict g (u ∷ points) answer
-    by_free true free = (
-      checked_from g 0 u points no_cost,
-      verdict_from g u points free (checked_from g 0 u points no_cost) refl,
-    )
-    by_free false blocked = (Err (record { 0 = 0 }), verdict_at_start g (u ∷ points) blocked)
-
-short_not_bad : (g : GridData) (points : List Cell) (cost : Cost) (i : ℕ) → IsShortWalk g points cost
-    → IsFirstBad g points i → ⊥
-short_not_bad g points cost i w first =
-    let verdict = (has_verdict g points).1 in
-    let one = verdict.ok cost w in
-    let other = verdict.err i first in
-    cc
-
-err_number : (i k : ℕ) (answer : Result Cost BadAt) → answer ≡ Err (record { 0 = i })
-    → answer ≡ Err (record { 0 = k })
-    → i ≡ k
-err_number i k answer h1 h2 = grind (arith, nat_tests)
-
-first_bad_one : (g : GridData) (points : List Cell) (i k : ℕ) → IsFirstBad g points i → IsFirstBad g points k
-    → i ≡ k
-first_bad_one g points i k one other =
-    let verdict = (has_verdict g points).1 in
-    err_number i k (has_verdict g points).0 (verdict.err i one) (verdict.err k other)
-
-ok_cost : (p q : Cost) (answer : Result Cost BadAt) → answer ≡ Ok p → answer ≡ Ok q → p ≡ q
-ok_cost p q answer one other = cc
-
-short_one : (g : GridData) (points : List Cell) (p q : Cost) → IsShortWalk g points p → IsShortWalk g points q
-    → p ≡ q
-short_one g points p q one other =
-    let verdict = (has_verdict g points).1 in
-    ok_cost p q (has_verdict g points).0 (verdict.ok p one) (verdict.ok q other)
 
 pub is_cost-other : (p q : Cost) → is_cost q p ≡ false → p ≡ q → ⊥
 is_cost-other p q off e = let same : is_cost q p ≡ true = rw e (is_cost-itself q) in cc
@@ -75,33 +30,31 @@ pub none_to_blocked : (g : GridData) (s t : Cell) → is_free g t ≡ false → 
 none_to_blocked g s t blocked cells w = let free = end_free g s t cells w in cc
 
 module _ (g : GridData) (s t : Cell) where
+  -- points stand for a right walk of one cost
   right_one : (points : List Cell) (p q : Cost) → IsRightWalk g s t p points → IsRightWalk g s t q points
       → p ≡ q
   right_one points p q one other =
-      short_one g points p q (right_short g s t p points one) (right_short g s t q points other)
+      let answer = (has_answer g s t points).1 in
+      let first = answer.ok p one in
+      let second = answer.ok q other in
+      cc
 
-  -- points that stand for a walk from s to t are not bad
+  -- or are bad
   right_not_bad : (points : List Cell) (paid : Cost) (i : ℕ) → IsRightWalk g s t paid points
       → IsBadPoint g s t points i → ⊥
-  right_not_bad points paid i right (elsewhere off) = let begins = right_begins g s t paid points right in cc
-  right_not_bad points paid i right (broken begins first) =
-      short_not_bad g points paid i (right_short g s t paid points right) first
-  right_not_bad points paid i right (short_of cost begins w off) =
-      let ends = right_ends g s t paid points right in cc
+  right_not_bad points paid i right bad =
+      let answer = (has_answer g s t points).1 in
+      let first = answer.ok paid right in
+      let second = answer.err i bad in
+      cc
 
-  -- and bad ones are by one number
+  -- by one number
   bad_one : (points : List Cell) (i k : ℕ) → IsBadPoint g s t points i → IsBadPoint g s t points k → i ≡ k
-  bad_one points i k (elsewhere off) (elsewhere too) = refl
-  bad_one points i k (elsewhere off) (broken begins first) = absurd (cc)
-  bad_one points i k (elsewhere off) (short_of cost begins w away) = absurd (cc)
-  bad_one points i k (broken begins first) (elsewhere off) = absurd (cc)
-  bad_one points i k (broken begins first) (broken too other) = first_bad_one g points i k first other
-  bad_one points i k (broken begins first) (short_of cost too w away) =
-      absurd (short_not_bad g points cost i w first)
-  bad_one points i k (short_of cost begins w away) (elsewhere off) = absurd (cc)
-  bad_one points i k (short_of cost begins w away) (broken too first) =
-      absurd (short_not_bad g points cost k w first)
-  bad_one points i k (short_of cost begins w away) (short_of other too v off) = refl
+  bad_one points i k one other =
+      let answer = (has_answer g s t points).1 in
+      let first = answer.err i one in
+      let second = answer.err k other in
+      cc
 
   -- what is told has one judgement
   pub one_judgement : (what : Told) (j k : Judged) → IsJudgement g s t what j → IsJudgement g s t what k

@@ -1,25 +1,9 @@
 -- Worked rows of the form, by computing.
-use Rattle.std.specs.Prelude.{◌≡◌, [], ◌∷◌, codes, refl, Some, None, Ok, Err}
+use Rattle.std.specs.Prelude.{◌≡◌, [], ◌∷◌, codes, refl, Ok, Err}
 use Rattle.walk_judge.specs.declared.fault.WalkFault.TheVariants.{Line, Count}
 use Rattle.walk_judge.specs.declared.telling.Told.TheVariants as told
-use Rattle.walk_judge.specs.Telling.{point_of}
+use Rattle.cell_lines.specs.Parts.{point_of}
 use Rattle.walk_judge.specs.Walks.{walks_of}
-
-pub leading_zeros : point_of (codes "0012,4095") ≡ Some (record { x = 12; y = 4095 })
-unfolding point_of
-leading_zeros = refl
-
-pub five_digits : point_of (codes "00012,5") ≡ None
-unfolding point_of
-five_digits = refl
-
-pub two_commas : point_of (codes "1,2,3") ≡ None
-unfolding point_of
-two_commas = refl
-
-pub no_row : point_of (codes "1,") ≡ None
-unfolding point_of
-no_row = refl
 
 -- a walk and none, with a blank line, a carriage return, blanks before and behind, and no last line feed
 pub two_told : walks_of (codes " 0,0\t2,0\r\n \nnone ") 2 ≡ Ok

@@ -1,14 +1,14 @@
 //! Judging what is told of the walks between two cells.
 
-ghost use Rattle.std.specs.Prelude.{◌≡◌, ◌^◌, ◌<◌, ◌↔◌, List, true, length, Some, IfOk, MatchResult};
+ghost use Rattle.std.specs.Prelude.{◌≡◌, ◌↔◌, List, true, IfOk};
 ghost use Rattle.root2_cost.specs.declared.Cost.{Cost};
 ghost use Rattle.grid_moves.specs.declared.Cell.{Cell};
 ghost use Rattle.grid_moves.specs.Grid.{is_free};
 ghost use Rattle.grid_moves.specs.Reply.{StandsForLeast};
 ghost use Rattle.plain_search.specs.Costs.{IsCostTo};
 ghost use Rattle.potential_check.specs.Accepted as checks;
-ghost use Rattle.potential_check.specs.Accepted.{IsRightWalk};
-ghost use Rattle.walk_judge.specs.Judgement.{IsBadPoint, IsJudgement};
+ghost use Rattle.potential_check.specs.Walks.{IsRightWalk};
+ghost use Rattle.walk_judge.specs.Judgement.{IsJudgement};
 ghost use Rattle.walk_judge.specs.Telling.{IsFit, walk_of};
 ghost use Rattle.walk_judge.specs.declared.judging.Judged.{Judged};
 ghost use Rattle.walk_judge.specs.declared.judging.Judged.TheVariants.{Least};
@@ -16,8 +16,9 @@ ghost use Rattle.walk_judge.specs.declared.judging.Judged.TheVariants.{Least};
 use crate::NoMemory;
 use crate::telling::Told;
 use grid_moves::{Cell, Terrain};
-use path_points::{Points, check_walk};
+use path_points::Points;
 use plain_search::{Found, Workspace, least_in};
+use potential_check::walk_between;
 use root2_cost::Cost;
 use std::alloc::Global;
 
@@ -91,7 +92,7 @@ fn judgement<T: Terrain>(t: &T, from: Cell, to: Cell, told: &Told, least: Option
     ensures { IsJudgement (T.grid t.now) from to told.now result }
 {
     match told {
-        Told::Walk(points) => match bad_point(t, from, to, points) {
+        Told::Walk(points) => match walk_between(t, from, to, points) {
             Err(bad) => Judged::BadWalk(bad),
             Ok(paid) => compared(t, from, to, points, paid, least),
         },
@@ -100,53 +101,6 @@ fn judgement<T: Terrain>(t: &T, from: Cell, to: Cell, told: &Told, least: Option
             None => Judged::NoWalk,
         },
     }
-}
-
-/// The cost of the walk that the points stand for, or the number that tells that they are none from
-/// start to goal.
-fn bad_point<T: Terrain>(t: &T, from: Cell, to: Cell, points: &Points) -> Result<Cost, u32>
-    requires { length points.now < 2 ^ 30 }
-    ensures { MatchResult result
-        (λ paid. IsRightWalk (T.grid t.now) from to paid points.now)
-        (λ i. IsBadPoint (T.grid t.now) from to points.now i) }
-{
-    if !begins_at(from, points) {
-        return Err(0);
-    }
-    match check_walk(t, points) {
-        Err(bad) => Err(bad.0),
-        Ok(paid) => {
-            if ends_at(to, points) {
-                Ok(paid)
-            } else {
-                Err(points.as_slice().len() as u32)
-            }
-        }
-    }
-}
-
-/// Whether there is such a point, and it is this cell.
-fn is_at(c: Cell, point: Option<Cell>) -> bool
-    ensures { result ≡ checks.is_at c point }
-{
-    match point {
-        Some(p) => p == c,
-        None => false,
-    }
-}
-
-/// Whether the first point is this cell.
-fn begins_at(s: Cell, points: &Points) -> bool
-    ensures { result ≡ checks.begins_at s points.now }
-{
-    is_at(s, points.as_slice().first().copied())
-}
-
-/// Whether the last point is this cell.
-fn ends_at(t: Cell, points: &Points) -> bool
-    ensures { result ≡ checks.ends_at t points.now }
-{
-    is_at(t, points.as_slice().last().copied())
 }
 
 /// Whether the pairs are one.

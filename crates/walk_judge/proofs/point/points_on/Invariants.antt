@@ -1,6 +1,6 @@
 use Rattle.std.proofs.Common.{◌≡◌}
 use Rattle.text_line.specs.Fields.{fields_of}
-use Rattle.walk_judge.specs.Telling.{points_in}
+use Rattle.cell_lines.specs.Parts.{points_in}
 use Rattle.potential_check.proofs.Words.{with_points}
 use Rattle.walk_judge.proofs.point.points_on.Given as goal
 
