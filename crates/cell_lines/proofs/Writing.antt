@@ -4,7 +4,9 @@ use Rattle.std.proofs.Common.{length, arith, get_or, zero}
 use Rattle.std.specs.Prelude.{Result, Ok, Err, OnOk, OnErr, Some, slice_get}
 use Rattle.std.proofs.Math.Seq.{take-suc}
 use Rattle.std.proofs.lemmas.List.{append-nil}
-use Rattle.cell_lines.specs.Cells.{texts_of, Begins}
+use Rattle.text_line.specs.Writing.{Begins}
+use Rattle.text_line.proofs.Begun.{begins_then}
+use Rattle.cell_lines.specs.Cells.{texts_of}
 
 module _ {X : Type 0} (text : X → List ℕ) where
   texts-added : (xs : List X) (x : X) → texts_of text (xs ++ x ∷ []) ≡ texts_of text xs ++ text x
@@ -51,7 +53,4 @@ and-then (Ok done) before mid after first second begun w =
 pub begins-on : {T E : Type 0} (result : Result T E) (before mid after text : List ℕ) → mid ≡ before ++ text
     → Begins mid after → OnErr result (Begins before after)
 begins-on (Ok done) before mid after text front more = tt
-begins-on (Err error) before mid after text front more = (
-  text ++ more.0,
-  more.1 ∙ ap (λ (l : List ℕ). l ++ more.0) front ∙ append_assoc before text more.0,
-)
+begins-on (Err error) before mid after text front more = begins_then before mid after (text, front) more

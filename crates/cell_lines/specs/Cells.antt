@@ -37,10 +37,6 @@ state_text width state =
     point_text (record { x = (state / 9) % width; y = (state / 9) / width }) ++ codes ":"
     ++ arrival_text (state % 9)
 
--- the second value begins with the first
-abbrev pub Begins : List ℕ → List ℕ → Type 0
-Begins old new = (added : List ℕ) × (new ≡ old ++ added)
-
 -- worked rows, on a map of width 3: the states of the numbers 20 and 44
 pub stop_by_east : state_text 3 20 ≡ point_text (record { x = 2; y = 0 }) ++ codes ":" ++ codes "E"
 stop_by_east = refl

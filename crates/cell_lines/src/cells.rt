@@ -2,10 +2,11 @@
 
 ghost use Rattle.std.specs.Prelude.{◌≡◌, ◌<◌, ◌++◌, OnOk, OnErr};
 ghost use Rattle.cell_lines.specs.Cells as spec;
+ghost use Rattle.text_line.specs.Writing.{Begins};
 
 use crate::NoMemory;
 use grid_moves::{Cell, Dir, dir_number};
-use text_line::{put, put_number};
+use text_line::{put, put_number, whole_or_nothing};
 
 /// Appends a cell: its column and its row, parted by a comma.
 pub fn put_cell(out: &mut Vec<u8>, c: Cell) -> Result<(), NoMemory>
@@ -15,16 +16,13 @@ pub fn put_cell(out: &mut Vec<u8>, c: Cell) -> Result<(), NoMemory>
 {
     let before = out.len();
     let written = put_pair(out, c);
-    if written.is_err() {
-        out.truncate(before);
-    }
-    written
+    whole_or_nothing(out, before, written)
 }
 
 // Appends the cell, or a first part of it where memory runs out.
 fn put_pair(out: &mut Vec<u8>, c: Cell) -> Result<(), NoMemory>
     ensures ok { OnOk result (out.new.items ≡ out.old.items ++ spec.cell_text c) }
-    ensures err { OnErr result (spec.Begins out.old.items out.new.items) }
+    ensures err { OnErr result (Begins out.old.items out.new.items) }
 {
     put_number(out, u64::from(c.x))?;
     put(out, b",")?;
@@ -39,16 +37,13 @@ pub fn put_points(out: &mut Vec<u8>, cells: &[Cell]) -> Result<(), NoMemory>
 {
     let before = out.len();
     let written = put_each(out, cells);
-    if written.is_err() {
-        out.truncate(before);
-    }
-    written
+    whole_or_nothing(out, before, written)
 }
 
 // Appends each cell after a blank, or a first part of that where memory runs out.
 fn put_each(out: &mut Vec<u8>, cells: &[Cell]) -> Result<(), NoMemory>
     ensures ok { OnOk result (out.new.items ≡ out.old.items ++ spec.texts_of spec.point_text cells.now) }
-    ensures err { OnErr result (spec.Begins out.old.items out.new.items) }
+    ensures err { OnErr result (Begins out.old.items out.new.items) }
 {
     for c in cells {
         put_point(out, *c)?;
@@ -59,7 +54,7 @@ fn put_each(out: &mut Vec<u8>, cells: &[Cell]) -> Result<(), NoMemory>
 // Appends a blank and the cell, or a first part of that where memory runs out.
 fn put_point(out: &mut Vec<u8>, c: Cell) -> Result<(), NoMemory>
     ensures ok { OnOk result (out.new.items ≡ out.old.items ++ spec.point_text c) }
-    ensures err { OnErr result (spec.Begins out.old.items out.new.items) }
+    ensures err { OnErr result (Begins out.old.items out.new.items) }
 {
     put(out, b" ")?;
     put_cell(out, c)
@@ -98,17 +93,14 @@ pub fn put_state(out: &mut Vec<u8>, width: u16, state: u32) -> Result<(), NoMemo
 {
     let before = out.len();
     let written = put_parts(out, width, state);
-    if written.is_err() {
-        out.truncate(before);
-    }
-    written
+    whole_or_nothing(out, before, written)
 }
 
 // Appends the state behind a blank, or a first part of that where memory runs out.
 fn put_parts(out: &mut Vec<u8>, width: u16, state: u32) -> Result<(), NoMemory>
     requires { 0 < width }
     ensures ok { OnOk result (out.new.items ≡ out.old.items ++ spec.state_text width state) }
-    ensures err { OnErr result (spec.Begins out.old.items out.new.items) }
+    ensures err { OnErr result (Begins out.old.items out.new.items) }
 {
     let cell = state / 9;
     let width = u32::from(width);

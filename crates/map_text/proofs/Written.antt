@@ -3,11 +3,9 @@ use Rattle.std.proofs.lemmas.Bool.Decides.{nat_tests}
 use Rattle.std.proofs.Common.{◌≡◌, ℕ, suc, ◌+◌, ◌-◌, ◌*◌, ◌<◌, List, [], ◌∷◌, ◌++◌, length, take, drop, ap}
 use Rattle.std.proofs.Common.{◌∙◌, arith}
 use Rattle.std.proofs.lemmas.List.{append_assoc, length-drop}
-use Rattle.map_text.specs.Writing.{text_of, rows_of, Begins}
-
-pub begins_more : (old new added : List ℕ) → Begins old new → Begins old (new ++ added)
-begins_more old new added begins =
-    (begins.0 ++ added, ap (λ (text : List ℕ). text ++ added) begins.1 ∙ append_assoc old begins.0 added)
+use Rattle.text_line.specs.Writing.{Begins}
+use Rattle.text_line.proofs.Begun.{begins_on}
+use Rattle.map_text.specs.Writing.{text_of, rows_of}
 
 -- what is written and the text of the rows left are the text of all rows
 pub record AreWritten (old : List ℕ) (height width : ℕ) (cells left : List ℕ) (done : ℕ) (new : List ℕ)
@@ -28,4 +26,4 @@ module _ (old : List ℕ) (height width : ℕ) (cells : List ℕ) where
       (written : AreWritten old height width cells left done new) where
     pub row_written : done < height
         → AreWritten old height width cells (drop width left) (done + 1) ((new ++ take width left) ++ 10 ∷ [])
-    row_written more = grind (arith, nat_tests, length-drop, one_less, row_then, begins_more)
+    row_written more = grind (arith, nat_tests, length-drop, one_less, row_then, begins_on)

@@ -27,7 +27,3 @@ pub two_rows_of_three : canonical_text (record { width = 3; height = 2; cells = 
     ≡ codes "type octile\nheight 2\nwidth 3\nmap\n" ++ codes "...\n.@.\n"
 unfolding canonical_text digits
 two_rows_of_three = refl
-
--- the second value begins with the first
-abbrev pub Begins : List ℕ → List ℕ → Type 0
-Begins old new = (added : List ℕ) × (new ≡ old ++ added)

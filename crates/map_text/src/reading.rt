@@ -1,13 +1,11 @@
 //! Reading a map from its text.
 
-ghost use Rattle.std.specs.Prelude.{◌≡◌, ◌≢◌, ◌≤◌, ◌^◌, length, map, not, position};
-ghost use Rattle.std.specs.Prelude.{Some, Ok, Err, IfOk, IfErr, MatchResult};
+ghost use Rattle.std.specs.Prelude.{◌≡◌, ◌≤◌, ◌^◌, length, map, not, position, Some, MatchResult};
 ghost use Rattle.std.specs.List.{list_any};
 ghost use Rattle.text_line.specs.Lines.{lines_of};
-ghost use Rattle.text_line.specs.Reading.{Judges};
-ghost use Rattle.map_text.specs.declared.fault.MapFault.{MapFault};
+ghost use Rattle.text_line.specs.Reading.{IsRightReading, Judges};
 ghost use Rattle.map_text.specs.declared.fault.MapFault.TheVariants.{NoMemory};
-ghost use Rattle.map_text.specs.Map.{Map, is_terrain as terrain};
+ghost use Rattle.map_text.specs.Map.{is_terrain as terrain};
 ghost use Rattle.map_text.specs.Spelling.{Spells};
 ghost use Rattle.map_text.specs.Faults as spec;
 ghost use Rattle.map_text.specs.Faults.{bytes_of, side_on as told_side, side_fault, row_fault};
@@ -29,16 +27,10 @@ const MAX_SIDE: u32 = 4096;
 /// once, and memory is taken for the cells alone, once the header is read.
 pub fn read_map(alloc: Global, text: &[u8]) -> Result<MapText, MapFault>
     requires { length text.now ≤ 2 ^ 26 }
-    // What is read is spelled so.
-    ensures found { IfOk result (λ read. Spells text.now (plain read)) }
-    // What is spelled so is read, unless memory runs out.
-    ensures only { (spelled : Map) → Spells text.now spelled → Tells result (Ok spelled) }
-    // A fault is that of the first line that breaks the grammar.
-    ensures first { IfErr result (λ fault. fault ≢ NoMemory → BreaksFirst (lines_of text.now) fault) }
-    // Where a line breaks it first, its fault is answered, unless memory runs out.
-    ensures broken { (fault : MapFault) → BreaksFirst (lines_of text.now) fault → Tells result (Err fault) }
-    // All of this as one function of the text.
-    ensures exact { Tells result (map_of text.now) }
+    // What is read is spelled so, what is spelled so is read, and a fault is that of the first line that breaks
+    // the grammar.
+    ensures { IsRightReading NoMemory plain (Spells text.now) (BreaksFirst (lines_of text.now))
+        (map_of text.now) result }
 {
     read(alloc, text)
 }

@@ -3,11 +3,12 @@
 ghost use Rattle.std.specs.Prelude.{◌≡◌, ◌++◌, ◌*◌, ◌^◌, ◌≤◌, OnOk, OnErr, length};
 ghost use Rattle.map_text.specs.Faults.{plain};
 ghost use Rattle.map_text.specs.Spelling.{Spells};
-ghost use Rattle.map_text.specs.Writing.{canonical_text, rows_of, text_of, Begins};
+ghost use Rattle.map_text.specs.Writing.{canonical_text, rows_of, text_of};
+ghost use Rattle.text_line.specs.Writing.{Begins};
 
 use crate::NoMemory;
 use crate::map::MapText;
-use text_line::{put, put_number};
+use text_line::{put, put_number, whole_or_nothing};
 
 /// Appends the canonical text of the map: the words of the header parted by one space, a line for
 /// each row, a line feed behind each line, and nothing after the last row.
@@ -24,10 +25,7 @@ pub fn write_map(map: &MapText, out: &mut Vec<u8>) -> Result<(), NoMemory>
 {
     let before = out.len();
     let written = put_map(map, out);
-    if written.is_err() {
-        out.truncate(before);
-    }
-    written
+    whole_or_nothing(out, before, written)
 }
 
 /// Appends the text, or a first part of it where memory runs out.

@@ -42,10 +42,6 @@ pub record IsOfCost (cost : Cost) (listed : Listed) : Type 0 where
   pub bucket : IsBucket cost listed.bucket
   pub length : IsNearest cost (eight_places listed.units)
 
--- the second text begins with the first
-abbrev pub Begins : List ℕ → List ℕ → Type 0
-Begins old new = (added : List ℕ) × (new ≡ old ++ added)
-
 -- worked rows, by computing
 pub all_decimals : length_text 424264069 ≡ codes "4.24264069"
 unfolding digits

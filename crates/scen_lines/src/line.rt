@@ -2,10 +2,11 @@
 
 ghost use Rattle.std.specs.Prelude.{◌≡◌, ◌++◌, OnOk, OnErr, codes};
 ghost use Rattle.scen_lines.specs.Line as spec;
+ghost use Rattle.text_line.specs.Writing.{Begins};
 
 use crate::NoMemory;
 use root2_cost::{Cost, bucket, nearest_length};
-use text_line::{put, put_number};
+use text_line::{put, put_number, whole_or_nothing};
 
 /// A query on a map: the map's sides in cells, and the start and the goal, each by its column and its row
 /// from 0.
@@ -59,16 +60,13 @@ pub fn put_entry(out: &mut Vec<u8>, name: &[u8], listed: Listed) -> Result<(), N
 {
     let before = out.len();
     let written = put_line(out, name, listed);
-    if written.is_err() {
-        out.truncate(before);
-    }
-    written
+    whole_or_nothing(out, before, written)
 }
 
 /// Appends the line, or a first part of it where memory runs out.
 fn put_line(out: &mut Vec<u8>, name: &[u8], listed: Listed) -> Result<(), NoMemory>
     ensures ok { OnOk result (out.new.items ≡ out.old.items ++ spec.entry_line name.now listed) }
-    ensures err { OnErr result (spec.Begins out.old.items out.new.items) }
+    ensures err { OnErr result (Begins out.old.items out.new.items) }
 {
     put_number(out, u64::from(listed.bucket))?;
     put(out, b"\t")?;
@@ -80,7 +78,7 @@ fn put_line(out: &mut Vec<u8>, name: &[u8], listed: Listed) -> Result<(), NoMemo
 /// Appends the sides of the map, the start and the goal, each number behind a tab.
 fn put_problem(out: &mut Vec<u8>, problem: Problem) -> Result<(), NoMemory>
     ensures ok { OnOk result (out.new.items ≡ out.old.items ++ spec.problem_text problem) }
-    ensures err { OnErr result (spec.Begins out.old.items out.new.items) }
+    ensures err { OnErr result (Begins out.old.items out.new.items) }
 {
     put_two(out, problem.w, problem.h)?;
     put_two(out, problem.sx, problem.sy)?;
@@ -90,7 +88,7 @@ fn put_problem(out: &mut Vec<u8>, problem: Problem) -> Result<(), NoMemory>
 /// Appends two numbers, each behind a tab.
 fn put_two(out: &mut Vec<u8>, m: u32, n: u32) -> Result<(), NoMemory>
     ensures ok { OnOk result (out.new.items ≡ out.old.items ++ (spec.tabbed m ++ spec.tabbed n)) }
-    ensures err { OnErr result (spec.Begins out.old.items out.new.items) }
+    ensures err { OnErr result (Begins out.old.items out.new.items) }
 {
     put(out, b"\t")?;
     put_number(out, u64::from(m))?;
@@ -102,7 +100,7 @@ fn put_two(out: &mut Vec<u8>, m: u32, n: u32) -> Result<(), NoMemory>
 fn put_length(out: &mut Vec<u8>, units: u64) -> Result<(), NoMemory>
     ensures ok { OnOk result (out.new.items
         ≡ out.old.items ++ (codes "\t" ++ spec.length_text units ++ codes "\n")) }
-    ensures err { OnErr result (spec.Begins out.old.items out.new.items) }
+    ensures err { OnErr result (Begins out.old.items out.new.items) }
 {
     put(out, b"\t")?;
     put_number(out, units / UNITS)?;

@@ -1,11 +1,9 @@
 //! Reading a scenario from its text.
 
-ghost use Rattle.std.specs.Prelude.{◌≡◌, ◌≢◌, ◌≤◌, ◌+◌, ◌^◌, ℕ, length, List, slice_get};
-ghost use Rattle.std.specs.Prelude.{Some, Ok, Err, IfOk, IfErr};
+ghost use Rattle.std.specs.Prelude.{◌≡◌, ◌≤◌, ◌+◌, ◌^◌, ℕ, length, slice_get, Some, IfOk};
 ghost use Rattle.text_line.specs.Places.{lines_at, line_at};
 ghost use Rattle.text_line.specs.Numbers.{number_of};
-ghost use Rattle.text_line.specs.Reading.{Judges};
-ghost use Rattle.scen_text.specs.declared.fault.ScenFault.{ScenFault};
+ghost use Rattle.text_line.specs.Reading.{IsRightReading, Judges};
 ghost use Rattle.scen_text.specs.declared.fault.ScenFault.TheVariants.{NoMemory};
 ghost use Rattle.scen_text.specs.declared.entry.Entry.{Entry};
 ghost use Rattle.scen_text.specs.Lengths.{IsKept};
@@ -26,21 +24,15 @@ use text_line::{Fields, FieldsAt, LinesAt, PlacedLine, number};
 /// line by line, and field by field.
 pub fn read_scen(alloc: Global, text: &[u8]) -> Result<Vec<Entry>, ScenFault>
     requires { length text.now ≤ 2 ^ 26 }
-    // What is read is spelled so.
-    ensures found { IfOk result (λ read. Spells text.now read.items) }
+    // What is read is spelled so, what is spelled so is read, and a fault is that of the first line that breaks
+    // the grammar.
+    ensures reads { IsRightReading NoMemory (λ entries. entries.items) (Spells text.now)
+        (BreaksFirst (lines_at text.now)) (scen_of text.now) result }
     // Each length has at most 18 digits, at most ten of them behind the point.
     ensures kept { IfOk result (λ read. (k : ℕ) (entry : Entry) → slice_get read.items k ≡ Some entry
         → IsKept entry.length) }
     // There are no more entries than bytes.
     ensures few { IfOk result (λ read. length read.items ≤ 2 ^ 26) }
-    // What is spelled so is read, unless memory runs out.
-    ensures only { (spelled : List Entry) → Spells text.now spelled → Tells result (Ok spelled) }
-    // A fault is that of the first line that breaks the grammar.
-    ensures first { IfErr result (λ fault. fault ≢ NoMemory → BreaksFirst (lines_at text.now) fault) }
-    // Where a line breaks it first, its fault is answered, unless memory runs out.
-    ensures broken { (fault : ScenFault) → BreaksFirst (lines_at text.now) fault → Tells result (Err fault) }
-    // All of this as one function of the text.
-    ensures exact { Tells result (scen_of text.now) }
 {
     read(alloc, text)
 }

@@ -1,10 +1,8 @@
 //! Reading commands from a text.
 
-ghost use Rattle.std.specs.Prelude.{◌≡◌, ◌≢◌, ◌≤◌, ◌^◌, ◌∷◌, List, length};
-ghost use Rattle.std.specs.Prelude.{Ok, Err, IfOk, IfErr};
+ghost use Rattle.std.specs.Prelude.{◌≡◌, ◌≤◌, ◌^◌, ◌∷◌, length};
 ghost use Rattle.text_line.specs.Left.{numbered};
-ghost use Rattle.script_text.specs.declared.command.Command.{Command};
-ghost use Rattle.script_text.specs.declared.fault.ScriptFault.{ScriptFault};
+ghost use Rattle.text_line.specs.Reading.{IsRightReading};
 ghost use Rattle.script_text.specs.declared.fault.ScriptFault.TheVariants.{NoMemory};
 ghost use Rattle.script_text.specs.Spelling.{Spells};
 ghost use Rattle.script_text.specs.Lines as spec;
@@ -26,17 +24,10 @@ pub(crate) const MAX_LINE: usize = 128;
 /// alone.
 pub fn read_script(alloc: Global, text: &[u8]) -> Result<Vec<Command>, ScriptFault>
     requires { length text.now ≤ 2 ^ 26 }
-    // What is read is spelled so.
-    ensures found { IfOk result (λ commands. Spells text.now commands.items) }
-    // What is spelled so is read, unless memory runs out.
-    ensures only { (spelled : List Command) → Spells text.now spelled → Tells result (Ok spelled) }
-    // A fault is that of the first line that breaks the grammar.
-    ensures first { IfErr result (λ fault. fault ≢ NoMemory → BreaksFirst text.now fault) }
-    // Where a line breaks it first, its fault is answered, unless memory runs out.
-    ensures broken { (fault : ScriptFault) → BreaksFirst text.now fault
-        → Tells result (Err fault) }
-    // All of this as one function of the text.
-    ensures exact { Tells result (script_of text.now) }
+    // What is read is spelled so, what is spelled so is read, and a fault is that of the first line that breaks
+    // the grammar.
+    ensures { IsRightReading NoMemory (λ commands. commands.items) (Spells text.now) (BreaksFirst text.now)
+        (script_of text.now) result }
 {
     read(alloc, text)
 }

@@ -2,7 +2,7 @@
 use Rattle.std.proofs.lemmas.Bool.Decides.{nat_tests}
 use Rattle.std.proofs.Common.{◌≡◌, ℕ, suc, ◌+◌, ◌*◌, ◌<◌, Bool, List, [], ◌∷◌, length, take}
 use Rattle.std.proofs.Common.{drop, refl, ap, sym, ◌∙◌, arith}
-use Rattle.std.specs.Prelude.{ℤ, Option, Some, None, Result, OnOk, IfErr, option_map, if◌then◌else◌}
+use Rattle.std.specs.Prelude.{ℤ, Option, Some, None, Result, OnOk, option_map, if◌then◌else◌}
 use Rattle.std.specs.Option.{option_or}
 use Rattle.std.specs.Str.{bytes_eq}
 use Rattle.grid_moves.specs.declared.Ground.{Ground}
@@ -10,13 +10,12 @@ use Rattle.grid_moves.specs.declared.Ground.TheVariants.{Land, Water}
 use Rattle.grid_moves.specs.Grid.{GridData, is_ground}
 use Rattle.plus_tables.specs.Tables.{TablesData, AreTablesOf, IsWhole}
 use Rattle.table_file.specs.declared.fault.TableFault.{TableFault}
-use Rattle.table_file.specs.declared.fault.TableFault.TheVariants.{NoMemory}
 use Rattle.table_file.specs.Encoding.{AreOfOneMap, encoding, entry_bytes, entry_for}
 use Rattle.table_file.specs.Faults.{Tells, entry_fault, first_wrong, frame_fault, table_fault_of}
 use Rattle.table_file.specs.Order.{cells_from, spots_on}
 use Rattle.table_file.specs.Reading.{first_other, spot_of}
 use Rattle.table_file.proofs.Finding.{wrong-append, wrong_named}
-use Rattle.table_file.proofs.Laws.{encoding_right, only_encoding}
+use Rattle.table_file.proofs.Laws.{only_encoding}
 use Rattle.table_file.proofs.Numbering.{entries_listed, length-spots, spots-numbered}
 
 below_test : (b : Bool) (place m : ℕ) (rest : Option ℕ) (found : ℕ)
@@ -91,8 +90,3 @@ module _ (land water : GridData) (text : List ℕ) where
   pub found_by : {A : Type 0} (answer : Result A TableFault) → Tells answer (table_fault_of land water text)
       → OnOk answer (text ≡ encoding land.corner land water)
   found_by answer h = grind (arith, nat_tests, only_encoding)
-
-  -- and the encoding is refused for want of memory alone
-  pub refused_by : {A : Type 0} (answer : Result A TableFault) → Tells answer (table_fault_of land water text)
-      → text ≡ encoding land.corner land water → IfErr answer (λ fault. fault ≡ NoMemory)
-  refused_by answer told is = grind (arith, nat_tests, encoding_right)

@@ -1,6 +1,6 @@
 -- The fault of a text is the first way in which it differs from the encoding.
 use Rattle.std.proofs.Common.{◌≡◌, ◌≢◌, ℕ, zero, suc, ◌+◌, ◌*◌, ◌<◌, ◌⊎◌, inl, inr, Bool, true, false, List}
-use Rattle.std.proofs.Common.{[], ◌∷◌, length, take, drop, refl, ap, sym, ◌∙◌, arith}
+use Rattle.std.proofs.Common.{[], ◌∷◌, length, take, drop, ap, sym, ◌∙◌, arith}
 use Rattle.std.specs.Prelude.{ℤ, Option, Some, None, Result, IfErr, not, nat_eq, option_map}
 use Rattle.std.specs.Prelude.{slice_get, if◌then◌else◌}
 use Rattle.std.specs.Option.{option_or}
@@ -10,13 +10,11 @@ use Rattle.std.proofs.lemmas.List.{drop-drop}
 use Rattle.std.proofs.lemmas.Slice.Eq.{bytes_eq-Decides}
 use Rattle.grid_moves.specs.Grid.{GridData}
 use Rattle.table_file.specs.declared.fault.TableFault.{TableFault}
-use Rattle.table_file.specs.declared.fault.TableFault.TheVariants.{Head, Length, Entry, NoMemory}
+use Rattle.table_file.specs.declared.fault.TableFault.TheVariants.{Head, Length, NoMemory}
 use Rattle.table_file.specs.Encoding.{entry_bytes, entry_for, head_bytes, size_of}
 use Rattle.table_file.specs.Faults.{Differs, IsFirstWrong, IsRightAt, Tells, entry_fault, first_wrong}
 use Rattle.table_file.specs.Faults.{table_fault_of}
-use Rattle.table_file.specs.Order.{Spot, spot, spots_of}
-use Rattle.table_file.proofs.Comparing.{frame_decides}
-use Rattle.table_file.proofs.Framing.{frame_fine, frame_head, frame_length}
+use Rattle.table_file.specs.Order.{Spot, spots_of}
 
 same_some : {A : Type 0} (a b : A) → Some a ≡ Some b → a ≡ b
 same_some a b same = cc
@@ -63,32 +61,6 @@ module _ (entry : Spot → ℤ) where
         | inr both ↦ at_head spots bytes head s both.0 both.1
       ]
 
-  if_right : (b : Bool) (head s : Spot) (rest : Option Spot) → b ≡ true → rest ≡ Some s
-      → (if b then rest else Some head) ≡ Some s
-  if_right b head s rest h i = grind (arith, nat_tests)
-
-  if_wrong : (b : Bool) (head s : Spot) (rest : Option Spot) → ¬ (b ≡ true) → head ≡ s
-      → (if b then rest else Some head) ≡ Some s
-  if_wrong b head s rest h i = grind (arith, nat_tests)
-
-  found : (spots : List Spot) (bytes : List ℕ) (s : Spot) (place : ℕ) → slice_get spots place ≡ Some s
-      → ¬ IsRightAt entry bytes place s
-      → ((k : ℕ) (t : Spot) → k < place → slice_get spots k ≡ Some t → IsRightAt entry bytes k t)
-      → first_wrong entry spots bytes ≡ Some s
-  found [] bytes s place there wrong before = absurd (cc)
-  found (head ∷ spots) bytes s zero there wrong before =
-      if_wrong (bytes_eq (take 2 bytes) (entry_bytes (entry head))) head s
-      (first_wrong entry spots (drop 2 bytes))
-      (λ right. wrong ((bytes_eq-Decides (take 2 bytes) (entry_bytes (entry head))).0 right
-      ∙ ap (λ (u : Spot). entry_bytes (entry u)) (same_some head s there))) (same_some head s there)
-  found (head ∷ spots) bytes s (suc place) there wrong before =
-      if_right (bytes_eq (take 2 bytes) (entry_bytes (entry head))) head s
-      (first_wrong entry spots (drop 2 bytes))
-      ((bytes_eq-Decides (take 2 bytes) (entry_bytes (entry head))).1 (before 0 head (omega arith) refl))
-      (found spots (drop 2 bytes) s place there (λ right. wrong (ap (take 2) (sym (two_on bytes place))
-      ∙ right))
-      (λ k t below is. ap (take 2) (two_on bytes k) ∙ before (suc k) t (omega arith) is))
-
 decided : (right whole : Bool) (wrong : Option Spot) (fault : TableFault) (P : TableFault → Type 0)
     → (right ≡ false → P Head) → (right ≡ true → whole ≡ false → P Length)
     → ((s : Spot) → right ≡ true → whole ≡ true → wrong ≡ Some s → P (entry_fault s))
@@ -120,36 +92,7 @@ module _ (land water : GridData) (text : List ℕ) where
       exact : nat_eq (length text) (size_of land) ≡ true → length text ≡ size_of land
       exact all = grind (arith, nat_tests)
 
-  head_test : take 13 text ≡ head_bytes land.corner land.width land.height
-      → bytes_eq (head_bytes land.corner land.width land.height) (take 13 text) ≡ true
-  head_test same = grind (arith, nat_tests)
-
-  other_test : (b : Bool) → ¬ (b ≡ true) → b ≡ false
-  other_test b h = grind (arith, nat_tests)
-
-  pub differs_fault : (fault : TableFault) → Differs land water text fault
-      → table_fault_of land water text ≡ Some fault
-  unfolding table_fault_of
-  differs_fault Head other = frame_decides land water text Head (frame_head land text (other_test
-      (bytes_eq (head_bytes land.corner land.width land.height) (take 13 text))
-      (λ right. other (sym ((bytes_eq-Decides (head_bytes land.corner land.width land.height) (take 13
-      text)).0
-      right)))))
-  differs_fault Length both =
-      frame_decides land water text Length (frame_length land text (head_test both.0) both.1)
-  differs_fault (Entry layer cell dir) parts =
-      ap (λ (o : Option TableFault). option_or o (option_map entry_fault (first_wrong (entry_for land water)
-      (spots_of land.width land.height) (drop 13 text)))) (frame_fine land text (head_test parts.0) parts.1)
-      ∙ ap (option_map entry_fault) (found (entry_for land water) (spots_of land.width land.height) (drop
-      13 text)
-      (spot layer cell dir) parts.2.place parts.2.there parts.2.wrong parts.2.before)
-  differs_fault NoMemory none = absurd none
-
   -- the same of an answer that tells the fault
   pub differs_by : {A : Type 0} (answer : Result A TableFault) → Tells answer (table_fault_of land water text)
       → IfErr answer (λ fault. fault ≢ NoMemory → Differs land water text fault)
   differs_by answer h = grind (arith, nat_tests, fault_differs)
-
-  pub told_by : {A : Type 0} (answer : Result A TableFault) → Tells answer (table_fault_of land water text)
-      → (fault : TableFault) → Differs land water text fault → Tells answer (Some fault)
-  told_by answer told fault differs = grind (arith, nat_tests, differs_fault)

@@ -2,7 +2,6 @@ pub mod Numbering
 pub mod Bytes
 pub mod Finding
 pub mod Putting
-pub mod Framing
 pub mod Laws
 pub mod Comparing
 pub mod Differing

@@ -7,7 +7,8 @@ use Rattle.std.proofs.lemmas.List.{append-nil, append_assoc, take-append-drop, l
 use Rattle.std.proofs.lemmas.List.{take_more, take_more_set}
 pub use Rattle.std.proofs.lemmas.Grind.{flat_map-append}
 use Rattle.table_file.specs.Encoding.{entry_bytes}
-use Rattle.table_file.specs.Written.{Begins}
+use Rattle.text_line.specs.Writing.{Begins}
+use Rattle.text_line.proofs.Begun.{begins_same, begins_on}
 
 -- what is written and the bytes of the entries left are the bytes of all entries
 pub record ArePut (old : List ℕ) (cells : ℕ) (entries left : List ℤ) (done : ℕ) (new : List ℕ) : Type 0 where
@@ -15,25 +16,15 @@ pub record ArePut (old : List ℕ) (cells : ℕ) (entries left : List ℤ) (done
   pub text : new ++ flat_map entry_bytes left ≡ old ++ flat_map entry_bytes entries
   pub kept : Begins old new
 
-pub begins_same : (old new : List ℕ) → new ≡ old → Begins old new
-begins_same old new e = ([], e ∙ sym (append-nil old))
-
-pub begins_then : (a b c : List ℕ) → Begins a b → Begins b c → Begins a c
-begins_then a b c (x, e) (y, f) = (x ++ y, f ∙ ap (λ (l : List ℕ). l ++ y) e ∙ append_assoc a x y)
-
 -- a clause on failures, where it always holds
 pub on_err : {T E Q : Type 0} (result : Result T E) → Q → OnErr result Q
 on_err (Ok v) q = tt
 on_err (Err e) q = q
 
-begins_on : (old new more : List ℕ) → Begins old new → Begins old (new ++ more)
-begins_on old new more (added, e) =
-    (added ++ more, ap (λ (l : List ℕ). l ++ more) e ∙ append_assoc old added more)
-
 -- no cell is written yet
 pub put_begun : (old : List ℕ) (cells : ℕ) (entries : List ℤ) → length entries ≡ cells * 8
     → ArePut old cells entries entries 0 old
-put_begun old cells entries h = record { long = omega arith; text = refl; kept = ([], sym (append-nil old)) }
+put_begun old cells entries h = record { long = omega arith; text = refl; kept = begins_same old old refl }
 
 -- there is a cell left
 pub cell_left : (cells done : ℕ) (left : List ℤ) → length left ≡ (cells - done) * 8 → done < cells

@@ -1,5 +1,5 @@
 -- A file as it is written.
-use Rattle.std.specs.Prelude.{◌≡◌, ℕ, List, ◌++◌, flat_map}
+use Rattle.std.specs.Prelude.{ℕ, List, ◌++◌, flat_map}
 use Rattle.grid_moves.specs.declared.Corner.{Corner}
 use Rattle.plus_tables.specs.Tables.{TablesData}
 use Rattle.table_file.specs.Encoding.{entry_bytes, head_bytes}
@@ -8,7 +8,3 @@ use Rattle.table_file.specs.Encoding.{entry_bytes, head_bytes}
 abbrev pub file_of : Corner → TablesData → TablesData → List ℕ
 file_of corner land water = head_bytes corner land.width land.height
     ++ (flat_map entry_bytes land.entries ++ flat_map entry_bytes water.entries)
-
--- the second value begins with the first
-abbrev pub Begins : List ℕ → List ℕ → Type 0
-Begins old new = (added : List ℕ) × (new ≡ old ++ added)

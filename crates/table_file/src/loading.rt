@@ -4,7 +4,6 @@ ghost use Rattle.std.specs.Prelude.{◌≡◌, ◌≢◌, ◌+◌, ◌*◌, ◌<
 ghost use Rattle.grid_moves.specs.Grid.{AreSides, GridData, is_ground};
 ghost use Rattle.grid_moves.specs.declared.Ground.TheVariants.{Water};
 ghost use Rattle.plus_tables.specs.Tables.{AreTablesOf};
-ghost use Rattle.table_file.specs.declared.fault.TableFault.{TableFault};
 ghost use Rattle.table_file.specs.declared.fault.TableFault.TheVariants.{NoMemory};
 ghost use Rattle.table_file.specs.Encoding.{AreOfOneMap, encoding, entry_for, entry_bytes as entry_spec, head_bytes as head_spec};
 ghost use Rattle.table_file.specs.Faults.{Differs, Tells, entry_fault, first_wrong, frame_fault, table_fault_of};
@@ -31,17 +30,10 @@ pub fn load(
     // What is loaded are the tables of the grids.
     ensures land { IfOk result (λ tables. AreTablesOf tables.0 land.now) }
     ensures water { IfOk result (λ tables. AreTablesOf tables.1 water.now) }
-    // Only their encoding is loaded.
+    // Only their encoding is loaded, and a fault is the first way in which a text differs from it.
     ensures found { OnOk result (text.now ≡ encoding land.now.corner land.now water.now) }
-    // Their encoding is loaded, unless memory runs out.
-    ensures only { text.now ≡ encoding land.now.corner land.now water.now
-        → IfErr result (λ fault. fault ≡ NoMemory) }
-    // A fault is the first way in which the text differs from it.
     ensures first { IfErr result (λ fault. fault ≢ NoMemory
         → Differs land.now water.now text.now fault) }
-    // Where a text differs so, this fault is answered, unless memory runs out.
-    ensures broken { (fault : TableFault) → Differs land.now water.now text.now fault
-        → Tells result (Some fault) }
     // All of this as one function of the text.
     ensures exact { Tells result (table_fault_of land.now water.now text.now) }
 {

@@ -6,12 +6,14 @@ ghost use Rattle.plus_tables.specs.Tables.{AreTablesOf, IsWhole};
 ghost use Rattle.table_file.specs.Encoding as spec;
 ghost use Rattle.table_file.specs.Encoding.{AreOfOneMap, encoding, size_of};
 ghost use Rattle.table_file.specs.Faults.{table_fault_of};
-ghost use Rattle.table_file.specs.Written.{Begins, file_of};
+ghost use Rattle.table_file.specs.Written.{file_of};
+ghost use Rattle.text_line.specs.Writing.{Begins};
 
 use crate::NoMemory;
 use crate::encoding::{HEAD_SIZE, entry_bytes, head_bytes};
 use grid_moves::Corner;
 use plus_tables::Tables;
+use text_line::whole_or_nothing;
 
 /// Appends the encoding of two tables: those of the land grid and of the water grid of a map under this rule.
 ///
@@ -35,10 +37,7 @@ pub fn write_tables(
 {
     let before = out.len();
     let written = put_file(land, water, corner, out);
-    if written.is_err() {
-        out.truncate(before);
-    }
-    written
+    whole_or_nothing(out, before, written)
 }
 
 // Appends the file, or a first part of it where memory runs out.

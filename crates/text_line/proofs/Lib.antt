@@ -5,3 +5,4 @@ pub mod Placing
 pub mod LongDigits
 pub mod Reading
 pub mod Written
+pub mod Begun

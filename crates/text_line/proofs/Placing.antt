@@ -4,12 +4,14 @@ use Rattle.std.proofs.Common.{get_or, take, drop, Some, None, refl, sym, ap, ◌
 use Rattle.std.specs.Prelude.{filter, map, position}
 use Rattle.std.specs.List.{slice_split, onto_first}
 use Rattle.std.proofs.lemmas.Bool.{cases_Bool, not-false}
-use Rattle.std.proofs.lemmas.List.{drop_all, get_or-drop, length-drop, length-take-le}
+use Rattle.std.proofs.lemmas.List.{drop_all, take_all, get_or-drop, length-drop}
+use Rattle.std.proofs.lemmas.List.{length-take-le}
 use Rattle.std.proofs.Math.Seq.{drop-cons}
 use Rattle.std.proofs.lemmas.List.Quantifiers.{position-Some}
 use Rattle.text_line.specs.Lines.{pieces_of, without_cr}
 use Rattle.text_line.specs.Fields.{is_blank_byte, is_something, fields_of}
 use Rattle.text_line.specs.Places.{Placed, placed_from, fields_from, lines_from, room_of}
+use Rattle.text_line.specs.Places.{IsFirstField}
 use Rattle.text_line.specs.declared.lines.Line.{Line}
 use Rattle.text_line.specs.Left.{Left, GivesNext}
 use Rattle.text_line.proofs.Parts.{position-None, is_filled, parts_of_cut, parts_of_one}
@@ -98,36 +100,49 @@ fields_from_cut place (b ∷ bytes) (suc end) filled at =
 
 -- or at the line's end
 fields_from_one : (place : ℕ) (line : List ℕ) → 0 < length line → position is_blank_byte line ≡ None
-    → fields_from place line ≡ record { start = place; end = place + length line; bytes = line } ∷ []
+    → fields_from place line ≡ record {
+      start = place;
+      end = place + length line;
+      bytes = take (length line) line;
+    } ∷ fields_from (place + length line) (drop (length line) line)
 fields_from_one place [] some none = absurd (omega arith)
-fields_from_one place (b ∷ bytes) some none
-    = ap (λ (all : List (List ℕ)). filter (λ field. is_something field.bytes) (placed_from place all))
-    (parts_of_one (b ∷ bytes) (position-None is_blank_byte (b ∷ bytes) none))
+fields_from_one place (b ∷ bytes) some none =
+    rw (
+      take_all (length (b ∷ bytes)) (b ∷ bytes) (omega arith),
+      drop_all (length (b ∷ bytes)) (b ∷ bytes)
+          (omega arith),
+    ) (ap (λ (all : List (List ℕ)). filter (λ field. is_something field.bytes)
+    (placed_from place all)) (parts_of_one (b ∷ bytes) (position-None is_blank_byte (b ∷ bytes) none)))
 
--- the first field of a line that has one, and what follows it
-pub fields_from_first : (place : ℕ) (line : List ℕ) (start end : ℕ) → position is_filled line ≡ Some start
-    → position is_blank_byte (drop start line) ≡ Some end
-    → fields_from place line ≡ record {
-      start = place + start;
-      end = place + start + end;
-      bytes = take end
-          (drop start line);
-    } ∷ fields_from (place + start + end) (drop end (drop start line))
-fields_from_first place line start end from at =
-    grind (arith, position-Some, get_or-drop, add-zero, fields_from_skipped, fields_from_cut)
+-- the first field of a line that has one
+pub first_ends : (line : List ℕ) (from count : ℕ) → position is_filled line ≡ Some from
+    → position is_blank_byte (drop from line) ≡ Some count → IsFirstField line from count
+first_ends line from count begins ends = record {
+  within = grind (arith, position-Some, length-drop);
+  is = λ place. grind (arith, position-Some, get_or-drop, add-zero, fields_from_skipped, fields_from_cut);
+}
 
-pub fields_from_last : (place : ℕ) (line : List ℕ) (start : ℕ) → position is_filled line ≡ Some start
-    → position is_blank_byte (drop start line) ≡ None
-    → fields_from place line ≡ record {
-      start = place + start;
-      end = place + start + length (drop start line);
-      bytes = drop start line;
-    } ∷ []
-fields_from_last place line start from none =
-    let found = position-Some is_filled line start 0 from in
-    fields_from_skipped place line start (omega (arith, found.0)) found.2
-    ∙ fields_from_one (place + start) (drop start line)
-    (omega (arith, found.0, length-drop start line)) none
+pub first_is_last : (line : List ℕ) (from : ℕ) → position is_filled line ≡ Some from
+    → position is_blank_byte (drop from line) ≡ None → IsFirstField line from (length (drop from line))
+first_is_last line from begins none =
+    let found = position-Some is_filled line from 0 begins in
+    let some : 0 < length (drop from line) = omega (arith, found.0, length-drop from line) in
+    record {
+      within = omega (arith, found.0, length-drop from line);
+      is = λ place. fields_from_skipped place line from (omega (arith, found.0)) found.2
+          ∙ fields_from_one (place + from) (drop from line) some none;
+    }
+
+-- the same, places aside
+pub fields_of_first : (line : List ℕ) (from count : ℕ) → IsFirstField line from count
+    → fields_of line ≡ take count (drop from line) ∷ fields_of (drop count (drop from line))
+fields_of_first line from count first =
+    sym (bytes_of_fields 0 line) ∙ ap (map (λ field. field.bytes)) (first.is 0)
+    ∙ ap (λ (rest : List (List ℕ)). take count (drop from line) ∷ rest)
+    (bytes_of_fields (0 + from + count) (drop count (drop from line)))
+
+pub fields_of_none : (line : List ℕ) → ((place : ℕ) → fields_from place line ≡ []) → fields_of line ≡ []
+fields_of_none line none = sym (bytes_of_fields 0 line) ∙ ap (map (λ field. field.bytes)) (none 0)
 
 -- the next piece without its carriage return is the next line
 pub line_given : (old new : Left) (line : Line) (place : ℕ) (bytes : List ℕ) → GivesNext old (Some line) new

@@ -4,7 +4,7 @@ use Rattle.std.proofs.Common.{Ok, Err, refl, sym, ap, ◌∙◌, ◌⊎◌, inl,
 use Rattle.std.specs.Prelude.{IfOk, IfErr}
 use Rattle.std.specs.Option.{option_or}
 use Rattle.text_line.specs.Reading.{fault_in, reading, BreaksFirst, Tells, first_fault, values_on, read_lines}
-use Rattle.text_line.specs.Reading.{fault_on, values_in, SpellInOrder}
+use Rattle.text_line.specs.Reading.{fault_on, values_in, SpellInOrder, IsRightReading}
 
 -- what a text is read as is what it spells, or how it breaks its grammar
 pub record Reads {V F : Type 0} (Spells : V → Type 0) (Breaks : F → Type 0) (read : Result V F) : Type 0 where
@@ -33,6 +33,16 @@ module _ {A V F : Type 0} {Spells : V → Type 0} {Breaks : F → Type 0} {read 
   pub tells_broken : (answer : Result A F) → Tells memory view answer read → (fault : F) → Breaks fault
       → Tells memory view answer (Err fault)
   tells_broken answer tells fault breaks = rw (← reads.broken fault breaks) tells
+
+  pub right_reading : (answer : Result A F) → Tells memory view answer read
+      → IsRightReading memory view Spells Breaks read answer
+  right_reading answer tells = record {
+    found = tells_found answer tells;
+    only = tells_only answer tells;
+    first = tells_first answer tells;
+    broken = tells_broken answer tells;
+    exact = tells;
+  }
 
 pub reading_ok : {V F : Type 0} (found : Option F) (on value : V) → reading found on ≡ Ok value
     → (found ≡ None) × (on ≡ value)

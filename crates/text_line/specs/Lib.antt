@@ -6,3 +6,4 @@ pub mod Left
 pub mod Places
 pub mod Worked
 pub mod Reading
+pub mod Writing

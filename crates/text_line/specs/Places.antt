@@ -1,5 +1,6 @@
 -- The places in a text at which its lines and their fields begin.
-use Rattle.std.specs.Prelude.{◌≡◌, ℕ, ◌+◌, ◌^◌, ◌≤◌, List, [], ◌∷◌, filter, length, Option, Some, None}
+use Rattle.std.specs.Prelude.{◌≡◌, ℕ, ◌+◌, ◌^◌, ◌≤◌, List, [], ◌∷◌, filter, length, Option, Some}
+use Rattle.std.specs.Prelude.{None, take, drop}
 use Rattle.std.specs.List.{slice_split}
 use Rattle.text_line.specs.Lines.{pieces_of, without_cr}
 use Rattle.text_line.specs.Fields.{is_blank_byte, is_something}
@@ -28,6 +29,15 @@ placed_from place (piece ∷ pieces) = record { start = place; end = place + len
 abbrev pub fields_from : ℕ → List ℕ → List Placed
 fields_from place line =
     filter (λ field. is_something field.bytes) (placed_from place (slice_split is_blank_byte line))
+
+-- the first field of a line has so many bytes from this place of the line on, wherever the line begins
+pub record IsFirstField (line : List ℕ) (from count : ℕ) : Type 0 where
+  pub within : from + count ≤ length line
+  pub is : (place : ℕ) → fields_from place line ≡ record {
+    start = place + from;
+    end = place + from + count;
+    bytes = take count (drop from line);
+  } ∷ fields_from (place + from + count) (drop count (drop from line))
 
 -- the lines of pieces from a number and a place on, each piece one byte behind the end of the one before it
 abbrev pub lines_from : ℕ → ℕ → List (List ℕ) → List LineAt

@@ -1,6 +1,6 @@
 -- What texts are read as, line by line, and how an answer tells it.
 use Rattle.std.specs.Prelude.{◌≡◌, ◌≢◌, ℕ, ◌<◌, ◌⊎◌, List, [], ◌∷◌, ◌++◌, slice_get, Option, Some, None}
-use Rattle.std.specs.Prelude.{Result, Ok, Err}
+use Rattle.std.specs.Prelude.{Result, Ok, Err, IfOk, IfErr}
 use Rattle.std.specs.Option.{option_and_then, option_or}
 
 -- the fault of an answer, if it is one
@@ -23,6 +23,21 @@ pub record BreaksFirst {F : Type 0} (fault_at : ℕ → Option F) (fault : F) : 
 abbrev pub Tells : {A V F : Type 0} → F → (A → V) → Result A F → Result V F → Type 0
 Tells memory view (Ok answer) read = read ≡ Ok (view answer)
 Tells memory view (Err fault) read = fault ≢ memory → read ≡ Err fault
+
+-- what a reader promises of its answer for a text, told what the text spells, how it breaks its grammar first,
+-- and what it is read as
+pub record IsRightReading {A V F : Type 0} (memory : F) (view : A → V) (Spells : V → Type 0) (Breaks : F → Type 0)
+    (read : Result V F) (answer : Result A F) : Type 0 where
+  -- what is read is spelled so
+  pub found : IfOk answer (λ value. Spells (view value))
+  -- what is spelled so is read, unless memory runs out
+  pub only : (spelled : V) → Spells spelled → Tells memory view answer (Ok spelled)
+  -- a fault is that of the first line that breaks the grammar
+  pub first : IfErr answer (λ fault. fault ≢ memory → Breaks fault)
+  -- where a line breaks it first, its fault is answered, unless memory runs out
+  pub broken : (fault : F) → Breaks fault → Tells memory view answer (Err fault)
+  -- all of this as one function of the text
+  pub exact : Tells memory view answer read
 
 -- an answer for a line: what it is, where it breaks nothing, or its fault
 abbrev pub Judges : {X F : Type 0} → Result X F → Option F → (X → Type 0) → Type 0

@@ -1,7 +1,8 @@
 //! The fields of a line, one after another.
 
-ghost use Rattle.std.specs.Prelude.{◌≡◌, [], ◌∷◌, MatchOption, not, position};
+ghost use Rattle.std.specs.Prelude.{◌≡◌, ℕ, [], MatchOption, not, position};
 ghost use Rattle.text_line.specs.Fields.{fields_of, is_blank_byte as blank_byte};
+ghost use Rattle.text_line.specs.Places.{fields_from, IsFirstField};
 
 use std::marker::Model;
 
@@ -39,35 +40,36 @@ impl<'a> Iterator for Fields<'a> {
     ghost remaining = { item_count (λ fields. fields) };
 
     fn next(&mut self) -> Option<&'a [u8]> {
-        let (field, rest) = first_field(self.line)?;
+        let (from, count) = first_field(self.line)?;
+        let (field, rest) = self.line[from..].split_at(count);
         self.line = rest;
         Some(field)
     }
 }
 
-/// The first field of a line, if it has one, and the line after it.
-fn first_field(line: &[u8]) -> Option<(&[u8], &[u8])>
+/// Where the first field of a line begins and how many bytes it has, if the line has one.
+pub(crate) fn first_field(line: &[u8]) -> Option<(usize, usize)>
     ensures { MatchOption result
-        (fields_of line.now ≡ [])
-        (λ cut. fields_of line.now ≡ cut.0.now ∷ fields_of cut.1.now) }
+        ((place : ℕ) → fields_from place line.now ≡ [])
+        (λ cut. IsFirstField line.now cut.0 cut.1) }
 {
-    let start = place_of_field(line)?;
-    let field = &line[start..];
+    let from = place_of_field(line)?;
+    let field = &line[from..];
     match place_of_blank(field) {
-        Some(end) => Some(field.split_at(end)),
-        None => Some(field.split_at(field.len())),
+        Some(count) => Some((from, count)),
+        None => Some((from, field.len())),
     }
 }
 
 /// Where the first field of a line begins, if it has one.
-pub(crate) fn place_of_field(line: &[u8]) -> Option<usize>
+fn place_of_field(line: &[u8]) -> Option<usize>
     ensures { result ≡ position (λ byte. not (blank_byte byte)) line.now }
 {
     line.iter().position(|byte| !is_blank_byte(*byte))
 }
 
 /// Where the first space or tab of a line stands, if it has one.
-pub(crate) fn place_of_blank(line: &[u8]) -> Option<usize>
+fn place_of_blank(line: &[u8]) -> Option<usize>
     ensures { result ≡ position blank_byte line.now }
 {
     line.iter().position(|byte| is_blank_byte(*byte))

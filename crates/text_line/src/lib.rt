@@ -19,4 +19,4 @@ pub use long_numbers::long_number;
 pub use numbers::{digits_after, is_number, number};
 pub use places::{FieldsAt, LinesAt, PlacedField, PlacedLine};
 pub use std::alloc::AllocError as NoMemory;
-pub use writing::{put, put_number};
+pub use writing::{put, put_number, whole_or_nothing};

@@ -1,11 +1,11 @@
 //! Lines and fields with the places in the text at which they begin.
 
-ghost use Rattle.std.specs.Prelude.{◌≡◌, ◌∷◌, ◌+◌, ◌≤◌, ◌^◌, [], MatchOption, length, map};
+ghost use Rattle.std.specs.Prelude.{◌≡◌, ◌+◌, ◌≤◌, ◌^◌, length, map};
 ghost use Rattle.text_line.specs.Lines.{lines_of};
 ghost use Rattle.text_line.specs.Fields.{fields_of};
-ghost use Rattle.text_line.specs.Places.{fields_from, lines_at, placed};
+ghost use Rattle.text_line.specs.Places.{fields_from, lines_at};
 
-use crate::fields::{place_of_blank, place_of_field};
+use crate::fields::first_field;
 use crate::lines::{Line, Pieces, without_cr};
 use std::marker::Model;
 
@@ -128,31 +128,12 @@ impl<'a> Iterator for FieldsAt<'a> {
     ghost remaining = { item_count (λ fields. fields) };
 
     fn next(&mut self) -> Option<PlacedField<'a>> {
-        let (field, rest) = first_placed(self.line, self.place)?;
+        let (from, count) = first_field(self.line)?;
+        let (bytes, rest) = self.line[from..].split_at(count);
+        let start = self.place + from as u32;
+        let end = start + count as u32;
         self.line = rest;
-        self.place = field.end;
-        Some(field)
+        self.place = end;
+        Some(PlacedField { start, end, bytes })
     }
-}
-
-/// The first field of a line that begins at this place, if it has one, and the line after it.
-fn first_placed(line: &[u8], place: u32) -> Option<(PlacedField<'_>, &[u8])>
-    requires { place + length line.now ≤ 2 ^ 31 }
-    ensures first { MatchOption result
-        (fields_from place line.now ≡ [])
-        (λ cut. fields_from place line.now ≡ placed cut.0 ∷ fields_from cut.0.end cut.1.now) }
-    ensures end { MatchOption result
-        (Unit {0})
-        (λ cut. cut.0.end + length cut.1.now ≤ place + length line.now) }
-{
-    let skipped = place_of_field(line)?;
-    let field = &line[skipped..];
-    let length = match place_of_blank(field) {
-        Some(end) => end,
-        None => field.len(),
-    };
-    let (bytes, rest) = field.split_at(length);
-    let start = place + skipped as u32;
-    let end = start + length as u32;
-    Some((PlacedField { start, end, bytes }, rest))
 }

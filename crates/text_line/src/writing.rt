@@ -1,6 +1,6 @@
 //! Bytes and numbers at the end of a text.
 
-ghost use Rattle.std.specs.Prelude.{◌≡◌, ◌++◌, OnOk, OnErr, decimal};
+ghost use Rattle.std.specs.Prelude.{◌≡◌, ◌++◌, ◌≤◌, OnOk, OnErr, decimal, length, take};
 
 use crate::NoMemory;
 use itoa::Buffer;
@@ -20,4 +20,21 @@ pub fn put_number(out: &mut Vec<u8>, n: u64) -> Result<(), NoMemory>
 {
     let mut buffer = Buffer::new();
     put(out, buffer.format(n).as_bytes())
+}
+
+/// The answer of a writer that appended to a text of this length; for want of memory what it appended is
+/// taken back.
+pub fn whole_or_nothing(
+    out: &mut Vec<u8>,
+    before: usize,
+    written: Result<(), NoMemory>,
+) -> Result<(), NoMemory>
+    ensures answer { result ≡ written }
+    ensures ok { OnOk written (out.new.items ≡ out.old.items) }
+    ensures err { OnErr written (out.new.items ≡ take before out.old.items) }
+{
+    if written.is_err() {
+        out.truncate(before);
+    }
+    written
 }

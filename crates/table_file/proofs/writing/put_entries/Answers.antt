@@ -1,7 +1,7 @@
 use Rattle.std.proofs.Common.{◌∙◌, sym, subst, List, ℕ}
 use Rattle.std.proofs.lemmas.Result.{IfOk-from_err}
 use Rattle.table_file.proofs.Putting.{cell_left, put_all, put_begun, put_on, on_err}
-use Rattle.table_file.specs.Written.{Begins}
+use Rattle.text_line.specs.Writing.{Begins}
 use Rattle.table_file.proofs.writing.put_entries.Goals as goal
 
 pub loop-done-init : goal.loop-done-init

@@ -2,7 +2,8 @@ use Rattle.std.proofs.Common.{◌≡◌, ◌∙◌, ◌++◌, Result, refl, flat
 use Rattle.std.specs.Prelude.{OnErr, OnOk, Ok, Err}
 use Rattle.std.proofs.lemmas.Result.{IfOk-from_err}
 use Rattle.table_file.specs.Encoding.{entry_bytes, head_bytes}
-use Rattle.table_file.proofs.Putting.{begins_same, begins_then, file_put, on_err}
+use Rattle.text_line.proofs.Begun.{begins_same, begins_then}
+use Rattle.table_file.proofs.Putting.{file_put, on_err}
 use Rattle.table_file.proofs.writing.put_file.Goals as goal
 
 on_err_then : {T E P Q : Type 0} (answer : Result T E) → (P → Q) → OnErr answer P → OnErr answer Q
