@@ -10,3 +10,4 @@ pub mod Trace
 pub mod Index
 pub mod Space
 pub mod Answer
+pub mod Made

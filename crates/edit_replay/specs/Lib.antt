@@ -5,5 +5,4 @@ pub mod Mended
 pub mod Counting
 pub mod Replies
 pub mod Found
-pub mod Existence
-pub mod Oneness
+pub mod Told

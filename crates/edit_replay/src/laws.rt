@@ -1,11 +1,16 @@
 //! Laws of replies: each is the contract of a call that does nothing.
 
-ghost use Rattle.edit_replay.specs.Existence.{RepliesExist};
-ghost use Rattle.edit_replay.specs.Oneness.{RepliesAreOne};
+ghost use Rattle.edit_replay.specs.Told.{NoneElseReplies, RepliesAreOne, RepliesAreTold};
 
-/// Whatever the engine, the grids and the ends, there is a reply that is right and the engine's run.
-pub fn replies_exist()
-    ensures { RepliesExist }
+/// Whatever the engine, the grids and the ends, there is a reply that is right and the engine's run: a
+/// function of these tells it.
+pub fn replies_are_told()
+    ensures { RepliesAreTold }
+{}
+
+/// On the layers of one map no other reply is right and the run of the session's engine.
+pub fn none_else_replies()
+    ensures { NoneElseReplies }
 {}
 
 /// Whatever the ends, on the layers of one map there is no other such reply: two that are right and the

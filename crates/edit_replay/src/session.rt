@@ -10,6 +10,7 @@ ghost use Rattle.edit_replay.specs.Counting.{RoseByStates, RoseWithin, fewest_of
 ghost use Rattle.edit_replay.specs.Edited.{edit_at, edit_reply};
 ghost use Rattle.edit_replay.specs.Mended.{IsEditCounted};
 ghost use Rattle.edit_replay.specs.Replies.{answer_of, AddsEdit, EditsSo, IsRunReply, IsShort};
+ghost use Rattle.edit_replay.specs.Told.{reply_of};
 
 use crate::kept::{Both, Finder, Kept, space_of};
 use crate::parts::Parts;
@@ -165,8 +166,9 @@ impl Session {
     ///
     /// A query that starts in water runs among water cells, any other among land cells. Ends in
     /// different layers have no walk; then nothing is searched. A walk has fewer than 2^24 steps,
-    /// since it comes to no cell twice. Where memory is wanting, the session stands for the same
-    /// layers as before, and may be asked and edited again.
+    /// since it comes to no cell twice. The reply is a function of the engine, the layers and the ends.
+    /// Where memory is wanting, the session stands for the same layers as before, and may be asked and
+    /// edited again.
     ///
     /// `steps` counts what the engine counts: by the most and the fewest that are told of it, for each
     /// state that was taken. `plain` counts none, and `jps` none where it answers.
@@ -184,6 +186,8 @@ impl Session {
             (answer_of reply)) }
         ensures run { IfOk result
             (IsRunReply self.old (record { x = sx; y = sy }) (record { x = gx; y = gy })) }
+        ensures told { IfOk result (λ reply. reply
+            ≡ reply_of self.old.engine self.old.layers (record { x = sx; y = sy }) (record { x = gx; y = gy })) }
         ensures short { IfOk result (λ reply. IsShort (answer_of reply)) }
         ensures unchanged { self.new ≡ self.old }
         ensures most { IfOk result (RoseWithin (most_of self.old.engine) steps.old steps.new) }

@@ -4,7 +4,8 @@ use Rattle.grid_moves.specs.declared.Cell.{Cell}
 use Rattle.grid_moves.specs.Grid.{GridData, is_free}
 use Rattle.path_points.specs.Corners.{corners}
 use Rattle.best_first.specs.Answer.{HasAnswer}
-use Rattle.best_first.proofs.Answering.{some_answer}
+use Rattle.best_first.specs.Made.{found_of}
+use Rattle.best_first.proofs.Answering.{found_answers}
 use Rattle.goal_boxes.specs.Answer.{IsBoxedRunOn}
 use Rattle.goal_boxes.specs.Rule.{boxed_links}
 use Rattle.goal_boxes.proofs.Existing.{all_boxes, all_told}
@@ -15,9 +16,9 @@ use Rattle.goal_boxes.proofs.Right.{run_least}
 pub has_answer : (g : GridData) (s t : Cell) → is_free g s ≡ true → HasAnswer IsBoxedRunOn g s t
 has_answer g s t free =
     let b = all_boxes g in
-    let a = some_answer g.width g.height t (boxed_links g b t) (boxed_are_links g b t) corners s in
+    let run = found_answers g.width g.height t (boxed_links g b t) (boxed_are_links g b t) corners s in
     record {
-      answer = a.0;
-      run = record { box = b; tells = all_told g; run = a.1 };
-      least = run_least g b t (all_told g) s a.0 free a.1;
+      answer = found_of g.width g.height t (boxed_links g b t) corners s;
+      run = record { box = b; tells = all_told g; run = run };
+      least = run_least g b t (all_told g) s _ free run;
     }

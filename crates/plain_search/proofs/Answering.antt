@@ -1,20 +1,29 @@
--- From each free cell the plain run ends, and what it ends with is an answer: the only one.
-use Rattle.std.proofs.Common.{◌≡◌, true}
+-- What the plain engine's run answers is told by a function.
 use Rattle.grid_moves.specs.declared.Cell.{Cell}
-use Rattle.grid_moves.specs.Grid.{GridData, is_free}
+use Rattle.grid_moves.specs.Grid.{GridData}
 use Rattle.path_points.specs.Corners.{corners}
-use Rattle.best_first.specs.declared.found.Found.{Found}
-use Rattle.best_first.specs.Answer.{HasAnswer}
-use Rattle.best_first.proofs.Answering as search
-use Rattle.plain_search.specs.Answer.{IsPlainRun}
+use Rattle.best_first.specs.Answer.{AnswersAre, AnswersExist, RunsAreOne}
+use Rattle.best_first.proofs.Answering.{are_one, exist, found_answers, only_answer}
+use Rattle.plain_search.specs.Answer.{IsPlainRun, plain_found}
 use Rattle.plain_search.specs.Rule.{plain_links}
 use Rattle.plain_search.proofs.Right.{run_least}
 use Rattle.plain_search.proofs.Walks.{plain_are_links}
 
-pub one_answer : (g : GridData) (s t : Cell) (f h : Found) → IsPlainRun g s t f → IsPlainRun g s t h → f ≡ h
-one_answer g s t = search.one_answer g.width g.height t (plain_links g) (plain_are_links g) corners s
+is_run : (g : GridData) (s t : Cell) → IsPlainRun g s t (plain_found g s t)
+unfolding plain_found
+is_run g s t = found_answers g.width g.height t (plain_links g) (plain_are_links g) corners s
 
-pub has_answer : (g : GridData) (s t : Cell) → is_free g s ≡ true → HasAnswer IsPlainRun g s t
-has_answer g s t free =
-    let a = search.some_answer g.width g.height t (plain_links g) (plain_are_links g) corners s in
-    record { answer = a.0; run = a.1; least = run_least g s t a.0 free a.1 }
+pub answers_are : AnswersAre IsPlainRun plain_found
+unfolding plain_found
+answers_are = record {
+  run = is_run;
+  least = λ g s t free. run_least g s t (plain_found g s t) free (is_run g s t);
+  only = λ g s t. only_answer g.width g.height t (plain_links g) (plain_are_links g) corners s;
+}
+
+-- so there is one, and one alone
+pub has_answer : AnswersExist IsPlainRun
+has_answer = exist answers_are
+
+pub one_answer : RunsAreOne IsPlainRun
+one_answer = are_one answers_are

@@ -6,6 +6,7 @@ use Rattle.grid_moves.specs.Grid.{GridData}
 use Rattle.path_points.specs.Corners.{corners}
 use Rattle.best_first.specs.declared.found.Found.{Found}
 use Rattle.best_first.specs.Answer as answer
+use Rattle.best_first.specs.Made.{found_of}
 use Rattle.best_first.specs.Progress as search
 use Rattle.plain_search.specs.Rule.{plain_links}
 
@@ -20,3 +21,7 @@ IsExhausted g s t taken = search.IsExhausted g.width t (plain_links g) s taken
 -- the answer is that of the plain engine's run from s to t
 abbrev pub IsPlainRun : GridData → Cell → Cell → Found → Type 0
 IsPlainRun g s t f = answer.IsAnswer g.width t (plain_links g) corners s f
+
+-- what that run answers
+unfoldable pub plain_found : GridData → Cell → Cell → Found
+plain_found g s t = found_of g.width g.height t (plain_links g) corners s

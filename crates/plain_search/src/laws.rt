@@ -1,7 +1,13 @@
 //! Laws of the plain search: each is the contract of a call that does nothing.
 
-ghost use Rattle.best_first.specs.Answer.{AnswersExist, RunsAreOne};
-ghost use Rattle.plain_search.specs.Answer.{IsPlainRun};
+ghost use Rattle.best_first.specs.Answer.{AnswersAre, AnswersExist, RunsAreOne};
+ghost use Rattle.plain_search.specs.Answer.{IsPlainRun, plain_found};
+
+/// The answer of the plain engine's run is a function of the grid and the two cells: it is right where the
+/// first is free, and no other answer is the run's.
+pub fn answers_are_told()
+    ensures { AnswersAre IsPlainRun plain_found }
+{}
 
 /// From each free cell to each cell of a map there is an answer that is right and that of the plain
 /// engine's run: its run from there ends.

@@ -7,7 +7,8 @@ use Rattle.grid_moves.specs.Ends.{AreApart}
 use Rattle.grid_moves.specs.Grid.{is_free}
 use Rattle.grid_moves.specs.Layers.{Layers, in_one_layer, is_free_ground, is_on_map, query_grid}
 use Rattle.grid_moves.specs.Reply.{IsRight, are_free_ends}
-use Rattle.edit_replay.proofs.Replying.{has_reply}
+use Rattle.edit_replay.proofs.Replying.{told}
+use Rattle.edit_replay.specs.Told.{reply_of}
 use Rattle.edit_replay.specs.Replies.{answer_of}
 use Rattle.edit_replay.specs.Session.{SessionData}
 use Rattle.best_first.specs.declared.state.Layout.TheVariants.{ByCell}
@@ -90,14 +91,14 @@ module _ (ls : Layers) (entry : Entry) where
       → (b : Bool) → are_free_ends ls from to ≡ b → (how : Settled) × IsSettled ls entry how
   settled-inside sides on false free = (settled.Blocked, (sides, (on, free)))
   settled-inside sides on true free =
-      let h = has_reply session from to in (
-        settled.Searched from to (cost_in h.reply),
+      let r = reply_of session.engine ls from to in (
+        settled.Searched from to (cost_in r),
         record {
           sides = sides;
           start = refl;
           goal = refl;
           free = free;
-          least = right-costs ls from to h.reply on free h.right;
+          least = right-costs ls from to r on free (told session from to).right;
         },
       )
 

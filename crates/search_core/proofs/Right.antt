@@ -24,7 +24,8 @@ use Rattle.best_first.specs.declared.state.Layout.{Layout}
 use Rattle.best_first.specs.declared.state.Layout.TheVariants.{ByArrival}
 use Rattle.best_first.specs.declared.state.State.{State}
 use Rattle.best_first.specs.State.{start_at}
-use Rattle.best_first.proofs.Answering.{some_answer}
+use Rattle.best_first.specs.Made.{found_of}
+use Rattle.best_first.proofs.Answering.{found_answers}
 use Rattle.search_core.specs.Jumps.{jump_links, jump_rule}
 use Rattle.search_core.specs.Answer.{IsFound, IsExhausted, IsJumpRun}
 use Rattle.search_core.proofs.Links.{jumps_are_links}
@@ -113,9 +114,10 @@ module _ (g : GridData) (s t : Cell) where
 
   pub least_or_none : is_free g s ≡ true → HasLeastWalk
   least_or_none free =
-      let a = some_answer g.width g.height t (jump_links ByArrival g t) (jumps_are_links ByArrival g t)
-      (λ cells. cells) s in
-      by_answer a.0.walk a.0.taken a.1
+      let f = found_of g.width g.height t (jump_links ByArrival g t) (λ cells. cells) s in
+      by_answer f.walk f.taken
+      (found_answers g.width g.height t (jump_links ByArrival g t) (jumps_are_links ByArrival g t)
+      (λ cells. cells) s)
     where
       by_answer : (o : Option Walk) (taken : List ℕ)
           → IsJumpRun ByArrival g s t (record { walk = o; taken = taken }) → HasLeastWalk

@@ -6,6 +6,7 @@ use Rattle.grid_moves.specs.Grid.{GridData}
 use Rattle.best_first.specs.declared.found.Found.{Found}
 use Rattle.best_first.specs.declared.state.Layout.{Layout}
 use Rattle.best_first.specs.Answer as answer
+use Rattle.best_first.specs.Made.{found_of}
 use Rattle.best_first.specs.Progress as progress
 use Rattle.search_core.specs.Jumps.{jump_links}
 
@@ -22,3 +23,7 @@ IsExhausted layout g s t taken = progress.IsExhausted g.width t (jump_links layo
 -- at a cell or one for each cell
 abbrev pub IsJumpRun : Layout → GridData → Cell → Cell → Found → Type 0
 IsJumpRun layout g s t f = answer.IsAnswer g.width t (jump_links layout g t) (λ cells. cells) s f
+
+-- what that run answers
+unfoldable pub jump_found : Layout → GridData → Cell → Cell → Found
+jump_found layout g s t = found_of g.width g.height t (jump_links layout g t) (λ cells. cells) s

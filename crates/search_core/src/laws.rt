@@ -1,10 +1,16 @@
 //! Laws of the search over jumps: each is the contract of a call that does nothing.
 
 ghost use Rattle.best_first.specs.declared.state.Layout.{Layout};
-ghost use Rattle.best_first.specs.Answer.{AnswersExist, RunsAreOne};
+ghost use Rattle.best_first.specs.Answer.{AnswersAre, AnswersExist, RunsAreOne};
 ghost use Rattle.search_core.specs.AnyTies.{AnyTiesEndRight};
-ghost use Rattle.search_core.specs.Answer.{IsJumpRun};
+ghost use Rattle.search_core.specs.Answer.{IsJumpRun, jump_found};
 ghost use Rattle.search_core.specs.Laws.{CostsFit, EstimateSuits, RunsAreRight};
+
+/// The answer of the jump engines' run is a function of its states, the grid and the two cells: it is right
+/// where the first is free, and no other answer is the run's, whichever source found the jumps.
+pub fn answers_are_told()
+    ensures { (layout : Layout) → AnswersAre (IsJumpRun layout) (jump_found layout) }
+{}
 
 /// From each free cell to each cell of a map there is an answer that is right and that of the jump
 /// engines' run: its run from there ends.

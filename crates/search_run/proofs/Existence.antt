@@ -1,16 +1,20 @@
--- A run that ends exists where links lead to finitely many states: a scan of them finds the next state,
--- and each state that is taken leaves one less to take.
+-- The run that is made is a run that ends, where links lead to finitely many states: a scan of them finds the
+-- next state, and each state that is taken leaves one less to take.
 use Rattle.std.proofs.Common.{◌≡◌, ℕ, zero, suc, ◌<◌, ◌≤◌, ◌⊎◌, inl, inr, refl, sym, ◌∙◌, subst, Bool, true}
-use Rattle.std.proofs.Common.{false, ◌||◌, ◌&&◌, List, [], ◌∷◌, arith}
+use Rattle.std.proofs.Common.{false, ◌||◌, ◌&&◌, List, [], ◌∷◌, length, arith}
 use Rattle.std.proofs.lemmas.Bool.Decides.{nat_tests}
 use Rattle.std.specs.Prelude.{Option, Some, None, if◌then◌else◌, nat_eq, nat_lt}
+use Rattle.std.specs.Option.{option_map_or}
 use Rattle.root2_cost.specs.declared.Cost.{Cost}
 use Rattle.root2_cost.specs.Order.{is_less, IsLess}
 use Rattle.root2_cost.proofs.Less.{IsLess-irreflexive, IsLess-trans, same_cost}
 use Rattle.root2_cost.specs.Sums.{no_cost}
 use Rattle.search_run.specs.Run.{Rule, Taken, Offer, least_offer, is_taken, has_goal, sum_at, goes_before}
 use Rattle.search_run.specs.Run.{IsNext, IsRun, NoneWaits}
-use Rattle.search_run.specs.Ended.{HasEndedRun, is_one_of, IsCovered}
+use Rattle.search_run.specs.Ended.{IsEndedRun, is_one_of, IsCovered}
+use Rattle.search_run.specs.Laws.{NumbersTellStates}
+use Rattle.search_run.specs.Made.{former, next_among, run_of, run_on, taken_by}
+use Rattle.search_run.proofs.Sameness.{ended_runs}
 use Rattle.search_run.proofs.Leastness.{Waits, one_cost, least_offer-from}
 
 -- first by a lesser sum, or by a lesser number where the sums are equal
@@ -74,6 +78,15 @@ module _ {S : Type 0} (r : Rule S) where
   untaken run [] = 0
   untaken run (v ∷ rest) = if is_taken r run v then untaken run rest else suc (untaken run rest)
 
+  no_more_than : (run : List (Taken S)) (all : List S) → untaken run all ≤ length all
+  no_more_than run [] = omega arith
+  no_more_than run (v ∷ rest) =
+      one_more (is_taken r run v) (untaken run rest) (length rest) (no_more_than run rest)
+    where
+      one_more : (b : Bool) (m n : ℕ) → m ≤ n → (if b then m else suc m) ≤ suc n
+      one_more true m n h = omega arith
+      one_more false m n h = omega arith
+
   -- taking a state leaves no more of them
   no_more : (x : Taken S) (run : List (Taken S)) (all : List S) → untaken (x ∷ run) all ≤ untaken run all
   no_more x run [] = omega arith
@@ -121,15 +134,15 @@ module _ {S : Type 0} (r : Rule S) where
 
     module _ (run : List (Taken S)) where
       -- of these states this one waits, and none that waits goes before it
-      record IsFirstOf (among : List S) (x : S) (p : Offer S) : Type 0 where
-        waits : Waits r run x p
+      record IsFirstOf (among : List S) (x : Taken S) : Type 0 where
+        waits : Waits r run x.state (record { cost = x.cost; from = x.parent })
         first : (s : S) (o : Offer S) → is_one_of r among s ≡ true → Waits r run s o
-            → goes_before r s o.cost x p.cost ≡ false
+            → goes_before r s o.cost x.state x.cost ≡ false
 
-      -- none of these states waits, or one is first
-      data Choice (among : List S) : Type 0 where
-        nothing : ((s : S) (o : Offer S) → is_one_of r among s ≡ true → Waits r run s o → ⊥) → Choice among
-        chosen : (x : S) (p : Offer S) → IsFirstOf among x p → Choice among
+      -- none of these states waits, or this one is first
+      abbrev IsChoice : List S → Option (Taken S) → Type 0
+      IsChoice among None = (s : S) (o : Offer S) → is_one_of r among s ≡ true → Waits r run s o → ⊥
+      IsChoice among (Some x) = IsFirstOf among x
 
       -- what is known of one state's offer holds of its every reading
       not_before_at : (v s x : S) (q o : Offer S) (c : Cost) → v ≡ s → Waits r run v q → Waits r run s o
@@ -142,56 +155,63 @@ module _ {S : Type 0} (r : Rule S) where
           (one_cost (least_offer r run v) q o w.offered same) h)
 
       -- one state more, which does not wait
-      passed : (v : S) (rest : List S) → ((o : Offer S) → Waits r run v o → ⊥) → Choice rest
-          → Choice (v ∷ rest)
-      passed v rest n (nothing none) = nothing (λ s o i w. elim (parted v rest s i) [
+      passed : (v : S) (rest : List S) → ((o : Offer S) → Waits r run v o → ⊥) → (q : Option (Taken S))
+          → IsChoice rest q → IsChoice (v ∷ rest) q
+      passed v rest n None none = λ s o i w. elim (parted v rest s i) [
         | inl e ↦ n o (subst (λ (u : S). Waits r run u o) (sym e) w)
         | inr j ↦ none s o j w
-      ])
-      passed v rest n (chosen x p f) = chosen x p (record {
+      ]
+      passed v rest n (Some x) f = record {
         waits = f.waits;
         first = λ s o i w. elim (parted v rest s i) [
           | inl e ↦ absurd (n o (subst (λ (u : S). Waits r run u o) (sym e) w))
           | inr j ↦ f.first s o j w
         ];
-      })
+      }
 
       -- one state more, which waits
-      joined : (v : S) (q : Offer S) (rest : List S) → Waits r run v q → Choice rest → Choice (v ∷ rest)
-      joined v q rest w (nothing none) = chosen v q (record {
+      joined : (v : S) (o : Offer S) (rest : List S) → Waits r run v o → (q : Option (Taken S))
+          → IsChoice rest q → IsChoice (v ∷ rest) (former r (taken_by v (Some o)) q)
+      joined v q rest w None none = record {
         waits = w;
         first = λ s o i z. elim (parted v rest s i) [
           | inl e ↦ not_before_at v s v q o q.cost e w z (not_before_itself v q.cost)
           | inr j ↦ absurd (none s o j z)
         ];
-      })
-      joined v q rest w (chosen x p f) = by_test (goes_before r v q.cost x p.cost) refl
+      }
+      joined v q rest w (Some x) f = by_test (goes_before r v q.cost x.state x.cost) refl
         where
-          by_test : (b : Bool) → goes_before r v q.cost x p.cost ≡ b → Choice (v ∷ rest)
-          by_test true h = chosen v q (record {
+          by_test : (b : Bool) → goes_before r v q.cost x.state x.cost ≡ b
+              → IsChoice (v ∷ rest) (if b then taken_by v (Some q) else Some x)
+          by_test true h = record {
             waits = w;
             first = λ s o i z. elim (parted v rest s i) [
               | inl e ↦ not_before_at v s v q o q.cost e w z (not_before_itself v q.cost)
-              | inr j ↦ not_before_earlier s v x o.cost q.cost p.cost h (f.first s o j z)
+              | inr j ↦ not_before_earlier s v x.state o.cost q.cost x.cost h (f.first s o j z)
             ];
-          })
-          by_test false h = chosen x p (record {
+          }
+          by_test false h = record {
             waits = f.waits;
             first = λ s o i z. elim (parted v rest s i) [
-              | inl e ↦ not_before_at v s x q o p.cost e w z h
+              | inl e ↦ not_before_at v s x.state q o x.cost e w z h
               | inr j ↦ f.first s o j z
             ];
-          })
+          }
 
-      choice : (among : List S) → Choice among
-      choice [] = nothing (λ s o i w. absurd (cc))
+      -- so the scan finds the first of them
+      choice : (among : List S) → IsChoice among (next_among r run among)
+      choice [] = λ s o i w. absurd (cc)
       choice (v ∷ rest) = by_offer (is_taken r run v) (least_offer r run v) refl refl (choice rest)
         where
           by_offer : (b : Bool) (q : Option (Offer S)) → is_taken r run v ≡ b → least_offer r run v ≡ q
-              → Choice rest → Choice (v ∷ rest)
-          by_offer true q t e c = passed v rest (λ o w. let u = w.untaken in absurd (cc)) c
-          by_offer false None t e c = passed v rest (λ o w. let u = w.offered in absurd (cc)) c
-          by_offer false (Some q) t e c = joined v q rest (record { untaken = t; offered = e }) c
+              → IsChoice rest (next_among r run rest)
+              → IsChoice (v ∷ rest) (former r (if b then None else taken_by v q) (next_among r run rest))
+          by_offer true q t e c =
+              passed v rest (λ o w. let u = w.untaken in absurd (cc)) (next_among r run rest) c
+          by_offer false None t e c =
+              passed v rest (λ o w. let u = w.offered in absurd (cc)) (next_among r run rest) c
+          by_offer false (Some q) t e c =
+              joined v q rest (record { untaken = t; offered = e }) (next_among r run rest) c
 
     module _ (start : S) (all : List S) (covered : IsCovered r all) where
       -- a state that waits is one of those that links lead to
@@ -212,45 +232,55 @@ module _ {S : Type 0} (r : Rule S) where
               absurd (none s o (waits_inside run s o w) w)
 
       -- the first of them is next
-      is_next : (run : List (Taken S)) (x : S) (p : Offer S) → IsFirstOf run all x p
-          → IsNext r run (record { state = x; cost = p.cost; parent = p.from })
-      is_next run x p f = record {
+      is_next : (run : List (Taken S)) (x : Taken S) → IsFirstOf run all x → IsNext r run x
+      is_next run x f = record {
         waits = f.waits.untaken;
         offered = f.waits.offered;
         first = λ s o t e. let w : Waits r run s o = record { untaken = t; offered = e } in
             f.first s o (waits_inside run s o w) w;
       }
 
-      -- one state more, with fewer than n of them left, and a run that ends is found
+      -- one state more, with fewer than n of them left, and the run ends
       abbrev LeadsOn : ℕ → List (Taken S) → Type 0
       LeadsOn n run = (y : Taken S) → IsRun r start (y ∷ run) → untaken (y ∷ run) all < n
-          → HasEndedRun r start
+          → IsEndedRun r start (run_on r all n (y ∷ run))
 
       -- a run goes on until it ends, as each state that it takes leaves fewer
       runs_on : (n : ℕ) (x : Taken S) (earlier : List (Taken S)) → IsRun r start (x ∷ earlier)
-          → untaken (x ∷ earlier) all < n → HasEndedRun r start
+          → untaken (x ∷ earlier) all < n → IsEndedRun r start (run_on r all n (x ∷ earlier))
       runs_on zero x earlier is few = absurd (omega arith)
       runs_on (suc n) x earlier is few =
           by_goal (λ y. runs_on n y (x ∷ earlier)) (has_goal r (x ∷ earlier)) refl
         where
-          further : LeadsOn n (x ∷ earlier) → has_goal r (x ∷ earlier) ≡ false → Choice (x ∷ earlier) all
-              → HasEndedRun r start
-          further again g (nothing none) =
-              record { run = x ∷ earlier; is_run = is; ended = inr (none_left (x ∷ earlier) none) }
-          further again g (chosen v p f) =
-              let next = is_next (x ∷ earlier) v p f in
-              let y : Taken S = record { state = v; cost = p.cost; parent = p.from } in
+          further : LeadsOn n (x ∷ earlier) → has_goal r (x ∷ earlier) ≡ false → (q : Option (Taken S))
+              → IsChoice (x ∷ earlier) all q
+              → IsEndedRun r start (option_map_or (λ y. run_on r all n (y ∷ x ∷ earlier)) q (x ∷ earlier))
+          further again g None none = record { is_run = is; ended = inr (none_left (x ∷ earlier) none) }
+          further again g (Some y) f =
               let fewer : untaken (y ∷ x ∷ earlier) all < untaken (x ∷ earlier) all =
-              one_less y (x ∷ earlier) all (waits_inside (x ∷ earlier) v p f.waits) f.waits.untaken in
-              again y (is, g, next) (omega arith)
+              one_less y (x ∷ earlier) all
+              (waits_inside (x ∷ earlier) y.state (record { cost = y.cost; from = y.parent }) f.waits)
+              f.waits.untaken in
+              again y (is, g, is_next (x ∷ earlier) y f) (omega arith)
 
           by_goal : LeadsOn n (x ∷ earlier) → (b : Bool) → has_goal r (x ∷ earlier) ≡ b
-              → HasEndedRun r start
-          by_goal again true g = record { run = x ∷ earlier; is_run = is; ended = inl g }
-          by_goal again false g = further again g (choice (x ∷ earlier) all)
+              → IsEndedRun r start (if b then x ∷ earlier else
+              option_map_or (λ y. run_on r all n (y ∷ x ∷ earlier)) (next_among r (x ∷ earlier) all)
+              (x ∷ earlier))
+          by_goal again true g = record { is_run = is; ended = inl g }
+          by_goal again false g =
+              further again g (next_among r (x ∷ earlier) all) (choice (x ∷ earlier) all)
 
-      -- there is a run that ends
-      pub ended_run : HasEndedRun r start
-      ended_run =
+      -- what is made is a run that ends
+      pub made_ends : IsEndedRun r start (run_of r all start)
+      unfolding run_of
+      made_ends =
           let x : Taken S = record { state = start; cost = no_cost; parent = start } in
-          runs_on (suc (untaken (x ∷ []) all)) x [] refl (omega arith)
+          let few = no_more_than (x ∷ []) all in
+          runs_on (suc (length all)) x [] refl (omega arith)
+
+      -- and each run that ends is it
+      pub ended_is_made : NumbersTellStates r → (run : List (Taken S)) → IsEndedRun r start run
+          → run ≡ run_of r all start
+      ended_is_made tell run is =
+          ended_runs r tell start run (run_of r all start) is.is_run made_ends.is_run is.ended made_ends.ended

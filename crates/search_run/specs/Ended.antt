@@ -7,9 +7,8 @@ use Rattle.search_run.specs.Run.{Rule, Taken, IsRun, NoneWaits, has_goal}
 abbrev pub IsEnded : {S : Type 0} → Rule S → List (Taken S) → Type 0
 IsEnded r run = (has_goal r run ≡ true) ⊎ NoneWaits r run
 
--- a run from the start that ends
-pub record HasEndedRun {S : Type 0} (r : Rule S) (start : S) : Type 0 where
-  pub run : List (Taken S)
+-- this is a run from the start, and it ends
+pub record IsEndedRun {S : Type 0} (r : Rule S) (start : S) (run : List (Taken S)) : Type 0 where
   pub is_run : IsRun r start run
   pub ended : IsEnded r run
 

@@ -4,7 +4,8 @@ use Rattle.root2_cost.specs.declared.Cost.{Cost}
 use Rattle.root2_cost.specs.Order.{IsLess, IsAtMost}
 use Rattle.root2_cost.specs.Sums.{add_costs}
 use Rattle.search_run.specs.Run.{Rule, Taken, IsIn, IsRun, NoneWaits, has_goal, is_taken, least_offer, sum_at}
-use Rattle.search_run.specs.Ended.{IsEnded, HasEndedRun, IsCovered}
+use Rattle.search_run.specs.Ended.{IsEnded, IsEndedRun, IsCovered}
+use Rattle.search_run.specs.Made.{run_of}
 use Rattle.search_run.specs.Chain.{Chain, IsConsistent}
 
 -- numbers tell apart the states that links lead to
@@ -61,9 +62,16 @@ EndedRunsAreOne S =
     (r : Rule S) → NumbersTellStates r → (start : S) (one other : List (Taken S)) → IsRun r start one
     → IsRun r start other → IsEnded r one → IsEnded r other → one ≡ other
 
--- where states are the same exactly if they are equal, and links lead to finitely many of them, a run that
--- ends exists
-abbrev pub EndedRunsExist : Type 0 → Type 0
-EndedRunsExist S =
+-- where states are the same exactly if they are equal, and links lead to these alone, what is made of them is a
+-- run that ends
+abbrev pub RunsAreMade : Type 0 → Type 0
+RunsAreMade S =
     (r : Rule S) → ((u v : S) → r.is_same u v ≡ true → u ≡ v) → ((s : S) → r.is_same s s ≡ true) → (start : S)
-    (all : List S) → IsCovered r all → HasEndedRun r start
+    (all : List S) → IsCovered r all → IsEndedRun r start (run_of r all start)
+
+-- and each run from that start that ends is it
+abbrev pub EndedRunsAreMade : Type 0 → Type 0
+EndedRunsAreMade S =
+    (r : Rule S) → NumbersTellStates r → ((u v : S) → r.is_same u v ≡ true → u ≡ v)
+    → ((s : S) → r.is_same s s ≡ true) → (start : S) (all : List S) → IsCovered r all → (run : List (Taken S))
+    → IsEndedRun r start run → run ≡ run_of r all start

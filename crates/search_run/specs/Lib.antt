@@ -2,3 +2,4 @@ pub mod Run
 pub mod Chain
 pub mod Laws
 pub mod Ended
+pub mod Made

@@ -1,9 +1,9 @@
 //! Laws of runs: each is the contract of a call that does nothing, for states of any type.
 //!
-//! All but the last three ask that the estimate is consistent: over a link it falls by at most what
+//! All but the last four ask that the estimate is consistent: over a link it falls by at most what
 //! the link costs, and at a goal it is nothing.
 
-ghost use Rattle.search_run.specs.Laws.{GoalsAreLeast, TakenAreLeast, LesserSumsAreTaken, EndedRunsMissNone, TakenAreNotBettered, ParentsOffersStand, EndedRunsAreOne, EndedRunsExist};
+ghost use Rattle.search_run.specs.Laws.{GoalsAreLeast, TakenAreLeast, LesserSumsAreTaken, EndedRunsMissNone, TakenAreNotBettered, ParentsOffersStand, EndedRunsAreOne, RunsAreMade, EndedRunsAreMade};
 
 /// A goal is taken at a cost that no chain of links to a goal undercuts.
 pub fn goals_are_least<S>()
@@ -41,7 +41,13 @@ pub fn ended_runs_are_one<S>()
     ensures { EndedRunsAreOne S }
 {}
 
-/// A run that ends exists from each start, where links lead to finitely many states.
-pub fn ended_runs_exist<S>()
-    ensures { EndedRunsExist S }
+/// The run that is made state by state, by scans of all states that links lead to, is a run that ends: so
+/// from each start there is one.
+pub fn runs_are_made<S>()
+    ensures { RunsAreMade S }
+{}
+
+/// Each run that ends is the one that is made so, where numbers tell states apart.
+pub fn ended_runs_are_made<S>()
+    ensures { EndedRunsAreMade S }
 {}

@@ -3,7 +3,7 @@ use Rattle.std.specs.Prelude.{IfOk}
 use Rattle.grid_moves.specs.Grid.{GridData}
 use Rattle.grid_moves.specs.Reply.{IsRight}
 use Rattle.grid_moves.specs.declared.Cell.{Cell}
-use Rattle.grid_moves.specs.Layers.{Layers, in_one_layer, query_grid}
+use Rattle.grid_moves.specs.Layers.{AreLayers, Layers, in_one_layer, query_grid}
 use Rattle.edit_replay.specs.Counting.{RoseByStates, RoseWithin, fewest_of, most_of}
 use Rattle.edit_replay.specs.Kept.{AreKept, as_layers, engine_of}
 use Rattle.edit_replay.specs.Replies.{IsRightOn, IsRunOn, IsRunReply, answer_of}
@@ -14,6 +14,7 @@ use Rattle.edit_replay.specs.declared.parts.Parts.{Parts}
 use Rattle.edit_replay.proofs.Following.{stands_for}
 use Rattle.edit_replay.proofs.Answering.{result_on_grid, unsearched_right, unsearched_run, unsearched_short}
 use Rattle.edit_replay.proofs.Counts.{none_away, none_within}
+use Rattle.edit_replay.proofs.Oneness.{only, result_told}
 use Rattle.edit_replay.proofs.Simple.{reply_is_short}
 use Rattle.edit_replay.proofs.session.Session.query.Goals as goal
 
@@ -144,3 +145,22 @@ invariant_of-self g c =
 pub invariant_of-self-2 : goal.invariant_of-self-2
 invariant_of-self-2 g c =
     c.search.ensures.kept
+
+pub returns-clause-told : goal.returns-clause-told
+returns-clause-told g c =
+    let whole : c.args.self.now ≡ stands_for c.deref_mut-parts.result.now =
+    sym c.self.view_is ∙ ap stands_for (sym c.deref_mut-parts.ensures.value) in
+    let are : AreLayers c.args.self.now.layers = subst (λ (d : SessionData). AreLayers d.layers)
+    (ap stands_for (sym c.deref_mut-parts.ensures.value) ∙ sym whole) c.self.invariant.layers in
+    result_told c.args.self.now are (record { x = c.args.sx; y = c.args.sy })
+    (record { x = c.args.gx; y = c.args.gy }) c.search.result (returns-clause-right g c) (returns-clause-run g c)
+
+pub returns-in-Err-clause-told : goal.returns-in-Err-clause-told
+returns-in-Err-clause-told g c =
+    let whole : c.args.self.now ≡ stands_for c.deref_mut-parts.result.now =
+    sym c.self.view_is ∙ ap stands_for (sym c.deref_mut-parts.ensures.value) in
+    let are : AreLayers c.args.self.now.layers = subst (λ (d : SessionData). AreLayers d.layers)
+    (ap stands_for (sym c.deref_mut-parts.ensures.value) ∙ sym whole) c.self.invariant.layers in
+    only c.args.self.now are (record { x = c.args.sx; y = c.args.sy })
+    (record { x = c.args.gx; y = c.args.gy }) c.unsearched.result
+    (record { right = returns-in-Err-clause-right g c; run = returns-in-Err-clause-run g c })

@@ -1,5 +1,0 @@
-use Rattle.edit_replay.proofs.Replying.{has_reply}
-use Rattle.edit_replay.proofs.laws.replies_exist.Goals as goal
-
-pub returns : goal.returns
-returns c = has_reply
