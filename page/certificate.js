@@ -41,10 +41,10 @@ function take(output) {
   certificate = { output, picture };
   const count = cells.x.length.toLocaleString("en");
   byId("save-cert").disabled = false;
-  byId("prove-scale").hidden = !cells.least;
+  byId("prove-scale").hidden = !cells.least || !picture;
   byId("scale-high").textContent = cells.least ? `${cells.least.straight} + ${cells.least.diagonal}·√2` : "";
   byId("prove-said").textContent = cells.least
-    ? `${count} cells have a listed value; each other one has the least cost less its octile distance to the goal. No legal `
+    ? `${picture ? `${count} cells have a listed value; each other one` : "No cell has a listed value, so none is drawn: each"} has the least cost less its octile distance to the goal. No legal `
       + "move raises the value by more than it costs, and from start to goal it rises by the walk's cost: so no walk costs less."
     : `${count} cells are listed: the start is one, the goal is none, and no legal move leads out of them. So no walk exists.`;
 }

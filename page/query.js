@@ -6,8 +6,8 @@ import {
   showBanner, state, tell, withMade,
 } from "./app.js";
 import { decimal, readAnswer, readPoint, shortened } from "./lines.js";
-import { redraw, setEnd, views } from "./stage.js";
-import { ANSWERS, ENGINES, RULES } from "./words.js";
+import { groundAt, isInside, redraw, setEnd, views } from "./stage.js";
+import { ENGINES, RULES, answerWords } from "./words.js";
 
 const wholeText = new TextDecoder();
 
@@ -44,15 +44,20 @@ export function ask(keep = true) {
 
 export const isAsking = () => asker.isBusy;
 
+const groundOf = (cell) => (isInside(cell) ? groundAt(cell) : undefined);
+
 /** The outcome in words, for the large line and the small one. */
 export function verdictOf(answer) {
-  if (answer.kind !== "walk") return [ANSWERS[answer.kind] || answer.kind, ""];
+  if (answer.kind !== "walk") {
+    const { sx, sy, gx, gy } = answer.words;
+    return [answerWords(answer.kind, groundOf({ x: sx, y: sy }), groundOf({ x: gx, y: gy })), ""];
+  }
   const { straight, diagonal, points } = answer;
   return [`${straight} + ${diagonal}·√2`, `${decimal(straight, diagonal)} · ${points.length} points`];
 }
 
 /** Of how long it took: the program's answer through the pipes, not a measure. */
-export const tookWords = (seconds) => (seconds < 1 ? `${(seconds * 1000).toFixed(seconds < 0.01 ? 2 : 0)} ms` : `${seconds.toFixed(1)} s`);
+export const tookWords = (seconds) => (seconds < 1 ? `${(seconds * 1000).toFixed(seconds < 0.01 ? 2 : 0)}\u00a0ms` : `${seconds.toFixed(1)}\u00a0s`);
 
 function showAnswer() {
   const { answer } = state;
@@ -61,7 +66,7 @@ function showAnswer() {
   if (answer) {
     const name = answer.kind === "walk" ? "walk" : answer.kind;
     byId("verdict").append(element("b", { className: `kind ${answer.kind}` }, name), ` ${verdict.replace(/^\w+: /, "")}`);
-    const taken = answer.states ? ` · ${answer.states.count.toLocaleString("en")} states` : "";
+    const taken = answer.states ? ` · ${answer.states.count.toLocaleString("en")} states by ${answer.words.engine}` : "";
     byId("detail").textContent = [detail + taken, tookWords(answer.seconds)].filter(Boolean).join(" · ").replace(/^ · /, "");
   } else {
     byId("verdict").textContent = hasEnds() ? "" : "Click the map: first the start, then the goal.";
@@ -82,6 +87,7 @@ function showCommand() {
   const words = queryWords(state.engine, state.showStates ? "trace" : undefined);
   byId("command").textContent = withMade(commandLine(["query", mapWord(), ...endWords()], words));
   byId("draw-note").textContent = commandLine(["draw", mapWord(), ...endWords()], words) + " > walk.svg";
+  byId("live-note").textContent = commandLine(["live", mapWord()], settings()) + `\nquery ${endWords().join(" ")}`;
   if (state.edits) byId("draw-note").textContent += "   (save the edited map first: Edit)";
 }
 
@@ -170,7 +176,7 @@ export function beginQuery() {
   on("edited", () => ask());
   on("answer", showAnswer);
   on("map", () => {
-    byId("states-choice").hidden = !state.hasStates;
+    byId("states-choice").hidden = byId("states-words").hidden = !state.hasStates;
     showChoices();
     showEnds();
     showAnswer();

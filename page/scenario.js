@@ -52,11 +52,14 @@ function showFilter() {
 
 function drawRow(box, row) {
   const entry = entries[row.number - 1];
+  const least = row.straight === undefined ? "" : decimal(row.straight, row.diagonal);
+  // A length that was listed without decimals may agree and yet look another one.
+  const isTold = least && (row.verdict !== "agree" || Math.abs(entry?.listed - least) > 0.01);
   box.title = `${row.line}: ${VERDICTS[row.verdict] || ""}`;
   box.append(element("span", { className: "number" }, String(row.number)),
     element("span", { className: `tag ${row.verdict}` }, row.verdict),
     element("span", { className: "grow" }, entry ? `${entry.sx},${entry.sy} → ${entry.gx},${entry.gy}` : ""),
-    element("span", { className: "listed" }, entry ? entry.listed : ""));
+    element("span", { className: "listed" }, entry ? entry.listed : "", isTold ? element("span", { className: "least" }, ` (${least})`) : ""));
 }
 
 function pickRow(row) {

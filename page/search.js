@@ -166,6 +166,7 @@ export function beginSearch() {
     show(views[0], state.answer);
     showAll();
     byId("player").classList.toggle("off", !state.showStates);
+    byId("state-note").textContent = state.showStates ? "" : "Tick the box to ask for them. On a large map they may be millions.";
   });
   for (const name of ["ends", "settings", "edited"]) on(name, () => state.compare && hasEnds() && comparer.ask());
   on("map", () => {

@@ -265,6 +265,6 @@ export function legend(theme, ramp) {
   return [
     ["land", ground.land], ["swamp (land)", ground.swamp], ["trees (blocked)", ground.trees],
     ["wall (blocked)", ground.wall], ["water", ground.water], ["walk", colours.walk, "line"],
-    ["told walk", colours.told, "dashed"], ["taken states, early to late", `linear-gradient(90deg, ${ramp.join(", ")})`],
+    ["another program's walk", colours.told, "dashed"], ["taken states, early to late", `linear-gradient(90deg, ${ramp.join(", ")})`],
   ];
 }

@@ -1,10 +1,10 @@
 // The page's words: what engines, rules, answers and faults are, in short sentences.
 
 export const ENGINES = {
-  plain: "A*: one state for each cell that it takes. The fastest among scattered walls.",
-  jps: "Jump Point Search: jumps cell by cell, and takes the ends of jumps alone.",
-  block: "The same jumps, over 512 cells at a time. Edits cost next to nothing.",
-  plus: "JPS+: looks its jumps up in tables, which are made when the map is read.",
+  plain: "A*: one state for each cell that it takes. For one query, or few, and for short ones.",
+  jps: "Jump Point Search: jumps cell by cell, and takes the ends of jumps alone. Little memory.",
+  block: "The same jumps, over 512 cells at a time. For many queries, with edits between them.",
+  plus: "JPS+: looks its jumps up in tables, which are made when the map is read. For many queries.",
 };
 
 export const RULES = {
@@ -20,8 +20,21 @@ export const ANSWERS = {
   apart: "apart: one end is land, the other water.",
 };
 
+const AT = { land: "on land", swamp: "in a swamp", trees: "in trees", wall: "on a wall", water: "in water" };
+
+/** The same, naming the ends; `start` and `goal` are the names of their grounds, none where an end is outside. */
+export function answerWords(kind, start, goal) {
+  const ends = [["the start", start], ["the goal", goal]];
+  const told = (isMeant) => ends.filter(([, it]) => isMeant(it)).map(([end, it]) => `${end} lies ${AT[it] || "outside the map"}`).join(", ");
+  const isApart = kind === "none" && (start === "water") !== (goal === "water");
+  const words = {
+    outside: told((it) => !it), blocked: told((it) => it === "wall" || it === "trees"), none: isApart && told(() => true),
+  }[kind];
+  return words ? `${kind}: ${words}.` : ANSWERS[kind] || kind;
+}
+
 export const VERDICTS = {
-  agree: "the listed length is the least one",
+  agree: "the listed length is the least one, within a unit of its last decimal (within 1, if it has none)",
   near: "within a hundredth of the least length",
   off: "the listed length is another one",
   none: "no walk joins the ends",
@@ -73,9 +86,10 @@ export function refusal(row, points) {
   if (row.why === "longer") {
     return `It is legal, and longer: ${first} straight and ${second} diagonal moves, where the least walk has ${third} and ${fourth}.`;
   }
-  if (first === 0) return "Point 0 is not the start.";
+  if (first === 0) return "Its first point is not the start.";
   if (points && first >= points.length) return "The last point is not the goal.";
-  return `Point ${first} is wrong: no legal run of moves leads to it from the point before.`;
+  const named = (at) => (points?.[at] ? ` (${points[at].x},${points[at].y})` : "");
+  return `Point ${first}${named(first)}, counted from 0, is wrong: no legal run of moves leads to it from the one before${named(first - 1)}.`;
 }
 
 export const KEYS = [

@@ -193,7 +193,9 @@ tell_log() {
 
 # Why the program in dist/ does not serve, where there is one.
 why_not_handed() {
-    if [ -f "$manifest" ]; then echo ", and the program in dist/ was made from other sources"; fi
+    if read_manifest && [ "${told[sources]-}" != "$sources" ]; then
+        echo ", and the program in dist/ was made from other sources"
+    fi
 }
 
 # Says what became of `./jps --prove`, also whether the program in dist/ is the same.
