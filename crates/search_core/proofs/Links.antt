@@ -147,16 +147,20 @@ start_arrived ByArrival c = refl
 start_arrived ByCell c =
     ap (λ (a : Option Dir). let s : State = record { cell = c; arrival = a } in s) (heading_nowhere c)
 
+-- where a cell has one state, that is the one that is seen
+pub seen_start : (v : State) → is_seen ByCell v ≡ true → start_at v.cell ≡ v
+seen_start v s = same_state (start_at v.cell) v refl (none v.arrival s)
+  where
+    none : (o : Option Dir) → nat_eq (arrival_number o) 8 ≡ true → None ≡ o
+    none None h = refl
+    none (Some e) h = absurd (let small = dir_number-few e in grind (arith, nat_tests))
+
 -- a state that is seen, come to in a direction, is the one that is kept of it
 pub kept_of : (layout : Layout) (u v : State) (d : Dir) → is_seen layout v ≡ true
     → (arrived_in layout u v).arrival ≡ Some d
     → state_in layout (record { cell = v.cell; arrival = Some d }) ≡ v
 kept_of ByArrival u v d s a = same_state (record { cell = v.cell; arrival = Some d }) v refl (sym a)
-kept_of ByCell u v d s a = same_state (start_at v.cell) v refl (none v.arrival s)
-  where
-    none : (o : Option Dir) → nat_eq (arrival_number o) 8 ≡ true → None ≡ o
-    none None h = refl
-    none (Some e) h = absurd (let small = dir_number-few e in grind (arith, nat_tests))
+kept_of ByCell u v d s a = seen_start v s
 
 -- what is kept is seen
 pub kept_seen : (layout : Layout) (s : State) → is_seen layout (state_in layout s) ≡ true
