@@ -142,8 +142,7 @@ fn none_taken(alloc: Global) -> Result<Taken, NoMemory>
     Ok(Taken::of(Vec::with_capacity(alloc, MANY_STATES)?))
 }
 
-// The search's run: a function of its own for each source of jumps.
-#[inline(never)]
+// The search's run.
 fn run<J: JumpSource, L: Ledger, M: Ledger>(
     alloc: Global,
     j: &J,
