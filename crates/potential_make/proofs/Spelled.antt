@@ -12,7 +12,7 @@ use Rattle.text_line.proofs.Written.{AreDigits, four_digits, lines_then, nine_di
 use Rattle.root2_cost.specs.declared.Cost.{Cost}
 use Rattle.grid_moves.specs.declared.Cell.{Cell}
 use Rattle.cell_lines.specs.Cells.{cell_text}
-use Rattle.cell_lines.specs.Parts.{first_two, points_in, two_numbers}
+use Rattle.cell_lines.specs.Parts.{first_two, points_in}
 use Rattle.cell_lines.proofs.Spaced.{filled_digits, is_spaced, line_of, line_parts, line_plain, point_back}
 use Rattle.cell_lines.proofs.Spaced.{is_filled, point_filled, two_back}
 use Rattle.potential_check.specs.declared.certificate.Claim.{Claim}
@@ -41,33 +41,27 @@ cost_digits cost small =
 abbrev Line : Type 0
 Line = List ℕ × List (List ℕ)
 
-abbrev pair_line : List ℕ → ℕ → ℕ → Line
-pair_line word m n = (word, decimal m ∷ decimal n ∷ [])
-
-abbrev four_line : List ℕ → ℕ → ℕ → ℕ → ℕ → Line
-four_line word m n k l = (word, decimal m ∷ decimal n ∷ decimal k ∷ decimal l ∷ [])
-
-abbrev word_line : List ℕ → Line
-word_line word = (word, [])
+abbrev number_line : List ℕ → List ℕ → Line
+number_line word numbers = (word, map decimal numbers)
 
 abbrev points_line : List Cell → Line
 points_line points = (codes "points", map cell_text points)
 
 abbrev value_line : (Cell × Cost) → Line
-value_line e = four_line (codes "value") e.0.x e.0.y e.1.a e.1.b
+value_line e = number_line (codes "value") (e.0.x ∷ e.0.y ∷ e.1.a ∷ e.1.b ∷ [])
 
 abbrev member_line : Cell → Line
-member_line c = pair_line (codes "in") c.x c.y
+member_line c = number_line (codes "in") (c.x ∷ c.y ∷ [])
 
 abbrev claim_lines : Claim → List Line
 claim_lines (Least cost points values) =
-    pair_line (codes "least") cost.a cost.b ∷ points_line points ∷ map value_line values
-claim_lines (NoWalk cells) = word_line (codes "none") ∷ map member_line cells
+    number_line (codes "least") (cost.a ∷ cost.b ∷ []) ∷ points_line points ∷ map value_line values
+claim_lines (NoWalk cells) = number_line (codes "none") [] ∷ map member_line cells
 
 abbrev head_lines : ℕ → ℕ → Cell → Cell → List Line
 head_lines width height s t =
-    (codes "jps-cert", codes "1" ∷ []) ∷ pair_line (codes "size") width height
-    ∷ four_line (codes "ends") s.x s.y t.x t.y ∷ []
+    (codes "jps-cert", codes "1" ∷ []) ∷ number_line (codes "size") (width ∷ height ∷ [])
+    ∷ number_line (codes "ends") (s.x ∷ s.y ∷ t.x ∷ t.y ∷ []) ∷ []
 
 -- a line and its end
 abbrev ended : Line → List ℕ
@@ -94,7 +88,7 @@ points_written points = ap (λ (l : List ℕ). codes "points" ++ l ++ codes "\n"
 
 claim_written : (claim : Claim) (rest : List ℕ) → claim_text claim ++ rest ≡ written (claim_lines claim) rest
 claim_written (Least cost points values) rest =
-    let first : List ℕ = ended (pair_line (codes "least") cost.a cost.b) in
+    let first : List ℕ = ended (number_line (codes "least") (cost.a ∷ cost.b ∷ [])) in
     append_assoc (first ++ points_text points) (texts_of value_text values) rest
     ∙ append_assoc first (points_text points) (texts_of value_text values ++ rest)
     ∙ ap (λ (l : List ℕ). first ++ (l ++ (texts_of value_text values ++ rest))) (points_written points)
@@ -104,8 +98,8 @@ claim_written (NoWalk cells) rest = ap (λ (l : List ℕ). codes "none\n" ++ l) 
 head_written : (width height : ℕ) (s t : Cell) (rest : List ℕ)
     → head_text width height s t ++ rest ≡ written (head_lines width height s t) rest
 head_written width height s t rest =
-    let size : List ℕ = ended (pair_line (codes "size") width height) in
-    let ends : List ℕ = ended (four_line (codes "ends") s.x s.y t.x t.y) in
+    let size : List ℕ = ended (number_line (codes "size") (width ∷ height ∷ [])) in
+    let ends : List ℕ = ended (number_line (codes "ends") (s.x ∷ s.y ∷ t.x ∷ t.y ∷ [])) in
     append_assoc (codes "jps-cert 1\n" ++ size) ends rest ∙ append_assoc (codes "jps-cert 1\n") size (ends ++ rest)
 
 -- lines of words are lines of the text
@@ -123,67 +117,47 @@ record Says {X : Type 0} (on : List ℕ → Option X) (line : Line) (x : X) : Ty
   spaced : is_spaced line ≡ true
   spells : on (line_of line) ≡ Some x
 
--- two numbers behind a word, or four
-pair_says : (word : List ℕ) → list_all is_filled word ≡ true → (most m n : ℕ)
+-- a word and numbers: the first two are read back, and the others stand behind them
+first_says : (word : List ℕ) → list_all is_filled word ≡ true → (most m n : ℕ) (others : List ℕ)
     → AreDigits most m (decimal m) → AreDigits most n (decimal n)
-    → Says (λ l. two_numbers most (words_after word l)) (pair_line word m n) (m, n)
-pair_says word filled most m n a b =
-    let all : is_spaced (pair_line word m n) ≡ true =
-    rw (filled, filled_digits (decimal m) a.all, filled_digits (decimal n) b.all) refl in
+    → list_all (list_all is_filled) (map decimal others) ≡ true
+    → Says (λ l. first_two most (words_after word l)) (number_line word (m ∷ n ∷ others))
+    ((m, n), map decimal others)
+first_says word filled most m n others a b rest =
+    let all : is_spaced (number_line word (m ∷ n ∷ others)) ≡ true =
+    rw (filled, filled_digits (decimal m) a.all, filled_digits (decimal n) b.all, rest) refl in
     record {
       spaced = all;
-      spells = rw (
-        line_parts (pair_line word m n) all,
-        (bytes_eq-Decides word word).1 refl,
-        two_back most m n [] a b,
-      ) refl;
+      spells = rw (line_parts (number_line word (m ∷ n ∷ others)) all, (bytes_eq-Decides word word).1 refl)
+          (two_back most m n (map decimal others) a b);
     }
 
-record SaysFour (word : List ℕ) (most more m n k l : ℕ) : Type 0 where
-  spaced : is_spaced (four_line word m n k l) ≡ true
-  first : first_two most (words_after word (line_of (four_line word m n k l)))
-      ≡ Some ((m, n), decimal k ∷ decimal l ∷ [])
-  second : two_numbers more (decimal k ∷ decimal l ∷ []) ≡ Some (k, l)
-
-four_says : (word : List ℕ) → list_all is_filled word ≡ true → (most more m n k l : ℕ)
-    → AreDigits most m (decimal m) → AreDigits most n (decimal n) → AreDigits more k (decimal k)
-    → AreDigits more l (decimal l) → SaysFour word most more m n k l
-four_says word filled most more m n k l a b c d =
-    let all : is_spaced (four_line word m n k l) ≡ true =
-    rw (
-      filled,
-      filled_digits (decimal m) a.all,
-      filled_digits (decimal n) b.all,
-      filled_digits (decimal k) c.all,
-      filled_digits (decimal l) d.all,
-    ) refl in
-    record {
-      spaced = all;
-      first = rw (line_parts (four_line word m n k l) all, (bytes_eq-Decides word word).1 refl)
-          (two_back most m n (decimal k ∷ decimal l ∷ []) a b);
-      second = rw (two_back more k l [] c d) refl;
-    }
+two_filled : (most m n : ℕ) → AreDigits most m (decimal m) → AreDigits most n (decimal n)
+    → list_all (list_all is_filled) (map decimal (m ∷ n ∷ [])) ≡ true
+two_filled most m n a b = rw (filled_digits (decimal m) a.all, filled_digits (decimal n) b.all) refl
 
 -- so the lines say what was written
 size_says : (width height : ℕ) → width < 10 ^ 9 → height < 10 ^ 9 → are_sides width height ≡ true
-    → Says size_on (pair_line (codes "size") width height) (width, height)
+    → Says size_on (number_line (codes "size") (width ∷ height ∷ [])) (width, height)
 size_says width height w h are =
-    let s = pair_says (codes "size") refl 9 width height (nine_digits width w) (nine_digits height h) in
-    record { spaced = s.spaced; spells = rw (s.spells, are) refl }
+    let l = first_says (codes "size") refl 9 width height [] (nine_digits width w) (nine_digits height h)
+    refl in
+    record { spaced = l.spaced; spells = rw (l.spells, are) refl }
 
 ends_says : (s t : Cell) → is_short s ≡ true → is_short t ≡ true
-    → Says ends_on (four_line (codes "ends") s.x s.y t.x t.y) (s, t)
+    → Says ends_on (number_line (codes "ends") (s.x ∷ s.y ∷ t.x ∷ t.y ∷ [])) (s, t)
 ends_says s t p q =
     let a = coordinates s p in
     let b = coordinates t q in
-    let l = four_says (codes "ends") refl 4 4 s.x s.y t.x t.y a.0 a.1 b.0 b.1 in
-    record { spaced = l.spaced; spells = rw (l.first, l.second) refl }
+    let l = first_says (codes "ends") refl 4 s.x s.y (t.x ∷ t.y ∷ []) a.0 a.1
+    (two_filled 4 t.x t.y b.0 b.1) in
+    record { spaced = l.spaced; spells = rw (l.spells, two_back 4 t.x t.y [] b.0 b.1) refl }
 
 least_says : (cost : Cost) → is_small cost ≡ true
-    → Says least_on (pair_line (codes "least") cost.a cost.b) cost
+    → Says least_on (number_line (codes "least") (cost.a ∷ cost.b ∷ [])) cost
 least_says cost small =
     let d = cost_digits cost small in
-    let l = pair_says (codes "least") refl 9 cost.a cost.b d.0 d.1 in
+    let l = first_says (codes "least") refl 9 cost.a cost.b [] d.0 d.1 refl in
     record { spaced = l.spaced; spells = rw l.spells refl }
 
 value_says : (e : Cell × Cost) → fits_line e ≡ true → Says value_on (value_line e) e
@@ -191,13 +165,14 @@ value_says (c, cost) fits =
     let f = and_parts (is_short c) (is_small cost) fits in
     let a = coordinates c f.0 in
     let b = cost_digits cost f.1 in
-    let l = four_says (codes "value") refl 4 9 c.x c.y cost.a cost.b a.0 a.1 b.0 b.1 in
-    record { spaced = l.spaced; spells = rw (l.first, l.second) refl }
+    let l = first_says (codes "value") refl 4 c.x c.y (cost.a ∷ cost.b ∷ []) a.0 a.1
+    (two_filled 9 cost.a cost.b b.0 b.1) in
+    record { spaced = l.spaced; spells = rw (l.spells, two_back 9 cost.a cost.b [] b.0 b.1) refl }
 
 member_says : (c : Cell) → is_short c ≡ true → Says member_on (member_line c) c
 member_says c short =
     let d = coordinates c short in
-    let l = pair_says (codes "in") refl 4 c.x c.y d.0 d.1 in
+    let l = first_says (codes "in") refl 4 c.x c.y [] d.0 d.1 refl in
     record { spaced = l.spaced; spells = rw l.spells refl }
 
 points_back : (points : List Cell) → list_all is_short points ≡ true
@@ -271,7 +246,7 @@ claim_spells width height s t (Least cost points values) f =
     say_points points f.first f.more f.points_are f.points_short in
     let list = list_says fits_line value_line value_on value_says values f.values_fit in
     record {
-      first = line_of (pair_line (codes "least") cost.a cost.b);
+      first = line_of (number_line (codes "least") (cost.a ∷ cost.b ∷ []));
       body = line_of (points_line points) ∷ map line_of (map value_line values);
       lines = refl;
       spaced = and_from _ _ first.spaced (and_from _ _ second.spaced list.0);
@@ -316,8 +291,8 @@ text_spells width height s t claim w h sides p q f =
     ∙ head_written width height s t rest in
     record {
       version = codes "jps-cert 1";
-      size = line_of (pair_line (codes "size") width height);
-      ends = line_of (four_line (codes "ends") s.x s.y t.x t.y);
+      size = line_of (number_line (codes "size") (width ∷ height ∷ []));
+      ends = line_of (number_line (codes "ends") (s.x ∷ s.y ∷ t.x ∷ t.y ∷ []));
       claim = c.first;
       body = c.body;
       others = [];
