@@ -7,8 +7,7 @@ use Rattle.std.specs.Char.{is_ascii_digit}
 use Rattle.std.specs.List.{list_all, onto_first, slice_split}
 use Rattle.std.specs.Option.{option_and_then, option_map}
 use Rattle.std.specs.Str.{bytes_eq}
-use Rattle.std.proofs.lemmas.Bool.{and_from, and_parts, leb-true, le-leb}
-use Rattle.std.proofs.lemmas.Bool.Decides.{nat_tests}
+use Rattle.std.proofs.lemmas.Bool.{and_from, and_parts, leb-true, le-leb, lt-ltb}
 use Rattle.std.proofs.lemmas.List.{length-drop}
 use Rattle.root2_cost.specs.declared.Cost.{Cost}
 use Rattle.grid_moves.specs.declared.Cell.{Cell}
@@ -41,9 +40,6 @@ map_of f (Some x) y e = (x, refl, same_value (f x) y e)
 if_of : {A : Type 0} (b : Bool) (x y : A) → (if b then Some x else None) ≡ Some y → (b ≡ true) × (x ≡ y)
 if_of true x y e = (refl, same_value x y e)
 if_of false x y e = absurd (cc)
-
-lt_true : (m n : ℕ) → m < n → nat_lt m n ≡ true
-lt_true m n h = grind (arith, nat_tests)
 
 -- numbers have at most so many digits
 record Lead (line : List ℕ) : Type 0 where
@@ -126,8 +122,8 @@ two_low line p e =
     (before_low 32 9 line first.0 (omega arith) first.1, last_low 9 first.0.1 second.0 (omega arith) second.1)
 
 short_of : (x y : ℕ) → x < 10 ^ 4 → y < 10 ^ 4 → is_short (record { x = x; y = y }) ≡ true
-short_of x y h k = and_from (nat_lt x 10000) (nat_lt y 10000) (lt_true x 10000 (omega arith))
-    (lt_true y 10000 (omega arith))
+short_of x y h k = and_from (nat_lt x 10000) (nat_lt y 10000) (lt-ltb x 10000 (omega arith))
+    (lt-ltb y 10000 (omega arith))
 
 cell_short : (byte : ℕ) (line : List ℕ) (c : Cell) → cell_in byte line ≡ Some c → is_short c ≡ true
 cell_short byte line c e =
@@ -153,7 +149,7 @@ cost_small line cost e =
     let low = two_low line parts.0 parts.1 in
     subst (λ (c : Cost). is_small c ≡ true) parts.2
     (and_from (nat_lt parts.0.0 (10 ^ 9)) (nat_lt parts.0.1 (10 ^ 9))
-    (lt_true parts.0.0 (10 ^ 9) low.0) (lt_true parts.0.1 (10 ^ 9) low.1))
+    (lt-ltb parts.0.0 (10 ^ 9) low.0) (lt-ltb parts.0.1 (10 ^ 9) low.1))
 
 -- the lines
 pub size_sides : (line : List ℕ) (p : ℕ × ℕ) → size_on line ≡ Some p → are_sides p.0 p.1 ≡ true
@@ -228,4 +224,4 @@ points_few line points short e =
     let many = all.0 in
     and_from (nat_le 1 (length points) && nat_lt (length points) (2 ^ 30)) (list_all is_short points)
     (and_from (nat_le 1 (length points)) (nat_lt (length points) (2 ^ 30))
-    (le-leb 1 (length points) (omega arith)) (lt_true (length points) (2 ^ 30) (omega arith))) all.1
+    (le-leb 1 (length points) (omega arith)) (lt-ltb (length points) (2 ^ 30) (omega arith))) all.1
