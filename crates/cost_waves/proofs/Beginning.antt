@@ -19,9 +19,10 @@ use Rattle.cost_waves.specs.Rank.{far, rank_limit}
 use Rattle.cost_waves.specs.Told.{has_dir}
 use Rattle.cost_waves.specs.Wave.{rank_at, dirs_at, known_count, Way, WayBy, Waits, AllWait, Held, in_now}
 use Rattle.cost_waves.specs.Wave.{Keeps, IsSettled, IsReady}
-use Rattle.cost_waves.proofs.Keeping.{IsOn, is_on, free_on, same_or_apart}
+use Rattle.grid_moves.proofs.Places.{IsOn, is_on, free_on, same_or_apart}
 use Rattle.cost_waves.proofs.Lists.{count_new}
-use Rattle.cost_waves.proofs.Settling.{IsSource, HasSpread, has_spread, in_all}
+use Rattle.cost_waves.proofs.Settling.{IsSource, HasSpread, has_spread}
+use Rattle.grid_moves.proofs.Dirs.{in_all}
 use Rattle.cost_waves.proofs.Walks.{way_nowhere, way_by_one}
 use Rattle.cost_waves.proofs.Waving.{turned, turn_ready, ready_by}
 

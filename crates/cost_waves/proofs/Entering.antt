@@ -15,8 +15,10 @@ use Rattle.cost_waves.specs.Rank.{far, rank_limit}
 use Rattle.cost_waves.specs.Told.{has_dir}
 use Rattle.cost_waves.specs.Wave.{rank_at, dirs_at, known_count, Way, WayBy, Among, Waits, AllWait, Held}
 use Rattle.cost_waves.specs.Wave.{before, in_now, in_next, in_after, Keeps}
-use Rattle.cost_waves.proofs.Keeping.{lowered, joined, Effect, lowers, joins, passes, effect, IsOn}
-use Rattle.cost_waves.proofs.Keeping.{follows_nothing, is_on, on_inside, free_on, same_or_apart, IsOffer}
+use Rattle.cost_waves.proofs.Keeping.{lowered, joined, Effect, lowers, joins, passes, effect}
+use Rattle.grid_moves.proofs.Places.{IsOn}
+use Rattle.cost_waves.proofs.Keeping.{follows_nothing, IsOffer}
+use Rattle.grid_moves.proofs.Places.{is_on, on_inside, free_on, same_or_apart}
 use Rattle.cost_waves.proofs.Keeping.{Follows, few}
 use Rattle.cost_waves.proofs.Lists.{among_more, among_last, from_more, bit_or-dir, count_new, count_old}
 

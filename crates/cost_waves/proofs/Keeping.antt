@@ -1,15 +1,14 @@
 -- What one offer keeps.
-use Rattle.std.proofs.Common.{◌≡◌, ◌≢◌, ℕ, ◌+◌, ◌*◌, ◌<◌, ◌≤◌, ◌⊎◌, arith, refl, Bool}
+use Rattle.std.proofs.Common.{◌≡◌, ℕ, ◌+◌, ◌*◌, ◌<◌, ◌≤◌, arith, refl, Bool}
 use Rattle.std.proofs.Common.{true, false, length, get_or, set}
 use Rattle.std.specs.Prelude.{nat_lt, nat_eq, bit_or, if◌then◌else◌}
 use Rattle.std.proofs.lemmas.Bool.Decides.{nat_tests}
 use Rattle.root2_cost.specs.Rank.{straight_rank, diagonal_rank}
 use Rattle.grid_moves.specs.declared.Cell.{Cell}
 use Rattle.grid_moves.specs.declared.Dir.{Dir}
-use Rattle.grid_moves.specs.Grid.{GridData, IsGrid, cell_number, is_free, is_inside}
-use Rattle.grid_moves.proofs.Legal.{free_inside, is_same-cell, is_same-itself}
-use Rattle.grid_moves.proofs.Places.{one_cell}
+use Rattle.grid_moves.specs.Grid.{GridData, IsGrid, is_free}
 use Rattle.grid_moves.proofs.Short.{few_cells}
+use Rattle.grid_moves.proofs.Places.{IsOn}
 use Rattle.cost_waves.specs.Front.{Front, entered, next_with, after_with}
 use Rattle.cost_waves.specs.Rank.{far}
 use Rattle.cost_waves.specs.Told.{has_dir}
@@ -53,25 +52,6 @@ effect at limit to rank first f =
     by_tests true b p q = lowers (grind (arith, nat_tests)) refl
     by_tests false true p q = joins (grind (arith, nat_tests)) refl
     by_tests false false p q = passes (grind (arith, nat_tests)) refl
-
--- a column and a row on the map
-pub record IsOn (g : GridData) (c : Cell) : Type 0 where
-  pub column : c.x < g.width
-  pub row : c.y < g.height
-
-pub is_on : (g : GridData) (c : Cell) → is_inside g c ≡ true → IsOn g c
-is_on g c e = record { column = grind (arith, nat_tests); row = grind (arith, nat_tests) }
-
-pub on_inside : (g : GridData) (c : Cell) → IsOn g c → is_inside g c ≡ true
-on_inside g c on = let x = on.column in let y = on.row in grind (arith, nat_tests)
-
-pub free_on : (g : GridData) (c : Cell) → is_free g c ≡ true → IsOn g c
-free_on g c e = let i = free_inside g c e in record { column = i.0; row = i.1 }
-
--- a cell is this one, or its number is another
-pub same_or_apart : (g : GridData) (c d : Cell) → IsOn g c → IsOn g d
-    → (c ≡ d) ⊎ (cell_number g.width c ≢ cell_number g.width d)
-same_or_apart g c d h1 h2 = grind (arith, nat_tests, is_same-cell, one_cell, is_same-itself)
 
 -- an offer to a cell that is worth making in the wave whose ranks begin at `floor`
 pub record IsOffer (g : GridData) (s : Cell) (floor : ℕ) (f : Front) (to : Cell)

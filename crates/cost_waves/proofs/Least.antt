@@ -26,7 +26,8 @@ use Rattle.cost_waves.specs.Told.{has_dir, Tells}
 use Rattle.cost_waves.specs.Wave.{rank_at, dirs_at, Among, Held, before, in_now, in_next, in_after, Keeps}
 use Rattle.cost_waves.specs.Wave.{IsSettled, IsSwept, ended}
 use Rattle.root2_cost.proofs.Decoding.{cost-rank}
-use Rattle.cost_waves.proofs.Keeping.{free_on, on_inside, few}
+use Rattle.cost_waves.proofs.Keeping.{few}
+use Rattle.grid_moves.proofs.Places.{free_on, on_inside}
 use Rattle.cost_waves.proofs.Walks.{rank-add_costs, rank-move, rank_high}
 
 -- a cost of a small rank has few moves

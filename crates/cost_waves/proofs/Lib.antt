@@ -9,3 +9,4 @@ pub mod Beginning
 pub mod Least
 pub mod Blank
 pub mod Falling
+pub mod Turned

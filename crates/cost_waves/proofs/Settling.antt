@@ -5,18 +5,19 @@ use Rattle.std.specs.Prelude.{Option, Some, None}
 use Rattle.root2_cost.specs.Rank.{straight_rank}
 use Rattle.grid_moves.specs.declared.Cell.{Cell}
 use Rattle.grid_moves.specs.declared.Dir.{Dir}
-use Rattle.grid_moves.specs.declared.Dir.TheVariants.{N, NE, E, SE, S, SW, W, NW}
 use Rattle.grid_moves.specs.Grid.{GridData, IsGrid, is_free, is_inside}
-use Rattle.grid_moves.specs.Move.{all_dirs, legal_ahead}
+use Rattle.grid_moves.specs.Move.{legal_ahead}
 use Rattle.grid_moves.proofs.Ahead.{legal_ahead-is, legal_ahead-free}
 use Rattle.grid_moves.proofs.Legal.{legal_is}
+use Rattle.grid_moves.proofs.Dirs.{In, first, later}
 use Rattle.cost_waves.specs.declared.front.Source.{Source}
 use Rattle.cost_waves.specs.Front.{Front, offered, spread, dir_rank, first_over}
 use Rattle.cost_waves.specs.Rank.{rank_limit}
 use Rattle.cost_waves.specs.Told.{has_dir}
 use Rattle.cost_waves.specs.Wave.{rank_at, dirs_at, Way, WayBy, Keeps, IsRelaxed, IsSettled}
 use Rattle.cost_waves.proofs.Entering.{HasEntered, has_entered}
-use Rattle.cost_waves.proofs.Keeping.{IsOn, free_on, on_inside, IsOffer, Follows, follows_nothing}
+use Rattle.cost_waves.proofs.Keeping.{IsOffer, Follows, follows_nothing}
+use Rattle.grid_moves.proofs.Places.{IsOn, free_on, on_inside}
 use Rattle.cost_waves.proofs.Walks.{way_more, rank_low, rank_high}
 
 -- a legal move leads from a free cell
@@ -72,21 +73,6 @@ pub record IsSource (g : GridData) (s : Cell) (floor : ℕ) (f : Front) (from : 
   pub own : from.cell ≡ s → (d : Dir) → has_dir (first_over from d) d ≡ true
   pub same : (d b : Dir) → has_dir (dirs_at g f.firsts from.cell) b ≡ true
       → has_dir (first_over from d) b ≡ true
-
--- the direction is one of these
-pub data In (d : Dir) : List Dir → Type 0 where
-  first : (dirs : List Dir) → In d (d ∷ dirs)
-  later : (e : Dir) (dirs : List Dir) → In d dirs → In d (e ∷ dirs)
-
-pub in_all : (d : Dir) → In d all_dirs
-in_all N = first _
-in_all NE = later _ _ (first _)
-in_all E = later _ _ (later _ _ (first _))
-in_all SE = later _ _ (later _ _ (later _ _ (first _)))
-in_all S = later _ _ (later _ _ (later _ _ (later _ _ (first _))))
-in_all SW = later _ _ (later _ _ (later _ _ (later _ _ (later _ _ (first _)))))
-in_all W = later _ _ (later _ _ (later _ _ (later _ _ (later _ _ (later _ _ (first _))))))
-in_all NW = later _ _ (later _ _ (later _ _ (later _ _ (later _ _ (later _ _ (later _ _ (first _)))))))
 
 module _ (g : GridData) (s : Cell) (whole : IsGrid g) (floor : ℕ) (now : List Cell) (limit : ℕ)
     (is : limit ≡ floor + 2 * straight_rank) (from : Source) where

@@ -12,9 +12,11 @@ use Rattle.grid_moves.specs.Move.{all_dirs}
 use Rattle.cost_waves.specs.Front.{Front, spread}
 use Rattle.cost_waves.specs.Wave.{rank_at, known_count, Waits, AllWait, Held, before, in_now, in_next}
 use Rattle.cost_waves.specs.Wave.{in_after, Keeps, IsSettled, IsReady, IsMidway, settled, source_at}
-use Rattle.cost_waves.proofs.Keeping.{is_on, free_on, on_inside, Follows, few}
+use Rattle.cost_waves.proofs.Keeping.{Follows, few}
+use Rattle.grid_moves.proofs.Places.{is_on, free_on, on_inside}
 use Rattle.cost_waves.proofs.Lists.{count_low}
-use Rattle.cost_waves.proofs.Settling.{IsSource, has_spread, settled_on, in_all}
+use Rattle.cost_waves.proofs.Settling.{IsSource, has_spread, settled_on}
+use Rattle.grid_moves.proofs.Dirs.{in_all}
 use Rattle.cost_waves.proofs.Walks.{way_by_more}
 
 module _ (g : GridData) (s : Cell) (whole : IsGrid g) (floor : ℕ) (now : List Cell) where

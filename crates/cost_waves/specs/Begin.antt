@@ -18,6 +18,10 @@ abbrev pub IsCostTo : GridData → Cell → Cell → Option Cost → Type 0
 IsCostTo g s t None = NoWalk g s t
 IsCostTo g s t (Some cost) = IsLeastCost g s t cost
 
+-- what is told of the way there is right of the way back
+abbrev pub CostsTurnRound : Type 0
+CostsTurnRound = (g : GridData) (s t : Cell) (o : Option Cost) → IsCostTo g s t o → IsCostTo g t s o
+
 -- Some least walk from s to t begins with a move in direction d. There is none where t is s, since no move is
 -- the least walk to s itself, and none where no walk leads from s to t.
 pub record Begins (g : GridData) (s t : Cell) (d : Dir) : Type 0 where

@@ -9,9 +9,10 @@
 #![tactic(auto)]
 
 mod front;
+pub mod laws;
 mod ranks;
 mod sweep;
 mod waves;
 
 pub use std::alloc::AllocError as NoMemory;
-pub use waves::CostWaves;
+pub use waves::{CostWaves, has_dir};

@@ -14,8 +14,8 @@ use root2_cost::Cost;
 use std::alloc::Global;
 use std::marker::Model;
 
-// Whether the byte has the direction.
-fn has_dir(byte: u8, d: Dir) -> bool
+/// Whether a byte of directions has this one: the bit of its number, from the lowest, is set.
+pub fn has_dir(byte: u8, d: Dir) -> bool
     ensures { result ≡ has_dir byte d }
 {
     (byte >> dir_number(d)) & 1 == 1

@@ -21,12 +21,13 @@ use Rattle.grid_moves.proofs.Walks.{steps-cost_of}
 use Rattle.cost_waves.specs.Begin.{Begins, IsCostTo, IsLeastCost}
 use Rattle.cost_waves.specs.Told.{WaveData, cost_at}
 use Rattle.cost_waves.proofs.Falling.{least_by_move}
-use Rattle.first_moves.specs.First.{IsFirstMove, first_where}
+use Rattle.std.specs.List.{find}
+use Rattle.first_moves.specs.First.{IsFirstMove}
 use Rattle.first_moves.specs.Follow.{IsNext}
 use Rattle.first_moves.specs.Inward.{IsPassFrom, is_same_cost, is_saved, leads, leads_to}
 use Rattle.first_moves.proofs.Following.{next_some}
 use Rattle.first_moves.proofs.Picking.{first_is}
-use Rattle.first_moves.proofs.Turned.{cost_to_back}
+use Rattle.cost_waves.proofs.Turned.{cost_back}
 
 same_cost : (p q : Cost) → is_same_cost p q ≡ true → p ≡ q
 same_cost p q h = same_parts p q (grind (arith, nat_tests)) (grind (arith, nat_tests))
@@ -53,7 +54,7 @@ few_cells g s = let p : g.height * g.width ≤ 4096 * 4096 = mul-le-mul s.low s.
 module _ (g : GridData) (goal : Cell) (w : WaveData) (p : IsPassFrom g goal w) where
   -- what is told of a cell is what the goal costs from there
   cost_from : (c : Cell) → is_inside g c ≡ true → IsCostTo g c goal (cost_at w c)
-  cost_from c i = cost_to_back g goal c (cost_at w c) (p.tells.costs c i)
+  cost_from c i = cost_back g goal c (cost_at w c) (p.tells.costs c i)
 
   -- which is few moves
   pub small : (c : Cell) (cost : Cost) → is_inside g c ≡ true → cost_at w c ≡ Some cost
@@ -115,18 +116,18 @@ module _ (g : GridData) (goal : Cell) (w : WaveData) (p : IsPassFrom g goal w) w
 
   -- so the first of these directions is the first move
   pub first_inward : (c : Cell) → is_inside g c ≡ true
-      → IsFirstMove g c goal (first_where (leads g w c) all_dirs)
+      → IsFirstMove g c goal (find (leads g w c) all_dirs)
   first_inward c i =
       first_is g c goal (leads g w c) (λ d. (leads_begins c d i, begins_leads c d i)) (cost_at w c)
       (cost_from c i)
 
   -- told by what the code has
   pub inward_some : (c : Cell) (d : Dir) (o : Option Dir) (r : Option Cell) → is_inside g c ≡ true
-      → o ≡ first_where (leads g w c) all_dirs → o ≡ Some d → r ≡ legal_ahead g c d → IsNext g c goal r
+      → o ≡ find (leads g w c) all_dirs → o ≡ Some d → r ≡ legal_ahead g c d → IsNext g c goal r
   inward_some c d o r i e h a =
       next_some g c goal d r
       (subst (λ (m : Option Dir). IsFirstMove g c goal m) (sym e ∙ h) (first_inward c i)) a
 
   pub inward_none : (c : Cell) (o : Option Dir) → is_inside g c ≡ true
-      → o ≡ first_where (leads g w c) all_dirs → o ≡ None → IsNext g c goal None
+      → o ≡ find (leads g w c) all_dirs → o ≡ None → IsNext g c goal None
   inward_none c o i e h = subst (λ (m : Option Dir). IsFirstMove g c goal m) (sym e ∙ h) (first_inward c i)

@@ -3,5 +3,4 @@ pub mod Cutting
 pub mod Rows
 pub mod Following
 pub mod Leading
-pub mod Turned
 pub mod Inward

@@ -13,7 +13,9 @@ use Rattle.grid_moves.proofs.Ahead.{legal_ahead-of}
 use Rattle.root2_cost.specs.declared.Cost.{Cost}
 use Rattle.cost_waves.specs.Begin.{Begins, IsCostTo}
 use Rattle.cost_waves.specs.Told.{WaveData, Tells, cost_at}
-use Rattle.first_moves.specs.First.{IsFirstMove, has_dir, first_in, first_where}
+use Rattle.std.specs.List.{find}
+use Rattle.cost_waves.specs.Told.{has_dir}
+use Rattle.first_moves.specs.First.{IsFirstMove, first_in}
 use Rattle.first_moves.specs.declared.row.Run.{Run}
 use Rattle.first_moves.specs.Row.{IsRow}
 use Rattle.first_moves.specs.Runs.{runs_of}
@@ -69,18 +71,18 @@ are_from k (d ∷ dirs) = nat_eq (dir_number d) k && are_from (suc k) dirs
 module _ (g : GridData) (s t : Cell) (has : Dir → Bool) (told : (d : Dir) → IsTrue (has d) ↔ Begins g s t d)
     (o : Option Cost) (cost : IsCostTo g s t o) where
   first_from : (k : ℕ) (dirs : List Dir) → are_from k dirs ≡ true → NoneBefore has k
-      → IsFirstMove g s t (first_where has dirs)
+      → IsFirstMove g s t (find has dirs)
   first_from k [] all before =
       let end : k ≡ 8 = eqb-true k 8 all in not_found g s t has told o cost (λ e h. before e (omega arith))
   first_from k (d ∷ dirs) all before =
       let parts = and_both (nat_eq (dir_number d) k) (are_from (suc k) dirs) all in
       let here : dir_number d ≡ k = eqb-true (dir_number d) k parts.0 in
-      elim (has d) as (λ b. has d ≡ b → IsFirstMove g s t (if b then Some d else first_where has dirs)) [
+      elim (has d) as (λ b. has d ≡ b → IsFirstMove g s t (if b then Some d else find has dirs)) [
         | true ↦ λ h. found g s t has told d h (λ e l. before e (omega arith))
         | false ↦ λ h. first_from (suc k) dirs parts.1 (none_more has k d here h before)
       ] refl
 
-  pub first_is : IsFirstMove g s t (first_where has all_dirs)
+  pub first_is : IsFirstMove g s t (find has all_dirs)
   first_is = first_from 0 all_dirs refl (λ e l. absurd (omega arith))
 
 pub same_size : {k m n h w : ℕ} → m ≡ h → n ≡ w → k ≡ m * n → k ≡ h * w

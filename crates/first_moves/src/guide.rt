@@ -8,7 +8,7 @@ ghost use Rattle.cost_waves.specs.Told.{cost_at};
 ghost use Rattle.grid_moves.specs.declared.Cell.{Cell};
 ghost use Rattle.grid_moves.specs.Grid.{GridData, is_inside};
 ghost use Rattle.grid_moves.specs.Move.{all_dirs};
-ghost use Rattle.first_moves.specs.First.{first_where};
+ghost use Rattle.std.specs.List.{find};
 ghost use Rattle.first_moves.specs.Follow.{IsNext};
 ghost use Rattle.first_moves.specs.Inward as spec;
 ghost use Rattle.first_moves.specs.Inward.{IsPassFrom, HasPass};
@@ -78,7 +78,7 @@ fn leads<T: Terrain>(t: &T, waves: &CostWaves, c: Cell, d: Dir) -> bool
 fn first_leading<T: Terrain>(t: &T, waves: &CostWaves, c: Cell, dirs: &[Dir]) -> Option<Dir>
     requires pass { HasPass (T.grid t.now) waves.now }
     requires inside { is_inside (T.grid t.now) c ≡ true }
-    ensures { result ≡ first_where (spec.leads (T.grid t.now) waves.now c) dirs.now }
+    ensures { result ≡ find (spec.leads (T.grid t.now) waves.now c) dirs.now }
 {
     for d in dirs {
         if leads(t, waves, c, *d) {

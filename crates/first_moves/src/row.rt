@@ -4,7 +4,8 @@ ghost use Rattle.std.specs.Prelude.{◌≡◌, ◌+◌, ◌*◌, ◌<◌, ◌≤
 ghost use Rattle.grid_moves.specs.declared.Cell.{Cell};
 ghost use Rattle.grid_moves.specs.declared.Dir.{Dir};
 ghost use Rattle.grid_moves.specs.Grid.{GridData, is_free, is_inside};
-ghost use Rattle.cost_waves.specs.Told.{Tells, IsBlank};
+ghost use Rattle.std.specs.List.{find};
+ghost use Rattle.cost_waves.specs.Told.{Tells, IsBlank, has_dir};
 ghost use Rattle.first_moves.specs.First as spec;
 ghost use Rattle.first_moves.specs.Runs.{runs_of, is_same_move};
 ghost use Rattle.first_moves.specs.Row.{IsRow};
@@ -13,8 +14,8 @@ ghost use Rattle.first_moves.specs.Span.{IsSpan};
 ghost use Rattle.first_moves.specs.declared.row.Run.{Run};
 
 use crate::NoMemory;
-use cost_waves::CostWaves;
-use grid_moves::{Cell, Dir, Terrain, dir_number};
+use cost_waves::{CostWaves, has_dir};
+use grid_moves::{ALL_DIRS, Cell, Dir, Terrain};
 use path_points::push_item;
 use std::alloc::Global;
 use std::marker::Model;
@@ -34,36 +35,18 @@ pub struct Run {
     pub first: Option<Dir>,
 }
 
-// Whether the byte has the direction.
-fn has_dir(byte: u8, d: Dir) -> bool
-    ensures { result ≡ spec.has_dir byte d }
+// The first of these directions that the byte has.
+fn first_of(byte: u8, dirs: &[Dir]) -> Option<Dir>
+    ensures { result ≡ find (has_dir byte) dirs.now }
 {
-    (byte >> dir_number(d)) & 1 == 1
+    dirs.iter().copied().find(|d| has_dir(byte, *d))
 }
 
 // The direction of least number in a byte of directions.
 fn first_in(byte: u8) -> Option<Dir>
     ensures { result ≡ spec.first_in byte }
 {
-    if has_dir(byte, Dir::N) {
-        Some(Dir::N)
-    } else if has_dir(byte, Dir::NE) {
-        Some(Dir::NE)
-    } else if has_dir(byte, Dir::E) {
-        Some(Dir::E)
-    } else if has_dir(byte, Dir::SE) {
-        Some(Dir::SE)
-    } else if has_dir(byte, Dir::S) {
-        Some(Dir::S)
-    } else if has_dir(byte, Dir::SW) {
-        Some(Dir::SW)
-    } else if has_dir(byte, Dir::W) {
-        Some(Dir::W)
-    } else if has_dir(byte, Dir::NW) {
-        Some(Dir::NW)
-    } else {
-        None
-    }
+    first_of(byte, &ALL_DIRS)
 }
 
 // Whether two first moves are equal.

@@ -27,7 +27,7 @@ use Rattle.goal_boxes.proofs.Growing.{end_of_walk}
 use Rattle.goal_boxes.proofs.Right.{HasLeastWalk, by_walk, by_none, least_or_none}
 
 -- a move begins a least walk, or it does not
-begins_or_not : (g : GridData) (u : Cell) (d : Dir) → is_free g u ≡ true → (t : Cell)
+pub begins_or_not : (g : GridData) (u : Cell) (d : Dir) → is_free g u ≡ true → (t : Cell)
     → (Begins g u t d) ⊎ (Begins g u t d → ⊥)
 begins_or_not g u d free t = by_ahead (legal_ahead g u d) refl
   where

@@ -1,6 +1,6 @@
 -- A rectangle grows by one cell, and a scan by one place.
 use Rattle.std.proofs.Common.{◌≡◌, ◌≤◌, ◌<◌, ◌+◌, ◌⊎◌, inl, inr, ℕ, true, refl, ap, sym, ◌∙◌, subst, arith}
-use Rattle.std.proofs.Common.{◌∷◌}
+use Rattle.std.proofs.Common.{[], ◌∷◌}
 use Rattle.std.specs.Prelude.{nat_lt, Option, Some, None, if◌then◌else◌}
 use Rattle.std.proofs.lemmas.Bool.{cases_lt}
 use Rattle.std.proofs.lemmas.Bool.Decides.{nat_tests}
@@ -14,7 +14,6 @@ use Rattle.grid_moves.proofs.Places.{inside_from}
 use Rattle.cost_waves.specs.Begin.{Begins}
 use Rattle.cost_waves.specs.Told.{WaveData, begins_with, Tells}
 use Rattle.goal_boxes.specs.declared.area.Area.{Area}
-use Rattle.goal_boxes.specs.declared.around.CellBoxes.{CellBoxes}
 use Rattle.goal_boxes.specs.Box.{holds, IsLeastArea, IsAreaOf, IsBox, box_in}
 use Rattle.goal_boxes.specs.Wide.{with_cell, widened, Scanned, IsTold, Seen, NoneTold, IsFirstTold}
 use Rattle.goal_boxes.specs.Wide.{IsLastTold}
@@ -296,13 +295,14 @@ all_seen g u w wide high tells d = same_area (Seen w d w.height 0) (λ t. Begins
         ])
 
 -- a box for each direction
-pub each_dir : (P : Dir → Option Area → Type 0) (b : CellBoxes) → P N b.n → P NE b.ne → P E b.e → P SE b.se
-    → P S b.s → P SW b.sw → P W b.w → P NW b.nw → (d : Dir) → P d (box_in b d)
-each_dir P b n ne e se s sw w nw N = n
-each_dir P b n ne e se s sw w nw NE = ne
-each_dir P b n ne e se s sw w nw E = e
-each_dir P b n ne e se s sw w nw SE = se
-each_dir P b n ne e se s sw w nw S = s
-each_dir P b n ne e se s sw w nw SW = sw
-each_dir P b n ne e se s sw w nw W = w
-each_dir P b n ne e se s sw w nw NW = nw
+pub each_dir : (P : Dir → Option Area → Type 0) {n ne e se s sw w nw : Option Area} → P N n → P NE ne → P E e
+    → P SE se → P S s → P SW sw → P W w → P NW nw → (d : Dir)
+    → P d (box_in (record { areas = n ∷ ne ∷ e ∷ se ∷ s ∷ sw ∷ w ∷ nw ∷ [] }) d)
+each_dir P n ne e se s sw w nw N = n
+each_dir P n ne e se s sw w nw NE = ne
+each_dir P n ne e se s sw w nw E = e
+each_dir P n ne e se s sw w nw SE = se
+each_dir P n ne e se s sw w nw S = s
+each_dir P n ne e se s sw w nw SW = sw
+each_dir P n ne e se s sw w nw W = w
+each_dir P n ne e se s sw w nw NW = nw

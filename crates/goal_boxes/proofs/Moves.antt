@@ -20,7 +20,7 @@ use Rattle.plain_search.proofs.Moving.{IsLinked}
 use Rattle.plain_search.proofs.Offering.{open_linked, led_ahead}
 use Rattle.plain_search.proofs.Posed.{IsAsked, free_near}
 use Rattle.plain_search.proofs.Walks.{AreMoves, IsMove, link_move, plain_are_links}
-use Rattle.cost_waves.proofs.Settling.{In, first, later, in_all}
+use Rattle.grid_moves.proofs.Dirs.{In, first, later, in_all}
 use Rattle.goal_boxes.specs.Box.{BoxTeller}
 use Rattle.goal_boxes.specs.Offers.{toward}
 use Rattle.goal_boxes.specs.Rule.{is_toward, leads_toward, is_toward_by, boxed_step, boxed_links, boxed_rule}

@@ -20,8 +20,8 @@ use Rattle.goal_boxes.proofs.Growing.{each_dir}
 -- a cell that is not free has no boxes
 pub none_of_blocked : (g : GridData) (u : Cell) → is_free g u ≡ false → AreBoxes g u no_boxes
 none_of_blocked g u blocked =
-    each_dir (λ d box. IsBox g u d box) no_boxes (quiet _) (quiet _) (quiet _) (quiet _) (quiet _) (quiet _)
-    (quiet _) (quiet _)
+    each_dir (λ d box. IsBox g u d box) (quiet _) (quiet _) (quiet _) (quiet _) (quiet _) (quiet _) (quiet _)
+    (quiet _)
   where
     quiet : (d : Dir) (t : Cell) → ¬ Begins g u t d
     quiet d t b = let free = (legal_is g u b.next (legal_ahead-is g u b.next d b.ahead)).source in absurd (cc)

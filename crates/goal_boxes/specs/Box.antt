@@ -1,9 +1,10 @@
 -- The box of a cell and a direction. Geometric containers after Wagner and Willhalm (2003).
 use Rattle.std.specs.Prelude.{◌≡◌, ◌≤◌, Bool, true, false, nat_le, ◌&&◌, Option, Some, None, refl}
+use Rattle.std.specs.Prelude.{slice_index_or}
 use Rattle.grid_moves.specs.declared.Cell.{Cell}
 use Rattle.grid_moves.specs.declared.Dir.{Dir}
-use Rattle.grid_moves.specs.declared.Dir.TheVariants.{N, NE, E, SE, S, SW, W, NW}
 use Rattle.grid_moves.specs.Grid.{GridData, is_free}
+use Rattle.grid_moves.specs.Move.{dir_number}
 use Rattle.cost_waves.specs.Begin.{Begins}
 use Rattle.goal_boxes.specs.declared.area.Area.{Area}
 use Rattle.goal_boxes.specs.declared.around.CellBoxes.{CellBoxes}
@@ -39,14 +40,7 @@ IsBox g u d box = IsAreaOf (λ t. Begins g u t d) box
 
 -- of eight boxes, the one in a direction
 abbrev pub box_in : CellBoxes → Dir → Option Area
-box_in b N = b.n
-box_in b NE = b.ne
-box_in b E = b.e
-box_in b SE = b.se
-box_in b S = b.s
-box_in b SW = b.sw
-box_in b W = b.w
-box_in b NW = b.nw
+box_in b d = slice_index_or b.areas (dir_number d) None
 
 -- these are the boxes of u
 abbrev pub AreBoxes : GridData → Cell → CellBoxes → Type 0

@@ -1,5 +1,5 @@
 -- The boxes of all cells of a grid, as they are kept.
-use Rattle.std.specs.Prelude.{◌≡◌, ◌*◌, ◌<◌, ℕ, true, List, length, slice_index_or, Option, None}
+use Rattle.std.specs.Prelude.{◌≡◌, ◌*◌, ◌<◌, ℕ, true, List, length, slice_index_or, replicate, Option, None}
 use Rattle.grid_moves.specs.declared.Cell.{Cell}
 use Rattle.grid_moves.specs.declared.Dir.{Dir}
 use Rattle.grid_moves.specs.Grid.{GridData, AreSides, cell_number, is_inside}
@@ -15,7 +15,7 @@ pub record BoxData : Type 0 where
 
 -- no box in any direction
 abbrev pub no_boxes : CellBoxes
-no_boxes = record { n = None; ne = None; e = None; se = None; s = None; sw = None; w = None; nw = None }
+no_boxes = record { areas = replicate 8 None }
 
 -- the boxes that are kept for a cell, and the one in a direction
 abbrev pub boxes_at : BoxData → Cell → CellBoxes

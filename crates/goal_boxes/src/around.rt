@@ -10,20 +10,13 @@ ghost use Rattle.goal_boxes.specs.Wide.{Seen, NoneTold, IsFirstTold, IsLastTold}
 use crate::area::widened;
 use crate::{Area, NoMemory};
 use cost_waves::CostWaves;
-use grid_moves::{Cell, Dir, Terrain};
+use grid_moves::{Cell, Dir, Terrain, dir_number};
 use std::alloc::Global;
 
-/// The boxes of a cell, one for each direction; `None` where no least walk begins with a move in it.
+/// The boxes of a cell, by the numbers of directions; `None` where no least walk begins with a move in one.
 #[derive(Clone, Copy, Debug, PartialEq, Eq)]
 pub struct CellBoxes {
-    pub n: Option<Area>,
-    pub ne: Option<Area>,
-    pub e: Option<Area>,
-    pub se: Option<Area>,
-    pub s: Option<Area>,
-    pub sw: Option<Area>,
-    pub w: Option<Area>,
-    pub nw: Option<Area>,
+    pub areas: [Option<Area>; 8],
 }
 
 impl CellBoxes {
@@ -32,16 +25,7 @@ impl CellBoxes {
     pub fn toward(self, d: Dir) -> Option<Area>
         ensures { result ≡ box_in self d }
     {
-        match d {
-            Dir::N => self.n,
-            Dir::NE => self.ne,
-            Dir::E => self.e,
-            Dir::SE => self.se,
-            Dir::S => self.s,
-            Dir::SW => self.sw,
-            Dir::W => self.w,
-            Dir::NW => self.nw,
-        }
+        self.areas[dir_number(d) as usize]
     }
 }
 
@@ -115,14 +99,16 @@ pub fn boxes_told(waves: &CostWaves) -> CellBoxes
         → Tells g u waves.now → AreBoxes g u result }
 {
     CellBoxes {
-        n: box_toward(waves, Dir::N),
-        ne: box_toward(waves, Dir::NE),
-        e: box_toward(waves, Dir::E),
-        se: box_toward(waves, Dir::SE),
-        s: box_toward(waves, Dir::S),
-        sw: box_toward(waves, Dir::SW),
-        w: box_toward(waves, Dir::W),
-        nw: box_toward(waves, Dir::NW),
+        areas: [
+            box_toward(waves, Dir::N),
+            box_toward(waves, Dir::NE),
+            box_toward(waves, Dir::E),
+            box_toward(waves, Dir::SE),
+            box_toward(waves, Dir::S),
+            box_toward(waves, Dir::SW),
+            box_toward(waves, Dir::W),
+            box_toward(waves, Dir::NW),
+        ],
     }
 }
 

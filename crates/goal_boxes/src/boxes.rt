@@ -14,16 +14,7 @@ use std::alloc::Global;
 use std::marker::Model;
 
 /// The boxes of a cell that is not free: none.
-pub const NO_BOXES: CellBoxes = CellBoxes {
-    n: None,
-    ne: None,
-    e: None,
-    se: None,
-    s: None,
-    sw: None,
-    w: None,
-    nw: None,
-};
+pub const NO_BOXES: CellBoxes = CellBoxes { areas: [None; 8] };
 
 /// The boxes of all cells of a grid, 80 bytes for each cell. Contracts see its sides and the boxes of each
 /// cell.

@@ -1,5 +1,5 @@
 -- What `boxes` prints.
-use Rattle.std.specs.Prelude.{◌≡◌, ℕ, List, ◌++◌, codes, decimal, Option, Some, None, refl}
+use Rattle.std.specs.Prelude.{◌≡◌, ℕ, List, ◌∷◌, ◌++◌, codes, decimal, replicate, Option, Some, None, refl}
 use Rattle.goal_boxes.specs.declared.area.Area.{Area}
 use Rattle.goal_boxes.specs.declared.around.CellBoxes.{CellBoxes}
 use Rattle.goal_boxes.specs.Box.{AreBoxes, box_in}
@@ -33,14 +33,7 @@ IsBoxText ls s text = IsToldOf ls s (λ line. line)
 -- the box to the lower right of the upper left cell of an open map of three columns and three rows
 abbrev corner_boxes : CellBoxes
 corner_boxes = record {
-  n = None;
-  ne = None;
-  e = None;
-  se = Some (record { x0 = 1; y0 = 1; x1 = 2; y1 = 2 });
-  s = None;
-  sw = None;
-  w = None;
-  nw = None;
+  areas = None ∷ None ∷ None ∷ Some (record { x0 = 1; y0 = 1; x1 = 2; y1 = 2 }) ∷ replicate 4 None;
 }
 
 pub lower_right : box_line corner_boxes SE

@@ -13,3 +13,4 @@ pub mod Costs
 pub mod Eight
 pub mod Parts
 pub mod Padding
+pub mod Turned

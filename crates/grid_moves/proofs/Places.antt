@@ -1,9 +1,9 @@
 -- The numbers of cells.
-use Rattle.std.proofs.Common.{◌≡◌, ℕ, ◌+◌, ◌*◌, ◌<◌, arith, ap, true}
+use Rattle.std.proofs.Common.{◌≡◌, ◌≢◌, ◌⊎◌, ℕ, ◌+◌, ◌*◌, ◌<◌, arith, ap, true}
 use Rattle.std.proofs.lemmas.Bool.Decides.{nat_tests}
 use Rattle.grid_moves.specs.declared.Cell.{Cell}
 use Rattle.grid_moves.specs.Grid.{GridData, cell_number, is_free, is_inside}
-use Rattle.grid_moves.proofs.Legal.{free_inside, same_cell}
+use Rattle.grid_moves.proofs.Legal.{free_inside, is_same-cell, is_same-itself, same_cell}
 
 -- two places in rows of w are one place
 pub one_place : (w x y z t : ℕ) → x < w → z < w → y * w + x ≡ t * w + z → (y ≡ t) × (x ≡ z)
@@ -35,3 +35,22 @@ inside_below g c i = let p = inside_is g c i in number_below g.width g.height c 
 
 pub free_below : (g : GridData) (c : Cell) → is_free g c ≡ true → cell_number g.width c < g.height * g.width
 free_below g c f = let p = free_inside g c f in number_below g.width g.height c p.0 p.1
+
+-- a column and a row on the map
+pub record IsOn (g : GridData) (c : Cell) : Type 0 where
+  pub column : c.x < g.width
+  pub row : c.y < g.height
+
+pub is_on : (g : GridData) (c : Cell) → is_inside g c ≡ true → IsOn g c
+is_on g c e = record { column = grind (arith, nat_tests); row = grind (arith, nat_tests) }
+
+pub on_inside : (g : GridData) (c : Cell) → IsOn g c → is_inside g c ≡ true
+on_inside g c on = let x = on.column in let y = on.row in grind (arith, nat_tests)
+
+pub free_on : (g : GridData) (c : Cell) → is_free g c ≡ true → IsOn g c
+free_on g c e = let i = free_inside g c e in record { column = i.0; row = i.1 }
+
+-- a cell is this one, or its number is another
+pub same_or_apart : (g : GridData) (c d : Cell) → IsOn g c → IsOn g d
+    → (c ≡ d) ⊎ (cell_number g.width c ≢ cell_number g.width d)
+same_or_apart g c d h1 h2 = grind (arith, nat_tests, is_same-cell, one_cell, is_same-itself)

@@ -1,6 +1,6 @@
 //! Laws of grids, as contracts of calls.
 
-ghost use Rattle.grid_moves.specs.Laws.{EstimateFalls, EstimateNeverExceeds};
+ghost use Rattle.grid_moves.specs.Laws.{EstimateFalls, EstimateNeverExceeds, WalksTurnRound};
 
 /// Over a legal move the octile estimate falls by at most the move's cost.
 pub fn estimate_falls()
@@ -10,4 +10,9 @@ pub fn estimate_falls()
 /// The octile estimate never exceeds the cost of a walk.
 pub fn estimate_never_exceeds()
     ensures { EstimateNeverExceeds }
+{}
+
+/// A walk turned round is a walk, and costs the same.
+pub fn walks_turn_round()
+    ensures { WalksTurnRound }
 {}

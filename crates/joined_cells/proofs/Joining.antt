@@ -6,7 +6,7 @@ use Rattle.grid_moves.specs.Move.{is_legal}
 use Rattle.grid_moves.specs.Walk.{is_walk, last_of}
 use Rattle.grid_moves.proofs.Legal.{legal_is}
 use Rattle.grid_moves.proofs.Walks.{last-joined, walk-joined}
-use Rattle.first_moves.proofs.Turned.{walk_back}
+use Rattle.grid_moves.proofs.Turned.{walk_back}
 use Rattle.joined_cells.specs.Joined.{IsJoined}
 
 pub joined_itself : (g : GridData) (s : Cell) → is_free g s ≡ true → IsJoined g s s

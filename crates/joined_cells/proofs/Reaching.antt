@@ -19,9 +19,9 @@ use Rattle.grid_moves.specs.Move.{is_legal, legal_ahead, all_dirs}
 use Rattle.grid_moves.proofs.Ahead.{legal_ahead-is, legal_ahead-of}
 use Rattle.grid_moves.proofs.Legal.{legal_is}
 use Rattle.grid_moves.proofs.Places.{free_below}
-use Rattle.cost_waves.proofs.Keeping.{IsOn, is_on, free_on, same_or_apart}
-use Rattle.cost_waves.proofs.Settling.{In, first, later, in_all}
-use Rattle.first_moves.proofs.Turned.{legal_back}
+use Rattle.grid_moves.proofs.Places.{IsOn, is_on, free_on, same_or_apart}
+use Rattle.grid_moves.proofs.Dirs.{In, first, later, in_all}
+use Rattle.grid_moves.proofs.Turned.{legal_back}
 use Rattle.joined_cells.specs.Flood.{Flood, flood_of, reached, reached_by, spread}
 use Rattle.joined_cells.specs.Flooding.{label_at, IsNamed, Waits, Keeps, IsSettled, Stay}
 use Rattle.joined_cells.proofs.Joining.{joined_itself, joined_more}

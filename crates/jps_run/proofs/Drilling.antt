@@ -150,7 +150,7 @@ drilled-all job before after w first commands lines h = record {
 }
 
 -- every command comes to something
-finding_exists : (d : SessionData) (edits : List Edit) (command : Command)
+pub finding_exists : (d : SessionData) (edits : List Edit) (command : Command)
     → (found : Finding) × FindsAfter d edits command found
 finding_exists d edits (Block x y) =
     (finding_of_edit (reply_to_edit (session_after d edits) (edit_at x y Blocked)), refl)

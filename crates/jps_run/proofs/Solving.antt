@@ -79,7 +79,7 @@ answered-more (Ok done) job now command before after same p on = λ first comman
     }
 
 -- every command has an answer
-line_exists : (d : SessionData) (show : Show) (edits : List Edit) (command : Command)
+pub line_exists : (d : SessionData) (show : Show) (edits : List Edit) (command : Command)
     → (line : List ℕ) × AnswersAfter d show edits command line
 line_exists d show edits (Block x y) =
     (edit_line (reply_to_edit (session_after d edits) (edit_at x y Blocked)), refl)

@@ -105,7 +105,7 @@ unfolding words_from
 all_terrain percent zero g = refl
 all_terrain percent (suc n) g = rw (terrain_of percent (pcg32 g).0) (all_terrain percent n (pcg32 g).1)
 
-length-words_from : (n : ℕ) (g : Lcg) → length (words_from n g) ≡ n
+pub length-words_from : (n : ℕ) (g : Lcg) → length (words_from n g) ≡ n
 unfolding words_from
 length-words_from zero g = refl
 length-words_from (suc n) g = ap suc (length-words_from n (pcg32 g).1)

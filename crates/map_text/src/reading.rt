@@ -27,8 +27,8 @@ const MAX_SIDE: u32 = 4096;
 /// once, and memory is taken for the cells alone, once the header is read.
 pub fn read_map(alloc: Global, text: &[u8]) -> Result<MapText, MapFault>
     requires { length text.now ≤ 2 ^ 26 }
-    // What is read is spelled so, what is spelled so is read, and a fault is that of the first line that breaks
-    // the grammar.
+    // What is read is spelled so, what is spelled so is read, and a fault is that of the first line that
+    // breaks the grammar.
     ensures { IsRightReading NoMemory plain (Spells text.now) (BreaksFirst (lines_of text.now))
         (map_of text.now) result }
 {

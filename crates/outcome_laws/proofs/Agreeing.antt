@@ -52,7 +52,7 @@ use Rattle.jps_run.specs.declared.replies.row.Row.{Row}
 use Rattle.jps_run.specs.declared.replies.row.Row.TheVariants as row
 use Rattle.outcome_laws.specs.Agreeing.{AllAgree, IsAgreed}
 use Rattle.outcome_laws.proofs.Ground.{ends_free, ends_on, not_both, query_whole}
-use Rattle.outcome_laws.proofs.Least.{least_one}
+use Rattle.plain_search.proofs.Closing.{one_least}
 
 -- one more
 one_more : (m n : ℕ) → m ≡ n → 1 + m ≡ suc n
@@ -201,7 +201,7 @@ module _ (ls : Layers) (are : AreLayers ls) where
   agreed_by n is (reply.Walk points cost taken) right =
       let stands = right.1 in
       let same : cost ≡ is.cost =
-      least_one (query_grid ls (from_of n)) (from_of n) (to_of n) cost is.cost (record {
+      one_least (query_grid ls (from_of n)) (from_of n) (to_of n) cost is.cost (record {
         cells = stands.cells;
         least = stands.least;
         priced = stands.priced;

@@ -1,6 +1,6 @@
 -- Layers of maps, and what edits leave of layers.
-use Rattle.std.proofs.Common.{◌≡◌, ℕ, zero, suc, refl, ap, sym, ◌∙◌, subst, Bool, true, false, ◌&&◌, List}
-use Rattle.std.proofs.Common.{length, map, reverse, ◌*◌}
+use Rattle.std.proofs.Common.{◌≡◌, ℕ, refl, ap, sym, ◌∙◌, subst, Bool, true, false, ◌&&◌, List}
+use Rattle.std.proofs.Common.{map, reverse, ◌*◌}
 use Rattle.std.specs.Prelude.{Option, Some, None, Ok}
 use Rattle.std.specs.List.{find, enumerate_from}
 use Rattle.std.specs.Option.{option_map_or}
@@ -8,18 +8,17 @@ use Rattle.std.proofs.lemmas.List.{length-map}
 use Rattle.std.proofs.lemmas.List.FromFn.{length-enumerate_from}
 use Rattle.grid_moves.specs.declared.Cell.{Cell}
 use Rattle.grid_moves.specs.declared.Ground.{Ground}
-use Rattle.grid_moves.specs.declared.Ground.TheVariants.{Blocked, Land, Water}
+use Rattle.grid_moves.specs.declared.Ground.TheVariants.{Land, Water}
 use Rattle.grid_moves.specs.Grid.{AreSides, GridData, IsGrid, is_free, is_ground, is_inside}
 use Rattle.grid_moves.specs.Layers.{AreLayers, Layers}
 use Rattle.grid_moves.specs.Move.{is_same}
-use Rattle.grid_moves.proofs.Layering.{are_layers-of, is_inside-water}
-use Rattle.rand_pcg.specs.Lcg.{Lcg}
-use Rattle.rand_pcg.specs.Pcg.{pcg32}
+use Rattle.grid_moves.proofs.Layering.{are_layers-of, is_inside-water, not_both}
 use Rattle.map_text.specs.Faults.{map_of}
 use Rattle.map_text.specs.Map.{IsMap, Map}
 use Rattle.map_text.proofs.Laws.{map_read}
 use Rattle.map_maker.specs.Making.{cell_of, made_map}
-use Rattle.map_maker.specs.Words.{generator_of, words_from, words_of}
+use Rattle.map_maker.specs.Words.{generator_of, words_of}
+use Rattle.map_maker.proofs.Drawn.{length-words_from}
 use Rattle.edit_replay.specs.Edited.{Edit, asked, edited, edited_layer}
 use Rattle.edit_replay.specs.Session.{SessionData}
 use Rattle.edit_replay.proofs.Edits.{is_free-edited, is_inside-edited}
@@ -37,12 +36,6 @@ pub are_layers-text : (set : Settings) (text : List ℕ) (m : Map) → map_of te
     → AreLayers (layers_on set m)
 are_layers-text set text m read = are_layers-map set m ((map_read text).found m read).is_map
 
--- a seed has as many words as are asked for
-length-words_from : (n : ℕ) (g : Lcg) → length (words_from n g) ≡ n
-unfolding words_from
-length-words_from zero g = refl
-length-words_from (suc n) g = ap suc (length-words_from n (pcg32 g).1)
-
 pub are_layers-seed : (set : Settings) (seed width height percent : ℕ) → AreSides width height
     → AreLayers (layers_on set (made_map seed width height percent))
 are_layers-seed set seed width height percent sides =
@@ -52,12 +45,6 @@ are_layers-seed set seed width height percent sides =
       whole = length-map (words_of seed (height * width)) (cell_of percent)
           ∙ length-words_from (height * width) (generator_of seed);
     })
-
--- no ground is both land and water
-not_both : (ground : Ground) → (is_ground Land ground && is_ground Water ground) ≡ false
-not_both Blocked = refl
-not_both Land = refl
-not_both Water = refl
 
 is_grid-edited : (ground : Ground) (g : GridData) (edits : List Edit) → IsGrid g
     → IsGrid (edited_layer ground g edits)

@@ -1,64 +1,27 @@
 -- From each free cell there are first moves, and walks of them.
 use Rattle.std.proofs.Common.{◌≡◌, ◌⊎◌, inl, inr, refl, sym, ap, ◌∙◌, subst, ℕ, zero, suc, ◌*◌, ◌/◌, ◌%◌}
 use Rattle.std.proofs.Common.{◌<◌, arith, Bool, true, false, List, [], ◌∷◌, length}
-use Rattle.std.specs.Prelude.{Option, Some, None, IsTrue, ◌↔◌, slice_index_or}
+use Rattle.std.specs.Prelude.{Option, None, IsTrue, ◌↔◌, slice_index_or}
 use Rattle.std.proofs.lemmas.Bool.Decides.{nat_tests}
 use Rattle.std.proofs.lemmas.Nat.{div-mul-add, mod-mul-add}
-use Rattle.root2_cost.specs.declared.Cost.{Cost}
-use Rattle.root2_cost.proofs.AtMost.{IsAtMost-not_more, IsAtMost-or_more}
 use Rattle.grid_moves.specs.declared.Cell.{Cell}
 use Rattle.grid_moves.specs.declared.Dir.{Dir}
 use Rattle.grid_moves.specs.Grid.{GridData, cell_number, is_free, is_inside}
 use Rattle.grid_moves.specs.Layers.{Layers, query_grid}
-use Rattle.grid_moves.specs.Move.{all_dirs, legal_ahead}
-use Rattle.grid_moves.specs.Walk.{cost_of}
-use Rattle.grid_moves.proofs.Ahead.{legal_ahead-is}
-use Rattle.grid_moves.proofs.Legal.{legal_is, same_cell}
-use Rattle.grid_moves.proofs.Short.{least_rest}
+use Rattle.grid_moves.specs.Move.{all_dirs}
+use Rattle.grid_moves.proofs.Legal.{same_cell}
 use Rattle.grid_moves.proofs.Places.{inside_below}
-use Rattle.cost_waves.specs.Begin.{Begins, IsCostTo}
-use Rattle.cost_waves.proofs.Falling.{goes_over, least_by_move, least_on}
-use Rattle.first_moves.specs.First.{IsFirstMove, first_where}
+use Rattle.std.specs.List.{find}
+use Rattle.first_moves.specs.First.{IsFirstMove}
 use Rattle.first_moves.specs.Row.{AreMoves, IsRow, MovesData}
 use Rattle.first_moves.specs.Runs.{runs_of}
 use Rattle.first_moves.specs.declared.row.Run.{Run}
 use Rattle.first_moves.proofs.Picking.{first_is}
 use Rattle.first_moves.proofs.Rows.{without_moves}
+use Rattle.goal_boxes.proofs.Existing.{begins_or_not}
 use Rattle.grid_answers.specs.RunLines.{IsRunText, runs_text}
 use Rattle.outcome_laws.proofs.OfCell.{told_exists}
 use Rattle.outcome_laws.proofs.Reached.{cost_exists, on_grid}
-
--- a move begins a least walk, or it does not
-module _ (g : GridData) (u : Cell) (d : Dir) (t : Cell) where
-  abbrev Decided : Type 0
-  Decided = (Begins g u t d) ⊎ (Begins g u t d → ⊥)
-
-  by_costs : (v : Cell) → legal_ahead g u d ≡ Some v → (o p : Option Cost) → IsCostTo g u t o
-      → IsCostTo g v t p → Decided
-  by_costs v e None p here there = inr (λ b. here (b.next ∷ b.cells) b.least.walk)
-  by_costs v e (Some cost) None here there = inr (λ b.
-      let o = goes_over g u v t d e b in there o.cells (least_rest g u t v o.cells o.least).walk)
-  by_costs v e (Some cost) (Some rest) here there =
-      elim (IsAtMost-or_more (cost_of (u ∷ v ∷ there.cells)) (cost_of (u ∷ here.cells))) [
-        | inl a ↦ inl (record {
-          next = v;
-          ahead = e;
-          cells = there.cells;
-          least = least_by_move g u v t d here.cells there.cells e here.least there.least.walk a;
-        })
-        | inr more ↦ inr (λ b. IsAtMost-not_more (cost_of (u ∷ v ∷ there.cells)) (cost_of (u ∷ here.cells))
-            ((least_on g u v t d there.cells e b there.least).least here.cells here.least.walk) more)
-      ]
-
-  by_ahead : is_free g u ≡ true → (o : Option Cell) → legal_ahead g u d ≡ o → Decided
-  by_ahead free None e = inr (λ b. let p : None ≡ Some b.next = sym e ∙ b.ahead in absurd (cc))
-  by_ahead free (Some v) e =
-      let here = cost_exists g u t free in
-      let there = cost_exists g v t (legal_is g u v (legal_ahead-is g u v d e)).target in
-      by_costs v e here.0 there.0 here.1 there.1
-
-  begins_or_not : is_free g u ≡ true → Decided
-  begins_or_not free = by_ahead free (legal_ahead g u d) refl
 
 yes_or_no : {A : Type 0} → A ⊎ (A → ⊥) → Bool
 yes_or_no (inl a) = true
@@ -72,14 +35,14 @@ told_by (inr none) = (λ e. absurd (cc), λ b. absurd (none b))
 -- the first move to each cell
 module _ (g : GridData) (s : Cell) (free : is_free g s ≡ true) where
   has : Cell → Dir → Bool
-  has t d = yes_or_no (begins_or_not g s d t free)
+  has t d = yes_or_no (begins_or_not g s d free t)
 
   first_exists : (t : Cell) → (move : Option Dir) × IsFirstMove g s t move
   unfolding has
   first_exists t =
       let cost = cost_exists g s t free in (
-        first_where (has t) all_dirs,
-        first_is g s t (has t) (λ d. told_by (begins_or_not g s d t free)) cost.0 cost.1,
+        find (has t) all_dirs,
+        first_is g s t (has t) (λ d. told_by (begins_or_not g s d free t)) cost.0 cost.1,
       )
 
 -- what a function tells of the first numbers

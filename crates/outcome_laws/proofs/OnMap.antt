@@ -18,8 +18,10 @@ use Rattle.jps_run.specs.Rows.{AreRows}
 use Rattle.jps_run.specs.declared.replies.row.Row.{Row}
 use Rattle.outcome_laws.specs.Alike.{BeginWith, way_of}
 use Rattle.outcome_laws.specs.Forgetting.{DifferInTaken}
-use Rattle.outcome_laws.proofs.Printed.{alike_rows, one_answers, one_drawing, one_heard, one_reply_line}
-use Rattle.outcome_laws.proofs.Printed.{one_rows, one_start}
+use Rattle.outcome_laws.proofs.Heard.{heard_same}
+use Rattle.outcome_laws.proofs.Lines.{answers_same}
+use Rattle.outcome_laws.proofs.Taken.{taken_begins}
+use Rattle.outcome_laws.proofs.Printed.{alike_rows, one_drawing, one_reply_line, one_rows}
 use Rattle.outcome_laws.proofs.Sessions.{layers_alike, session_layers, sessions_alike, who_alike}
 
 module _ (set other : Settings) (m : Map) (rule : set.rule ≡ other.rule)
@@ -46,7 +48,7 @@ module _ (set other : Settings) (m : Map) (rule : set.rule ≡ other.rule)
         → OnSession set m (λ d. AreAnswers d show commands lines)
         → OnSession other m (λ d. AreAnswers d show commands same) → lines ≡ same
     one_answers_on show commands lines same p q =
-        one_answers p.session q.session show commands lines same (session_layers set m p.session are p.is)
+        answers_same p.session q.session show commands lines same (session_layers set m p.session are p.is)
         (sessions_alike set other m rule p.session q.session p.is q.is way) p.known q.known
 
     pub one_drawing_on : (s t : Cell) (show : Show) (text same : List ℕ) (status also : ℕ)
@@ -64,12 +66,12 @@ module _ (set other : Settings) (m : Map) (rule : set.rule ≡ other.rule)
           → AnswerHeard d show (Some script) refusal lines → AnswerHeard e show (Some script) also same
           → (refusal ≡ also) × (lines ≡ same)
       one_heard_on refusal also lines same =
-          one_heard d e show script refusal also lines same (session_layers set m d are is)
+          heard_same d e show script refusal also lines same (session_layers set m d are is)
           (sessions_alike set other m rule d e is too way)
 
       pub one_start_on : (left refusal : Option (List ℕ)) (lines all : List (List ℕ))
           → AnswerTaken d show (Some script) left lines → AnswerHeard e show (Some script) refusal all
           → BeginWith all lines
       one_start_on left refusal lines all =
-          one_start d e show script left refusal lines all (session_layers set m d are is)
+          taken_begins d e show script left refusal lines all (session_layers set m d are is)
           (sessions_alike set other m rule d e is too way)

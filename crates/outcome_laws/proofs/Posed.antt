@@ -13,7 +13,7 @@ use Rattle.scen_lines.specs.Line.{version_line}
 use Rattle.scen_lines.specs.Naming.{name_of}
 use Rattle.scen_maker.specs.Lengths.{IsProblemLine}
 use Rattle.scen_maker.specs.Problems.{AreProblems, ArePriced, IsPriced, IsScenario, problems_status, query_of}
-use Rattle.outcome_laws.proofs.Least.{least_one}
+use Rattle.plain_search.proofs.Closing.{one_least}
 use Rattle.outcome_laws.proofs.Measured.{one_problem_line}
 use Rattle.outcome_laws.proofs.Turns.{turns-same}
 
@@ -23,7 +23,7 @@ one_priced ls ends p q one other =
     ap (λ (c : Cell). problem c p.goal p.cost) (one.start ∙ sym other.start)
     ∙ ap (λ (c : Cell). problem q.start c p.cost) (one.goal ∙ sym other.goal)
     ∙ ap (λ (k : Cost). problem q.start q.goal k)
-    (least_one (query_grid ls ends.start) ends.start ends.goal p.cost q.cost one.least other.least)
+    (one_least (query_grid ls ends.start) ends.start ends.goal p.cost q.cost one.least other.least)
   where
     problem : Cell → Cell → Cost → Problem
     problem start goal cost = record { start = start; goal = goal; cost = cost }

@@ -22,7 +22,7 @@ use Rattle.scen_lines.specs.Line.{version_line}
 use Rattle.scen_lines.specs.Naming.{name_of}
 use Rattle.scen_maker.specs.Lengths.{IsProblemLine}
 use Rattle.scen_maker.specs.Problems.{AreProblems, ArePriced, IsPriced, IsScenario, problems_status, query_of}
-use Rattle.outcome_laws.proofs.Answered.{problem_line}
+use Rattle.scen_maker.proofs.Listed.{line_exists}
 use Rattle.outcome_laws.proofs.Insertion.{in_order, order_same, order_sorted, order_stable}
 use Rattle.outcome_laws.proofs.Reached.{cost_exists}
 
@@ -100,7 +100,7 @@ module _ (ls : Layers) where
   scenario : (name : List ℕ) (problems : List Problem) → (text : List ℕ) × IsScenario ls name problems text
   scenario name problems =
       let all = turns-all {S = Unit {0}} (λ _ p line. IsProblemLine name (query_of ls p) p.cost line)
-      (λ s _. s) (λ s p. problem_line name (query_of ls p) p.cost) tt [] problems [] tt in
+      (λ s _. s) (λ s p. line_exists name (query_of ls p) p.cost) tt [] problems [] tt in
       (version_line ++ concat all.0, record { lines = all.0; are = all.1; all = refl })
 
 pub problems_exist : (ls : Layers) (word : List ℕ) (seed count : ℕ)

@@ -1,6 +1,5 @@
 -- What is printed is one.
 use Rattle.std.proofs.Common.{◌≡◌, List, ℕ, arith}
-use Rattle.std.specs.Prelude.{Option, Some}
 use Rattle.grid_moves.specs.declared.Cell.{Cell}
 use Rattle.grid_moves.specs.Grid.{AreSides}
 use Rattle.grid_moves.specs.Layers.{AreLayers}
@@ -15,22 +14,19 @@ use Rattle.word_list.specs.declared.request.Show.{Show}
 use Rattle.call_files.specs.Layered.{layers_on}
 use Rattle.jps_run.specs.Session.{OnSession}
 use Rattle.jps_run.specs.Who.{Who, who_is}
-use Rattle.jps_run.specs.Answers.{AreAnswers, IsReplyLine}
+use Rattle.jps_run.specs.Answers.{IsReplyLine}
 use Rattle.jps_run.specs.Drill.{AreDrilled, AreFindings}
 use Rattle.jps_run.specs.Pictures.{IsDrawing}
 use Rattle.jps_run.specs.declared.replies.findings.Finding.{Finding}
-use Rattle.jps_run.specs.Heard.{AnswerHeard, AnswerTaken}
 use Rattle.jps_run.specs.Rows.{AreRows}
 use Rattle.jps_run.specs.declared.replies.row.Row.{Row}
 use Rattle.outcome_laws.proofs.Kept.{are_layers-seed}
-use Rattle.outcome_laws.specs.Alike.{AnswerAlike, BeginWith}
+use Rattle.outcome_laws.specs.Alike.{AnswerAlike}
 use Rattle.outcome_laws.specs.Forgetting.{DifferInTaken}
 use Rattle.outcome_laws.proofs.Forgetting.{differ_in_taken}
-use Rattle.outcome_laws.proofs.Heard.{heard_same}
-use Rattle.outcome_laws.proofs.Lines.{answers_same, drawing_same, findings_same, reply_line_same}
+use Rattle.outcome_laws.proofs.Lines.{drawing_same, findings_same, reply_line_same}
 use Rattle.outcome_laws.proofs.Rows.{rows_alike, rows_same}
 use Rattle.outcome_laws.proofs.Same.{find_same, reply_same}
-use Rattle.outcome_laws.proofs.Taken.{taken_begins}
 use Rattle.outcome_laws.proofs.Sessions.{session_layers, sessions_layers}
 
 pub one_reply_line : (who other : Who) (show : Show) (s t : Cell) (line same : List ℕ)
@@ -39,11 +35,6 @@ pub one_reply_line : (who other : Who) (show : Show) (s t : Cell) (line same : L
 one_reply_line who other show s t line same are alike =
     reply_line_same who other alike.layers (reply_same who other are alike) show s t line same
 
-pub one_answers : (d e : SessionData) (show : Show) (commands : List Command) (lines same : List (List ℕ))
-    → AreLayers d.layers → AnswerAlike (who_is d) (who_is e)
-    → AreAnswers d show commands lines → AreAnswers e show commands same → lines ≡ same
-one_answers = answers_same
-
 pub one_drawing : (d e : SessionData) (m : Map) (s t : Cell) (show : Show) (text same : List ℕ)
     (status also : ℕ)
     → AreLayers d.layers → AnswerAlike (who_is d) (who_is e)
@@ -51,28 +42,11 @@ pub one_drawing : (d e : SessionData) (m : Map) (s t : Cell) (show : Show) (text
 one_drawing d e m s t show text same status also are alike =
     drawing_same d e (reply_same (who_is d) (who_is e) are alike) m s t show text same status also
 
-pub one_heard : (d e : SessionData) (show : Show) (script : List ℕ) (refusal also : Option (List ℕ))
-    (lines same : List (List ℕ)) → AreLayers d.layers → AnswerAlike (who_is d) (who_is e)
-    → AnswerHeard d show (Some script) refusal lines → AnswerHeard e show (Some script) also same
-    → (refusal ≡ also) × (lines ≡ same)
-one_heard = heard_same
-
-pub one_start : (d e : SessionData) (show : Show) (script : List ℕ) (left refusal : Option (List ℕ))
-    (lines all : List (List ℕ)) → AreLayers d.layers → AnswerAlike (who_is d) (who_is e)
-    → AnswerTaken d show (Some script) left lines → AnswerHeard e show (Some script) refusal all
-    → BeginWith all lines
-one_start = taken_begins
-
 pub one_rows : (who other : Who) (entries : List Entry) (rows same : List Row)
     → AreLayers who.layers → AnswerAlike who other
     → AreRows who entries rows → AreRows other entries same → rows ≡ same
 one_rows who other entries rows same are alike =
     rows_same who other alike.layers (reply_same who other are alike) entries rows same
-
-pub one_findings : (d e : SessionData) (commands : List Command) (found same : List Finding)
-    → AreLayers d.layers → d.layers ≡ e.layers
-    → AreFindings d commands found → AreFindings e commands same → found ≡ same
-one_findings = findings_same
 
 -- on one map, whatever engines two settings pick
 found_on_map : (set other : Settings) (m : Map) (commands : List Command) (found same : List Finding)

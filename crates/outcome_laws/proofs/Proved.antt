@@ -25,7 +25,7 @@ use Rattle.potential_make.specs.Written.{certificate_text, claim_of}
 use Rattle.potential_make.proofs.Making.{accepted_text}
 use Rattle.grid_answers.specs.Certificates.{IsProof, apart, blocked, certified, outside}
 use Rattle.outcome_laws.proofs.Ground.{query_whole}
-use Rattle.outcome_laws.proofs.Least.{least_one}
+use Rattle.plain_search.proofs.Closing.{one_least}
 use Rattle.outcome_laws.proofs.Numbered.{Choice, listing, no, one}
 use Rattle.outcome_laws.proofs.Reached.{cost_exists}
 
@@ -66,7 +66,7 @@ module _ (g : GridData) (s : Cell) (free : is_free g s ≡ true) where
 
     one_entry : (e f : Cell × Cost) → cell_in e ≡ cell_in f → IsClosed e → IsClosed f → e ≡ f
     one_entry e f same is also =
-        let cost : e.1 ≡ f.1 = least_one g s f.0 e.1 f.1
+        let cost : e.1 ≡ f.1 = one_least g s f.0 e.1 f.1
         (subst (λ (c : Cell). IsLeastCost g s c e.1) same is.0) also.0 in
         ap (λ (c : Cell). let entry : Cell × Cost = (c, e.1) in entry) same
         ∙ ap (λ (k : Cost). let entry : Cell × Cost = (f.0, k) in entry) cost
@@ -78,7 +78,7 @@ module _ (g : GridData) (s : Cell) (free : is_free g s ≡ true) where
             → is_less (add_costs cost (estimate c t)) bound ≡ b → Choice cell_in IsClosed c
         by_sum cost least true below = one (c, cost) refl (least, below)
         by_sum cost least false above = no (λ e same is.
-            let paid : e.1 ≡ cost = least_one g s c e.1 cost
+            let paid : e.1 ≡ cost = one_least g s c e.1 cost
             (subst (λ (d : Cell). IsLeastCost g s d e.1) same is.0) least in
             let below : is_less (add_costs e.1 (estimate e.0 t)) bound ≡ true = is.1 in
             let here : is_less (add_costs cost (estimate c t)) bound ≡ true =

@@ -1,58 +1,24 @@
 -- The text of the first moves from a cell is one.
-use Rattle.std.proofs.Common.{◌≡◌, ℕ, suc, ◌+◌, ◌*◌, ◌/◌, ◌%◌, ◌<◌, inl, inr, arith, refl, ap, sym, ◌∙◌}
-use Rattle.std.proofs.Common.{subst, true, List, [], ◌∷◌, length, get_or}
-use Rattle.std.specs.Prelude.{Option, Some, None, nat_lt}
+use Rattle.std.proofs.Common.{◌≡◌, ℕ, ◌+◌, ◌*◌, ◌/◌, ◌%◌, ◌<◌, inl, inr, arith, ap, sym, ◌∙◌}
+use Rattle.std.proofs.Common.{subst, true, List, [], length, get_or}
+use Rattle.std.specs.Prelude.{Option, None, nat_lt}
 use Rattle.std.proofs.Math.Nat.{div-add-mod, div-lt_iff_lt-mul, mod-lt}
-use Rattle.std.proofs.lemmas.Bool.Decides.{nat_tests}
+use Rattle.std.proofs.lemmas.Bool.{lt-ltb}
 use Rattle.std.proofs.lemmas.List.{get_or_default, same_lists}
-use Rattle.root2_cost.specs.declared.Cost.{Cost}
-use Rattle.root2_cost.specs.Sums.{no_cost}
-use Rattle.root2_cost.proofs.AtMost.{IsAtMost-antisymmetric}
-use Rattle.root2_cost.proofs.Sums.{no_cost_at_most}
-use Rattle.cost_waves.specs.Begin.{Begins}
 use Rattle.first_moves.specs.declared.row.Run.{Run}
 use Rattle.first_moves.specs.First.{IsFirstMove}
 use Rattle.first_moves.specs.Row.{IsRow}
 use Rattle.first_moves.specs.Runs.{runs_of}
+use Rattle.first_moves.proofs.Leading.{one_first}
 use Rattle.grid_moves.specs.declared.Cell.{Cell}
 use Rattle.grid_moves.specs.declared.Dir.{Dir}
-use Rattle.grid_moves.specs.Grid.{GridData, IsGrid, cell_number, is_free, is_inside}
+use Rattle.grid_moves.specs.Grid.{GridData, IsGrid, cell_number, is_inside}
 use Rattle.grid_moves.specs.Layers.{AreLayers, Layers, query_grid}
-use Rattle.grid_moves.specs.Walk.{cost_of}
 use Rattle.grid_answers.specs.RunLines.{IsRunText, runs_text}
 use Rattle.outcome_laws.proofs.OfCell.{one_told}
-use Rattle.outcome_laws.proofs.Ground.{and_true, query_free, query_whole}
-use Rattle.grid_moves.proofs.Walks.{steps-cost_of}
-use Rattle.grid_moves.proofs.Dirs.{one_dir}
+use Rattle.outcome_laws.proofs.Ground.{and_true, query_whole}
 
-lt_true : (m n : ℕ) → m < n → nat_lt m n ≡ true
-lt_true m n h = grind (arith, nat_tests)
-
-module _ (g : GridData) (s : Cell) (free : is_free g s ≡ true) where
-  -- no least walk from a cell to itself begins with a move
-  never_begins : (t : Cell) (d : Dir) → s ≡ t → Begins g s t d → ⊥
-  never_begins t d same b =
-      let none : cost_of (s ∷ b.next ∷ b.cells) ≡ no_cost =
-      IsAtMost-antisymmetric (cost_of (s ∷ b.next ∷ b.cells)) no_cost
-      (b.least.least [] (record { legal = free; ends = same }))
-      (no_cost_at_most (cost_of (s ∷ b.next ∷ b.cells))) in
-      let moves : 0 ≡ suc (length b.cells) =
-      ap (λ (c : Cost). c.a + c.b) (sym none) ∙ steps-cost_of s (b.next ∷ b.cells) in
-      omega arith
-
-  none_or_some : {A : Type 0} (t : Cell) (d : Dir) → IsFirstMove g s t None → Begins g s t d → A
-  none_or_some t d (inl same) b = absurd (never_begins t d same b)
-  none_or_some t d (inr none) b = absurd (none (b.next ∷ b.cells) b.least.walk)
-
-  pub one_move : (t : Cell) (m n : Option Dir) → IsFirstMove g s t m → IsFirstMove g s t n → m ≡ n
-  one_move t None None is also = refl
-  one_move t None (Some e) is also = none_or_some t e is also.0
-  one_move t (Some d) None is also = none_or_some t d also is.0
-  one_move t (Some d) (Some e) is also =
-      let low = is.1 e also.0 in
-      let high = also.1 d is.0 in
-      ap (λ (c : Dir). Some c) (one_dir d e (omega arith))
-
+module _ (g : GridData) (s : Cell) where
   -- the cell of a number below that of cells
   abbrev numbered : ℕ → Cell
   numbered n = record { x = n % g.width; y = n / g.width }
@@ -69,8 +35,8 @@ module _ (g : GridData) (s : Cell) (free : is_free g s ≡ true) where
         let wide = whole.sides.wide in
         let some : 0 < g.width = omega arith in
         and_true (nat_lt (n % g.width) g.width) (nat_lt (n / g.width) g.height)
-        (lt_true (n % g.width) g.width (mod-lt n some))
-        (lt_true (n / g.width) g.height ((div-lt_iff_lt-mul some).1 below))
+        (lt-ltb (n % g.width) g.width (mod-lt n some))
+        (lt-ltb (n / g.width) g.height ((div-lt_iff_lt-mul some).1 below))
 
     same_members : (ms ns : List (Option Dir)) → length ms ≡ g.height * g.width
         → length ns ≡ g.height * g.width
@@ -84,7 +50,7 @@ module _ (g : GridData) (s : Cell) (free : is_free g s ≡ true) where
             let inside = lies_inside k (omega arith) in
             let one : get_or ms (cell_number g.width (numbered k)) None
             ≡ get_or ns (cell_number g.width (numbered k)) None =
-            one_move (numbered k) (get_or ms (cell_number g.width (numbered k)) None)
+            one_first g s (numbered k) (get_or ms (cell_number g.width (numbered k)) None)
             (get_or ns (cell_number g.width (numbered k)) None) (are (numbered k) inside)
             (also (numbered k) inside) in
             let here : get_or ms k None ≡ get_or ns k None =
@@ -102,4 +68,4 @@ pub one_text : (ls : Layers) (s : Cell) (one other : List ℕ) → AreLayers ls
     → IsRunText ls s one → IsRunText ls s other → one ≡ other
 one_text ls s one other are = one_told ls s (λ line. line) one other are (λ x y free p q.
     p.2 ∙ ap (λ (r : List Run). runs_text (query_grid ls s).width r)
-    (one_row (query_grid ls s) s (query_free ls are s free) (query_whole ls are s) p.0 q.0 p.1 q.1) ∙ sym q.2)
+    (one_row (query_grid ls s) s (query_whole ls are s) p.0 q.0 p.1 q.1) ∙ sym q.2)

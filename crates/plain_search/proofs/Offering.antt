@@ -33,7 +33,7 @@ use Rattle.best_first.specs.Ways.{Onward, IsAmong, first, later, with_onward, wi
 use Rattle.best_first.proofs.Links.{estimate_triangle}
 use Rattle.best_first.proofs.Ways.{of_among}
 use Rattle.best_first.proofs.Searching.{closed_below}
-use Rattle.cost_waves.proofs.Settling.{In, first as here_is, later as there_is, in_all}
+use Rattle.grid_moves.proofs.Dirs.{In, first as here_is, later as there_is, in_all}
 use Rattle.plain_search.specs.declared.moves.Behind.{Behind}
 use Rattle.plain_search.specs.Rule.{plain_rule, plain_links, is_led, plain_step}
 use Rattle.grid_moves.specs.Around.{is_open_to, end_of, IsAround}

@@ -1,6 +1,6 @@
 -- Whole numbers as a signed word of 64 bits keeps them.
 use Rattle.std.proofs.Common.{◌≡◌, ◌<◌, ◌^◌, refl, arith}
-use Rattle.std.specs.Prelude.{ℤ, ◌+ℤ◌, ◌-ℤ◌}
+use Rattle.std.specs.Prelude.{ℤ, ◌-ℤ◌}
 use Rattle.std.specs.Int.RustNames.{FitsSigned, unsigned_abs}
 use Rattle.std.proofs.lemmas.Int.{ints, fits_signed_from_abs, to_z-of_z}
 use mir.Val.{of_z, to_z}
@@ -11,30 +11,14 @@ kept x small = to_z-of_z w64 x (fits_signed_from_abs w64 x (omega (arith, small)
 
 -- two parts below 2^61 in amount
 module _ (x y : ℤ) (in_x : unsigned_abs x < 2 ^ 61) (in_y : unsigned_abs y < 2 ^ 61) where
-  module _ (op : ℤ → ℤ → ℤ) (small : unsigned_abs (op x y) < 2 ^ 62) where
-    read : op (to_z w64 (of_z w64 x)) (to_z w64 (of_z w64 y)) ≡ op x y
-    read = rw (kept x (omega (arith, in_x)), kept y (omega (arith, in_y))) refl
-
-    fits : FitsSigned w64 (op (to_z w64 (of_z w64 x)) (to_z w64 (of_z w64 y)))
-    fits = rw read (fits_signed_from_abs w64 (op x y) (omega (arith, small)))
-
-    told : to_z w64 (of_z w64 (op (to_z w64 (of_z w64 x)) (to_z w64 (of_z w64 y)))) ≡ op x y
-    told = rw read (kept (op x y) small)
-
-  sum_small : unsigned_abs (x +ℤ y) < 2 ^ 62
-  sum_small = omega (arith, ints, in_x, in_y)
-
-  pub sum_fits : FitsSigned w64 (to_z w64 (of_z w64 x) +ℤ to_z w64 (of_z w64 y))
-  sum_fits = fits ◌+ℤ◌ sum_small
-
-  pub sum_told : to_z w64 (of_z w64 (to_z w64 (of_z w64 x) +ℤ to_z w64 (of_z w64 y))) ≡ x +ℤ y
-  sum_told = told ◌+ℤ◌ sum_small
+  read : to_z w64 (of_z w64 x) -ℤ to_z w64 (of_z w64 y) ≡ x -ℤ y
+  read = rw (kept x (omega (arith, in_x)), kept y (omega (arith, in_y))) refl
 
   pub difference_small : unsigned_abs (x -ℤ y) < 2 ^ 62
   difference_small = omega (arith, ints, in_x, in_y)
 
   pub difference_fits : FitsSigned w64 (to_z w64 (of_z w64 x) -ℤ to_z w64 (of_z w64 y))
-  difference_fits = fits ◌-ℤ◌ difference_small
+  difference_fits = rw read (fits_signed_from_abs w64 (x -ℤ y) (omega (arith, difference_small)))
 
   pub difference_told : to_z w64 (of_z w64 (to_z w64 (of_z w64 x) -ℤ to_z w64 (of_z w64 y))) ≡ x -ℤ y
-  difference_told = told ◌-ℤ◌ difference_small
+  difference_told = rw read (kept (x -ℤ y) difference_small)

@@ -1,5 +1,4 @@
 -- Ranks of costs: whole numbers a * q + b * p, where p * p is twice q * q and one more.
-use Rattle.std.proofs.lemmas.Bool.Decides.{nat_tests}
 use Rattle.std.proofs.Common.{◌≡◌, ℕ, ◌+◌, ◌*◌, ◌^◌, ◌<◌, ◌≤◌, inl, inr, arith, ap, ◌∙◌, lit<}
 use Rattle.std.proofs.Math.Nat.{mul-le-mul}
 use Rattle.root2_cost.specs.declared.Cost.{Cost}
@@ -86,7 +85,3 @@ ranks_less p q s t h = elim (IsLess-total p q) [
 
     not_same : (m n : ℕ) → m < n → m ≡ n → ⊥
     not_same m n g h = omega arith
-
--- costs of one rank are the same
-pub ranks_same : (p q : Cost) → HasShortParts p → HasShortParts q → rank_of p ≡ rank_of q → p ≡ q
-ranks_same p q h i j = grind (arith, nat_tests)

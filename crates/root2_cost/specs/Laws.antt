@@ -7,7 +7,7 @@ use Rattle.root2_cost.specs.Sums.{add_costs, octile_cost}
 use Rattle.root2_cost.specs.declared.Signed.{Signed}
 use Rattle.root2_cost.specs.Signed.{signed_of, add_signed, signed_difference, IsSignedLess, IsSignedAtMost}
 use Rattle.root2_cost.specs.Signed.{RisesAtMost}
-use Rattle.root2_cost.specs.Rank.{rank_of, signed_rank}
+use Rattle.root2_cost.specs.Rank.{cost_of_rank, rank_of, signed_rank}
 use Rattle.root2_cost.specs.declared.lengths.Decimal.{Decimal}
 use Rattle.root2_cost.specs.declared.lengths.Verdict.TheVariants.{Agree}
 use Rattle.root2_cost.specs.Verdict.{verdict_of}
@@ -47,9 +47,9 @@ pub record HasShortParts (c : Cost) : Type 0 where
 abbrev pub RanksTellOrder : Type 0
 RanksTellOrder = (p q : Cost) → HasShortParts p → HasShortParts q → IsLess p q ↔ (rank_of p < rank_of q)
 
--- two such costs of one rank are the same pair
-abbrev pub RanksTellPairs : Type 0
-RanksTellPairs = (p q : Cost) → HasShortParts p → HasShortParts q → rank_of p ≡ rank_of q → p ≡ q
+-- the cost of its rank is such a cost itself, so no two have one rank
+abbrev pub RanksTellCosts : Type 0
+RanksTellCosts = (c : Cost) → HasShortParts c → cost_of_rank (rank_of c) ≡ c
 
 -- as differences, costs have their order
 abbrev pub SignedCostsKeepOrder : Type 0

@@ -3,7 +3,7 @@
 //! Together they say that the order is that of the values a + b√2: it is the only total order of
 //! pairs that sums keep and that compares straight with diagonal moves by their squares.
 
-ghost use Rattle.root2_cost.specs.Laws.{OrderIsTotal, OrderIsTransitive, ValuesTellPairs, SumsKeepOrder, SquaresDecide, DistancesAdd, RanksTellOrder, RanksTellPairs};
+ghost use Rattle.root2_cost.specs.Laws.{OrderIsTotal, OrderIsTransitive, ValuesTellPairs, SumsKeepOrder, SquaresDecide, DistancesAdd, RanksTellOrder, RanksTellCosts};
 ghost use Rattle.root2_cost.specs.Laws.{SignedCostsKeepOrder, SignedOrderIsTransitive, DifferencesTelescope, BoundsAddUp, SignedRanksTellOrder};
 ghost use Rattle.root2_cost.specs.Laws.{NearestIsOne, NearestAgrees, NearestIsShort, BucketIsOne};
 
@@ -42,9 +42,9 @@ pub fn ranks_tell_order()
     ensures { RanksTellOrder }
 {}
 
-/// Two such costs of one rank are the same pair.
-pub fn ranks_tell_pairs()
-    ensures { RanksTellPairs }
+/// A cost of fewer than 2^31 moves of each kind is the cost of its rank, so no two have one rank.
+pub fn ranks_tell_costs()
+    ensures { RanksTellCosts }
 {}
 
 /// Differences of costs with nothing are ordered as the costs are.

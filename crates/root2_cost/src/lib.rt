@@ -9,7 +9,7 @@ ghost use Rattle.std.specs.Prelude.{◌≡◌, ◌+◌, ◌<◌, ◌^◌, ◌↔
 ghost use Rattle.std.specs.Ordering.{MatchOrdering};
 ghost use Rattle.std.specs.Int.RustNames.{unsigned_abs};
 ghost use Rattle.root2_cost.specs.Order.{is_positive, is_less, IsLess};
-ghost use Rattle.root2_cost.specs.Signed.{add_signed, cost_difference, is_signed_less, signed_difference, signed_of, opposite, lowered, is_within, IsAboveZero, IsBelowZero, IsZero};
+ghost use Rattle.root2_cost.specs.Signed.{cost_difference, signed_difference, signed_of, opposite, lowered, is_within, IsAboveZero, IsBelowZero, IsZero};
 ghost use Rattle.root2_cost.specs.Sums.{add_costs, octile_cost};
 
 use std::cmp::Ordering;
@@ -146,20 +146,6 @@ impl Signed {
         }
     }
 
-    /// The sum of both, whose parts are below 2^61 in amount.
-    pub fn add(self, other: Signed) -> Signed
-        requires a { unsigned_abs self.a < 2 ^ 61 }
-        requires b { unsigned_abs self.b < 2 ^ 61 }
-        requires other_a { unsigned_abs other.a < 2 ^ 61 }
-        requires other_b { unsigned_abs other.b < 2 ^ 61 }
-        ensures { result ≡ add_signed self other }
-    {
-        Signed {
-            a: self.a + other.a,
-            b: self.b + other.b,
-        }
-    }
-
     /// What this value has more than the other, part by part; all parts are below 2^61 in amount.
     pub fn minus(self, other: Signed) -> Signed
         requires a { unsigned_abs self.a < 2 ^ 61 }
@@ -174,17 +160,6 @@ impl Signed {
             a: self.a - other.a,
             b: self.b - other.b,
         }
-    }
-
-    /// Whether this value is the lesser; all parts are below 2^61 in amount.
-    pub fn is_below(self, other: Signed) -> bool
-        requires a { unsigned_abs self.a < 2 ^ 61 }
-        requires b { unsigned_abs self.b < 2 ^ 61 }
-        requires other_a { unsigned_abs other.a < 2 ^ 61 }
-        requires other_b { unsigned_abs other.b < 2 ^ 61 }
-        ensures { result ≡ is_signed_less self other }
-    {
-        other.minus(self).is_positive()
     }
 
     /// Whether the value is above 0, by the squares of both parts where their signs differ.

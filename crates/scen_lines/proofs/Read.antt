@@ -2,7 +2,7 @@
 use Rattle.std.proofs.Common.{◌≡◌, ◌≢◌, ℕ, suc, ◌+◌, ◌/◌, ◌^◌, ◌<◌, ◌≤◌, Bool, true, false, not, eqb}
 use Rattle.std.proofs.Common.{List, [], ◌∷◌, ◌++◌, length, get_or, inr, refl, ap, sym}
 use Rattle.std.proofs.Common.{◌∙◌, append_assoc, arith, subst}
-use Rattle.std.specs.Prelude.{codes, decimal}
+use Rattle.std.specs.Prelude.{codes, decimal, map}
 use Rattle.std.specs.Char.{is_ascii_digit}
 use Rattle.std.specs.List.{All, AllByRecursion, list_all}
 use Rattle.std.proofs.lemmas.Bool.{and_parts, and_from}
@@ -16,7 +16,8 @@ use Rattle.text_line.specs.Lines.{pieces_of, without_cr}
 use Rattle.text_line.specs.Places.{LineAt, fields_from, lines_from}
 use Rattle.text_line.specs.Reading.{SpellInOrder}
 use Rattle.text_line.proofs.Cut.{without_cr_same}
-use Rattle.text_line.proofs.Written.{all_weaker, are_digits, nine_digits, pieces_then}
+use Rattle.text_line.proofs.Written.{all_weaker, are_digits, nine_digits, pieces_then, is_plain, plain_both}
+use Rattle.text_line.proofs.Written.{plain_digits, without_cr_plain}
 use Rattle.scen_text.specs.Spelling.{IsBlank, IsEntry, Spells}
 use Rattle.scen_lines.specs.declared.line.Listed.{Listed}
 use Rattle.scen_lines.specs.Line.{last_digit, last_eight, length_text}
@@ -40,28 +41,24 @@ digits_filled (d ∷ digits) all =
     filled : (byte : ℕ) → is_ascii_digit byte ≡ true → is_blank_byte byte ≡ false
     filled byte digit = grind (arith, nat_tests)
 
+none_ended : (byte : ℕ) → is_plain byte ≡ true → ends_none byte ≡ true
+none_ended byte plain = grind (arith, nat_tests)
+
 no_feed : (byte : ℕ) → ends_none byte ≡ true → eqb byte 10 ≡ false
 no_feed byte none = grind (arith, nat_tests)
 
-plain_digit : (byte : ℕ) → is_ascii_digit byte ≡ true → ends_none byte ≡ true
-plain_digit byte digit = grind (arith, nat_tests)
-
--- a word that ends no line
+-- a word that ends no line, nor loses its end
 record IsPlain (word : List ℕ) : Type 0 where
   is : IsWord word
-  plain : list_all ends_none word ≡ true
+  plain : list_all is_plain word ≡ true
 
 number_plain : (n : ℕ) → n < 10 ^ 9 → IsPlain (decimal n)
 number_plain n low =
     let are = nine_digits n low in
     record {
       is = record { some = are.some; filled = digits_filled (decimal n) are.all };
-      plain = all_weaker is_ascii_digit ends_none plain_digit (decimal n) are.all;
+      plain = plain_digits (decimal n) are.all;
     }
-
-plain_joined : (xs ys : List ℕ) → list_all ends_none xs ≡ true → list_all ends_none ys ≡ true
-    → list_all ends_none (xs ++ ys) ≡ true
-plain_joined xs ys p q = grind (arith, nat_tests, list_all-append, and_from)
 
 parted_plain : (whole kept : List ℕ) → 1 ≤ length whole → list_all is_ascii_digit whole ≡ true
     → list_all is_ascii_digit kept ≡ true → IsPlain (whole ++ 46 ∷ kept)
@@ -72,8 +69,7 @@ parted_plain whole kept some front back =
         filled = All-append (λ byte. is_blank_byte byte ≡ false) whole (46 ∷ kept) (digits_filled whole front)
             (All-cons (λ byte. is_blank_byte byte ≡ false) 46 kept refl (digits_filled kept back));
       };
-      plain = plain_joined whole (46 ∷ kept) (all_weaker is_ascii_digit ends_none plain_digit whole front)
-          (all_weaker is_ascii_digit ends_none plain_digit kept back);
+      plain = plain_both whole (46 ∷ kept) (plain_digits whole front) (plain_digits kept back);
     }
 
 length_is : (units : ℕ) → decimal (units / 100000000) ++ 46 ∷ last_eight units ≡ length_text units
@@ -124,50 +120,11 @@ line_is entry = grouped (codes "\t") (codes "\n") (decimal entry.listed.bucket) 
     (decimal entry.listed.problem.h) (decimal entry.listed.problem.sx) (decimal entry.listed.problem.sy)
     (decimal entry.listed.problem.gx) (decimal entry.listed.problem.gy) (length_text entry.listed.units)
 
--- a line ends with a digit, so no carriage return is dropped
-EndsWith : ℕ → List ℕ → Type 0
-EndsWith c text = (front : List ℕ) × (text ≡ front ++ c ∷ [])
-
-ends_behind : (c : ℕ) (xs : List ℕ) (y : ℕ) (ys : List ℕ) → EndsWith c ys → EndsWith c (xs ++ y ∷ ys)
-unfolding EndsWith
-ends_behind c xs y ys ends =
-    (xs ++ y ∷ ends.0, ap (λ (t : List ℕ). xs ++ y ∷ t) ends.1 ∙ sym (append_assoc xs (y ∷ ends.0) (c ∷ [])))
-
-ends_kept : (c : ℕ) (text : List ℕ) → EndsWith c text → c ≢ 13 → without_cr text ≡ text
-unfolding EndsWith
-ends_kept c text ends other =
-    let long : length text ≡ suc (length ends.0) =
-    ap length ends.1 ∙ omega (arith, length-append ends.0 (c ∷ [])) in
-    let at : get_or text (length ends.0) 0 ≡ c =
-    ap (λ (t : List ℕ). get_or t (length ends.0) 0) ends.1 ∙ get_or-append_seam ends.0 c [] 0 in
-    without_cr_same text (length ends.0) long (λ is. other (sym at ∙ is))
-
-eight_ends : (n : ℕ) → EndsWith (last_digit n) (last_eight n)
-unfolding EndsWith
-eight_ends n = (
-  last_digit (n / 10000000) ∷ last_digit (n / 1000000) ∷ last_digit (n / 100000) ∷ last_digit (n / 10000) ∷
-      last_digit (n / 1000) ∷ last_digit (n / 100) ∷ last_digit (n / 10) ∷ [],
-  refl,
-)
-
-length_ends : (units : ℕ) → EndsWith (last_digit units) (length_text units)
-length_ends units = grind (arith, nat_tests, EndsWith, length_is, ends_behind, eight_ends)
-
-words_end : (c : ℕ) (word : List ℕ) (words : List (List ℕ)) (last : List ℕ) → EndsWith c last
-    → EndsWith c (words_text word (words ++ last ∷ []))
-words_end c word [] last ends = ends_behind c word 9 last ends
-words_end c word (next ∷ words) last ends =
-    ends_behind c word 9 (words_text next (words ++ last ∷ [])) (words_end c next words last ends)
-
-body_ends : (entry : Named) → EndsWith (last_digit entry.listed.units) (body_of entry)
-body_ends entry = grind (arith, nat_tests, words_text, ends_behind, words_end, length_ends)
-
-kept_body : (entry : Named) → without_cr (body_of entry) ≡ body_of entry
-kept_body entry = ends_kept (last_digit entry.listed.units) (body_of entry) (body_ends entry)
-    (no_return entry.listed.units)
-  where
-    no_return : (n : ℕ) → last_digit n ≢ 13
-    no_return n is = omega arith
+-- a carriage return is dropped behind a front as it is without
+behind_front : (xs : List ℕ) (y : ℕ) (ys : List ℕ) → without_cr (xs ++ y ∷ ys) ≡ xs ++ without_cr (y ∷ ys)
+behind_front [] y ys = refl
+behind_front (x ∷ []) y ys = refl
+behind_front (x ∷ z ∷ xs) y ys = ap (λ (t : List ℕ). x ∷ t) (behind_front (z ∷ xs) y ys)
 
 -- the words of an entry
 record HasPlainWords (listed : Listed) : Type 0 where
@@ -175,37 +132,31 @@ record HasPlainWords (listed : Listed) : Type 0 where
   first : IsPlain (decimal listed.problem.w)
   later : AllByRecursion IsPlain (later_words listed)
 
+numbers_plain : (ns : List ℕ) (last : List ℕ) → AllByRecursion (λ n. n < 10 ^ 9) ns → IsPlain last
+    → AllByRecursion IsPlain (map (λ n. decimal n) ns ++ last ∷ [])
+numbers_plain [] last all plain = (plain, tt)
+numbers_plain (n ∷ ns) last all plain = (number_plain n all.0, numbers_plain ns last all.1 plain)
+
 plain_words : (entry : Named) → IsReadable entry → HasPlainWords entry.listed
-plain_words entry is = record {
-  bucket = number_plain entry.listed.bucket is.bucket;
-  first = number_plain entry.listed.problem.w is.problem.w;
-  later = (
-    number_plain entry.listed.problem.h is.problem.h,
-    (
-      number_plain entry.listed.problem.sx is.problem.sx,
-      (
-        number_plain entry.listed.problem.sy is.problem.sy,
-        (
-          number_plain entry.listed.problem.gx is.problem.gx,
-          (
-            number_plain entry.listed.problem.gy is.problem.gy,
-            (length_plain entry.listed.units is.units, tt),
-          ),
-        ),
-      ),
-    ),
-  );
-}
+plain_words entry is =
+    let p = entry.listed.problem in
+    let r = is.problem in
+    record {
+      bucket = number_plain entry.listed.bucket is.bucket;
+      first = number_plain p.w r.w;
+      later = numbers_plain (p.h ∷ p.sx ∷ p.sy ∷ p.gx ∷ p.gy ∷ []) (length_text entry.listed.units)
+          (r.h, (r.sx, (r.sy, (r.gx, (r.gy, tt))))) (length_plain entry.listed.units is.units);
+    }
 
 all_words : (words : List (List ℕ)) → AllByRecursion IsPlain words → AllByRecursion IsWord words
 all_words [] all = tt
 all_words (word ∷ words) all = (all.0.is, all_words words all.1)
 
 words_plain : (word : List ℕ) (words : List (List ℕ)) → IsPlain word → AllByRecursion IsPlain words
-    → list_all ends_none (words_text word words) ≡ true
+    → list_all is_plain (words_text word words) ≡ true
 words_plain word [] is all = is.plain
 words_plain word (next ∷ words) is all =
-    plain_joined word (9 ∷ words_text next words) is.plain (words_plain next words all.0 all.1)
+    plain_both word (9 ∷ words_text next words) is.plain (words_plain next words all.0 all.1)
 
 each_plain : (bytes : List ℕ) → ((k : ℕ) → k < length bytes → get_or bytes k 0 ≢ 10)
     → list_all ends_none bytes ≡ true
@@ -217,13 +168,33 @@ each_plain (b ∷ bytes) each =
     other : (b : ℕ) → b ≢ 10 → ends_none b ≡ true
     other b differs = grind (arith, nat_tests)
 
-body_plain : (entry : Named) → IsReadable entry → list_all ends_none (body_of entry) ≡ true
-body_plain entry is =
-    let words = plain_words entry is in
-    let tail = words_text (decimal entry.listed.problem.w) (later_words entry.listed) in
-    plain_joined (decimal entry.listed.bucket) (9 ∷ (entry.name ++ 9 ∷ tail)) words.bucket.plain
-    (plain_joined entry.name (9 ∷ tail) (each_plain entry.name is.name.one_line)
-    (words_plain (decimal entry.listed.problem.w) (later_words entry.listed) words.first words.later))
+module _ (entry : Named) (is : IsReadable entry) where
+  abbrev tail : List ℕ
+  tail = words_text (decimal entry.listed.problem.w) (later_words entry.listed)
+
+  tail_plain : list_all is_plain (9 ∷ tail) ≡ true
+  tail_plain =
+      let words = plain_words entry is in
+      words_plain (decimal entry.listed.problem.w) (later_words entry.listed) words.first words.later
+
+  body_plain : list_all ends_none (body_of entry) ≡ true
+  body_plain =
+      grind (
+        arith,
+        nat_tests,
+        list_all-append,
+        and_from,
+        each_plain entry.name is.name.one_line,
+        all_weaker is_plain ends_none none_ended (decimal entry.listed.bucket) (plain_words entry
+            is).bucket.plain,
+        all_weaker is_plain ends_none none_ended (9 ∷ tail) tail_plain,
+      )
+
+  kept_body : without_cr (body_of entry) ≡ body_of entry
+  kept_body =
+      behind_front (decimal entry.listed.bucket) 9 (entry.name ++ 9 ∷ tail)
+      ∙ ap (λ (t : List ℕ). decimal entry.listed.bucket ++ t) (behind_front (9 ∷ entry.name) 9 tail
+      ∙ ap (λ (t : List ℕ). 9 ∷ entry.name ++ t) (without_cr_plain (9 ∷ tail) tail_plain))
 
 -- the line spells the entry
 line_spells : (number place : ℕ) (entry : Named) → IsReadable entry
@@ -287,7 +258,7 @@ lines_first number place entry rest is =
     ∙ ap (λ (pieces : List (List ℕ)). lines_from number place pieces)
     (pieces_then ends_none no_feed body rest (body_plain entry is))
     ∙ ap (λ (bytes : List ℕ). let line : LineAt = record { number = number; place = place; bytes = bytes } in
-    line ∷ lines_from (number + 1) (place + length body + 1) (pieces_of rest)) (kept_body entry)
+    line ∷ lines_from (number + 1) (place + length body + 1) (pieces_of rest)) (kept_body entry is)
     ∙ ap (λ n. here ∷ lines_from (number + 1) n (pieces_of rest)) next
 
 lines_spell : (number place : ℕ) (entries : List Named) → AreReadable entries

@@ -25,7 +25,7 @@ use Rattle.scen_maker.specs.declared.lengths.Lengths.{Lengths}
 use Rattle.scen_maker.proofs.Searching.{settled_exists}
 
 -- each cost has a line
-line_exists : (name : List ℕ) (problem : Problem) (cost : Cost) → (line : List ℕ)
+pub line_exists : (name : List ℕ) (problem : Problem) (cost : Cost) → (line : List ℕ)
     × IsProblemLine name problem cost line
 line_exists name problem cost =
     let n = nearest_exists cost in
@@ -52,7 +52,7 @@ abbrev stays : Unit {0} → Entry → Unit {0}
 stays s entry = s
 
 -- and each entry has one, or nothing
-has_line : (ls : Layers) (text : List ℕ) (s : Unit {0}) (entry : Entry) → (line : List ℕ)
+pub has_line : (ls : Layers) (text : List ℕ) (s : Unit {0}) (entry : Entry) → (line : List ℕ)
     × Stands ls text s entry line
 has_line ls text s entry =
     let h = settled_exists ls entry in

@@ -24,8 +24,8 @@ use text_line::{Fields, FieldsAt, LinesAt, PlacedLine, number};
 /// line by line, and field by field.
 pub fn read_scen(alloc: Global, text: &[u8]) -> Result<Vec<Entry>, ScenFault>
     requires { length text.now ≤ 2 ^ 26 }
-    // What is read is spelled so, what is spelled so is read, and a fault is that of the first line that breaks
-    // the grammar.
+    // What is read is spelled so, what is spelled so is read, and a fault is that of the first line that
+    // breaks the grammar.
     ensures reads { IsRightReading NoMemory (λ entries. entries.items) (Spells text.now)
         (BreaksFirst (lines_at text.now)) (scen_of text.now) result }
     // Each length has at most 18 digits, at most ten of them behind the point.

@@ -24,8 +24,8 @@ pub(crate) const MAX_LINE: usize = 128;
 /// alone.
 pub fn read_script(alloc: Global, text: &[u8]) -> Result<Vec<Command>, ScriptFault>
     requires { length text.now ≤ 2 ^ 26 }
-    // What is read is spelled so, what is spelled so is read, and a fault is that of the first line that breaks
-    // the grammar.
+    // What is read is spelled so, what is spelled so is read, and a fault is that of the first line that
+    // breaks the grammar.
     ensures { IsRightReading NoMemory (λ commands. commands.items) (Spells text.now) (BreaksFirst text.now)
         (script_of text.now) result }
 {

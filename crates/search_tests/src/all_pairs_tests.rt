@@ -35,15 +35,9 @@ fn boxes_and_first_moves_are_made_together(rt: HostRuntime) -> Result<(), Fail> 
     let (boxes, moves) = both_of::<Brand>(rt.alloc(), &grid, Blank::new(1))?;
     assert!(rt; boxes.width() == 2 && boxes.height() == 2);
     assert!(rt; moves.width() == 2 && moves.height() == 2);
+    let (e, s) = (area(1, 0, 1, 0), area(0, 1, 0, 1));
     let from_corner = CellBoxes {
-        n: None,
-        ne: None,
-        e: area(1, 0, 1, 0),
-        se: None,
-        s: area(0, 1, 0, 1),
-        sw: None,
-        w: None,
-        nw: None,
+        areas: [None, None, e, None, s, None, None, None],
     };
     assert!(rt; boxes.of_cell(Cell { x: 0, y: 0 }) == from_corner);
     assert!(rt; boxes.area(Cell { x: 1, y: 1 }, Dir::W) == None);

@@ -73,15 +73,9 @@ fn is_answer(
 // ways, so each of them lies in two boxes.
 #[test]
 fn boxes_of_a_corner_overlap(rt: HostRuntime) -> Result<(), Fail> {
+    let (e, se, s) = (area(1, 0, 2, 1), area(1, 1, 2, 2), area(0, 1, 1, 2));
     let boxes = CellBoxes {
-        n: None,
-        ne: None,
-        e: area(1, 0, 2, 1),
-        se: area(1, 1, 2, 2),
-        s: area(0, 1, 1, 2),
-        sw: None,
-        w: None,
-        nw: None,
+        areas: [None, None, e, se, s, None, None, None],
     };
     for corner in RULES {
         let grid = Grid::of_cells(rt.alloc(), 3, 3, b".........", corner)?;

@@ -11,7 +11,7 @@ returns c = λ grid u wide high tells.
     let w = c.args.waves.now in
     let box : (d : Dir) (found : Option Area) → IsAreaOf (Seen w d w.height 0) found → IsBox grid u d found =
     all_seen grid u w wide high tells in
-    each_dir (λ (d : Dir). λ (found : Option Area). IsBox grid u d found) _ (box _ _ c.box_toward.ensures)
+    each_dir (λ (d : Dir). λ (found : Option Area). IsBox grid u d found) (box _ _ c.box_toward.ensures)
     (box _ _ c.box_toward-2.ensures) (box _ _ c.box_toward-3.ensures) (box _ _ c.box_toward-4.ensures)
     (box _ _ c.box_toward-5.ensures) (box _ _ c.box_toward-6.ensures) (box _ _ c.box_toward-7.ensures)
     (box _ _ c.box_toward-8.ensures)

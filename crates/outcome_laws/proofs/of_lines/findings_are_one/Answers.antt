@@ -1,5 +1,5 @@
-use Rattle.outcome_laws.proofs.Printed.{one_findings}
+use Rattle.outcome_laws.proofs.Lines.{findings_same}
 use Rattle.outcome_laws.proofs.of_lines.findings_are_one.Goals as goal
 
 pub returns : goal.returns
-returns c = one_findings
+returns c = findings_same

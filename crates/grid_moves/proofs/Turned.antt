@@ -1,9 +1,8 @@
--- A walk turned round is a walk of the same cost, so what a least walk costs is the same both ways.
+-- A walk turned round is a walk of the same cost.
 use Rattle.std.proofs.Common.{◌≡◌, ℕ, arith, refl, ap, sym, ◌∙◌, subst, true, List, [], ◌∷◌}
-use Rattle.std.specs.Prelude.{Option, Some, None, nat_eq}
+use Rattle.std.specs.Prelude.{nat_eq}
 use Rattle.std.proofs.lemmas.Bool.Decides.{nat_tests}
 use Rattle.root2_cost.specs.declared.Cost.{Cost}
-use Rattle.root2_cost.specs.Order.{IsAtMost}
 use Rattle.root2_cost.specs.Sums.{add_costs}
 use Rattle.root2_cost.proofs.Sums.{add_costs-assoc, add_costs-comm, add_costs-no_cost_left}
 use Rattle.root2_cost.proofs.Sums.{add_costs-no_cost_right}
@@ -11,10 +10,10 @@ use Rattle.grid_moves.specs.declared.Cell.{Cell}
 use Rattle.grid_moves.specs.Grid.{GridData}
 use Rattle.grid_moves.specs.Move.{is_legal, move_cost}
 use Rattle.grid_moves.specs.Walk.{IsWalk, is_walk, cost_of, last_of}
+use Rattle.grid_moves.specs.Laws.{HasBack}
 use Rattle.grid_moves.proofs.Besides.{passable-turned}
 use Rattle.grid_moves.proofs.Legal.{and_both, legal_is, is_legal-from}
 use Rattle.grid_moves.proofs.Short.{walk_free}
-use Rattle.cost_waves.specs.Begin.{IsLeastCost, IsCostTo}
 
 pub legal_back : (g : GridData) (u v : Cell) → is_legal g u v ≡ true → is_legal g v u ≡ true
 legal_back g u v h1 = grind (arith, nat_tests, legal_is, is_legal-from, passable-turned)
@@ -53,12 +52,6 @@ turned g s (v ∷ cells) done w d =
           ∙ ap (λ (c : Cost). add_costs c on) (cost_back s v));
     }
 
--- the walk back from t to s
-pub record HasBack (g : GridData) (s : Cell) (cells : List Cell) (t : Cell) : Type 0 where
-  pub back : List Cell
-  pub walk : IsWalk g t s back
-  pub priced : cost_of (t ∷ back) ≡ cost_of (s ∷ cells)
-
 pub walk_back : (g : GridData) (s t : Cell) (cells : List Cell) → IsWalk g s t cells → HasBack g s cells t
 walk_back g s t cells w =
     let r = turned g s cells [] w.legal (walk_free g s cells w.legal) in
@@ -67,23 +60,3 @@ walk_back g s t cells w =
       walk = record { legal = r.legal; ends = r.ends };
       priced = r.priced ∙ add_costs-no_cost_right (cost_of (s ∷ cells));
     })
-
-least_back : (g : GridData) (s t : Cell) (cost : Cost) → IsLeastCost g s t cost → IsLeastCost g t s cost
-least_back g s t cost l =
-    let b = walk_back g s t l.cells l.least.walk in
-    record {
-      cells = b.back;
-      least = record {
-        walk = b.walk;
-        least = λ others o.
-            let a = walk_back g t s others o in
-            subst (λ (p : Cost). IsAtMost p (cost_of (t ∷ others))) (sym b.priced)
-            (subst (λ (p : Cost). IsAtMost (cost_of (s ∷ l.cells)) p) a.priced (l.least.least a.back a.walk));
-      };
-      priced = b.priced ∙ l.priced;
-    }
-
--- what is told of the way there is right of the way back
-pub cost_to_back : (g : GridData) (s t : Cell) (o : Option Cost) → IsCostTo g s t o → IsCostTo g t s o
-cost_to_back g s t None none = λ cells w. let a = walk_back g t s cells w in none a.back a.walk
-cost_to_back g s t (Some cost) l = least_back g s t cost l
