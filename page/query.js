@@ -44,6 +44,7 @@ export function ask(keep = true) {
 
 export const isAsking = () => asker.isBusy;
 
+const counted = (count, what) => `${count.toLocaleString("en")} ${what}${count === 1 ? "" : "s"}`;
 const groundOf = (cell) => (isInside(cell) ? groundAt(cell) : undefined);
 
 /** The outcome in words, for the large line and the small one. */
@@ -53,7 +54,7 @@ export function verdictOf(answer) {
     return [answerWords(answer.kind, groundOf({ x: sx, y: sy }), groundOf({ x: gx, y: gy })), ""];
   }
   const { straight, diagonal, points } = answer;
-  return [`${straight} + ${diagonal}·√2`, `${decimal(straight, diagonal)} · ${points.length} points`];
+  return [`${straight} + ${diagonal}·√2`, `${decimal(straight, diagonal)} · ${counted(points.length, "point")}`];
 }
 
 /** Of how long it took: the program's answer through the pipes, not a measure. */
@@ -66,7 +67,7 @@ function showAnswer() {
   if (answer) {
     const name = answer.kind === "walk" ? "walk" : answer.kind;
     byId("verdict").append(element("b", { className: `kind ${answer.kind}` }, name), ` ${verdict.replace(/^\w+: /, "")}`);
-    const taken = answer.states ? ` · ${answer.words.engine} ${answer.states.count.toLocaleString("en")} states` : "";
+    const taken = answer.states ? ` · ${answer.words.engine} ${counted(answer.states.count, "state")}` : "";
     byId("detail").textContent = [detail + taken, tookWords(answer.seconds)].filter(Boolean).join(" · ").replace(/^ · /, "");
   } else {
     byId("verdict").textContent = hasEnds() ? "" : "Click the map: first the start, then the goal.";
