@@ -152,8 +152,8 @@ function showSaid(edits, answers) {
   const counts = {};
   for (const it of answers) counts[it] = (counts[it] || 0) + 1;
   const told = Object.entries(counts).map(([word, count]) => `${count.toLocaleString("en")} ${word}`).join(", ");
-  byId("edit-said").replaceChildren(element("code", {}, last.slice(0, 3).join(" ")), edits.length > 1 ? " and those before it: " : ": ",
-    element("b", {}, told));
+  byId("edit-said").replaceChildren("The program answered ", element("b", {}, told), edits.length > 1 ? ", the last to " : " to ",
+    element("code", {}, last.slice(0, 3).join(" ")), ".");
   showButtons();
 }
 

@@ -44,6 +44,7 @@ export function ask(keep = true) {
 
 export const isAsking = () => asker.isBusy;
 
+const counted = (count, what) => `${count.toLocaleString("en")} ${what}${count === 1 ? "" : "s"}`;
 const groundOf = (cell) => (isInside(cell) ? groundAt(cell) : undefined);
 
 /** The outcome in words, for the large line and the small one. */
@@ -53,7 +54,7 @@ export function verdictOf(answer) {
     return [answerWords(answer.kind, groundOf({ x: sx, y: sy }), groundOf({ x: gx, y: gy })), ""];
   }
   const { straight, diagonal, points } = answer;
-  return [`${straight} + ${diagonal}·√2`, `${decimal(straight, diagonal)} · ${points.length} points`];
+  return [`${straight} + ${diagonal}·√2`, `${decimal(straight, diagonal)} · ${counted(points.length, "point")}`];
 }
 
 /** Of how long it took: the program's answer through the pipes, not a measure. */
@@ -66,7 +67,7 @@ function showAnswer() {
   if (answer) {
     const name = answer.kind === "walk" ? "walk" : answer.kind;
     byId("verdict").append(element("b", { className: `kind ${answer.kind}` }, name), ` ${verdict.replace(/^\w+: /, "")}`);
-    const taken = answer.states ? ` · ${answer.states.count.toLocaleString("en")} states by ${answer.words.engine}` : "";
+    const taken = answer.states ? ` · ${answer.words.engine} ${counted(answer.states.count, "state")}` : "";
     byId("detail").textContent = [detail + taken, tookWords(answer.seconds)].filter(Boolean).join(" · ").replace(/^ · /, "");
   } else {
     byId("verdict").textContent = hasEnds() ? "" : "Click the map: first the start, then the goal.";
@@ -97,19 +98,20 @@ function showEnds() {
     if (document.activeElement !== field) field.value = state[name] ? `${state[name].x},${state[name].y}` : "";
   }
   if (!hasEnds()) return;
-  const told = [...endWords(), state.engine, state.rule].join(",");
+  const told = [...endWords(), state.engine, state.rule, ...(state.cellStates ? ["cell"] : [])].join(",");
   history.replaceState(null, "", `#${told}`);
 }
 
 /** Takes over what stands in the address behind `#`, so that a page that is loaded again shows the same query. */
 export function readAddress() {
-  const [sx, sy, gx, gy, engine, rule] = location.hash.slice(1).split(",");
+  const [sx, sy, gx, gy, engine, rule, states] = location.hash.slice(1).split(",");
   const numbers = [sx, sy, gx, gy].map(Number);
   if (!gy || !numbers.every((it) => Number.isInteger(it) && it >= 0)) return false;
   state.start = { x: numbers[0], y: numbers[1] };
   state.goal = { x: numbers[2], y: numbers[3] };
   if (ENGINE_NAMES.includes(engine)) state.engine = engine;
   if (RULE_NAMES.includes(rule)) state.rule = rule;
+  state.cellStates = state.hasStates && states === "cell";
   return true;
 }
 
@@ -139,6 +141,7 @@ function showChoices() {
   document.querySelectorAll("input[name=engine]").forEach((it) => (it.checked = it.value === state.engine));
   document.querySelectorAll("input[name=rule]").forEach((it) => (it.checked = it.value === state.rule));
   byId("engine-words").textContent = ENGINES[state.engine];
+  byId("states").checked = state.cellStates;
   byId("rule-words").textContent = RULES[state.rule];
 }
 

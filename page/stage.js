@@ -206,6 +206,7 @@ export function beginStage() {
   byId("zoom-fit").onclick = fit;
   on("map", () => {
     cursor.isShown = false;
+    byId("where").textContent = "";
     state.bitmap = mapBitmap(state.map, state.theme);
     fit();
   });
