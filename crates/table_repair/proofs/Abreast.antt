@@ -252,3 +252,19 @@ abreast_enter {row = row} {walks = walks} {more = more} h i j k l = record {
       false_or (is_at_one walks w) (row w || later w) q.0 (false_or (row w) (later w) q.1 p.1))
       (h.follows later f);
 }
+
+-- of what is left none waits any more
+pub left_less : {h : GridData} {d : Dir} {starts left rest : Cell → Bool} {old now : TablesData}
+    {walks : List Walk} {n : ℕ} → KeepAbreast h d starts old now walks left n
+    → ((w : Cell) → rest w ≡ false → left w ≡ false) → KeepAbreast h d starts old now walks rest n
+left_less {left = left} {rest = rest} {walks = walks} abreast less = record {
+  ready = abreast.ready;
+  inside = abreast.inside;
+  mended = abreast.mended;
+  mends = abreast.mends;
+  follows = λ later f. follow_more (λ w k.
+      let p = or_false (is_at_one walks w) (rest w || later w) k in
+      let q = or_false (rest w) (later w) p.1 in
+      false_or (is_at_one walks w) (left w || later w) p.0 (false_or (left w) (later w) (less w q.0) q.1))
+      (abreast.follows later f);
+}

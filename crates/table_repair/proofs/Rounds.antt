@@ -11,14 +11,15 @@ use Rattle.grid_moves.specs.declared.Dir.{Dir}
 use Rattle.grid_moves.specs.Grid.{GridData, IsGrid, is_inside}
 use Rattle.grid_moves.specs.Move.{ahead, is_same}
 use Rattle.grid_moves.proofs.Places.{inside_is}
-use Rattle.pruning.specs.Turns.{is_diagonal}
 use Rattle.plus_tables.specs.Tables.{TablesData}
 use Rattle.table_repair.specs.declared.walks.Walk.{Walk}
 use Rattle.table_repair.specs.Abreast.{is_at_one, no_cell, IsBehindOne, IsOnward, KeepAbreast, back_room}
 use Rattle.table_repair.specs.Abreast.{room_of}
-use Rattle.table_repair.specs.Mending.{IsRight, AreReady, Mends, FollowBut, either, goes_down}
+use Rattle.table_repair.specs.Mending.{IsRight, AreReady, Mends, FollowBut, either}
+use Rattle.table_repair.specs.Lines.{line_of, lines_of, lines_rise}
 use Rattle.table_repair.proofs.Abreast.{abreast_next, abreast_then, at_both, at_first}
 use Rattle.table_repair.proofs.Abreast.{at_next, at_others, or_either}
+use Rattle.table_repair.proofs.Across.{line_inside, lines_few}
 use Rattle.table_repair.proofs.Moving.{ahead_moved}
 
 pub room_both : (h : GridData) (d : Dir) (xs ys : List Walk)
@@ -27,16 +28,21 @@ unfolding room_of
 room_both h d [] ys = omega arith
 room_both h d (x ∷ xs) ys = let e = room_both h d xs ys in omega arith
 
-room_behind : (h : GridData) (d : Dir) (u v : Cell) → is_diagonal d ≡ true → is_inside h u ≡ true
+room_behind : (h : GridData) (d : Dir) (u v : Cell) → is_inside h u ≡ true
     → ahead d u ≡ Some v → back_room h d v ≡ back_room h d u + 1
-room_behind h d u v k i e = grind (arith, inside_is, ahead_moved)
+room_behind h d u v i e = grind (arith, inside_is, ahead_moved)
 
 -- a walk that goes on or ends has less room behind it
 room_next : (h : GridData) (d : Dir) (v : Walk) (rest : List Walk) (t : TablesData) (on : Option Walk)
-    → is_diagonal d ≡ true → ((next : Walk) → on ≡ Some next → IsOnward h t d v.at next.at)
+    → ((next : Walk) → on ≡ Some next → IsOnward h t d v.at next.at)
     → length (option_to_list on) + room_of h d (rest ++ option_to_list on) ≤ room_of h d (v ∷ rest)
 unfolding room_of
-room_next h d v rest t on i j = grind (arith, nat_tests, room_both, room_behind)
+room_next h d v rest t None j = let e = room_both h d rest [] in omega arith
+room_next h d v rest t (Some next) j =
+    let k = j next refl in
+    let e = room_both h d rest (next ∷ []) in
+    let f = room_behind h d next.at v.at k.inside k.behind in
+    omega arith
 
 pub room_few : (h : GridData) (d : Dir) (walks : List Walk) → IsGrid h
     → ((w : Cell) → is_at_one walks w ≡ true → is_inside h w ≡ true)
@@ -45,14 +51,12 @@ unfolding room_of
 room_few h d [] grid inside = omega arith
 room_few h d (v ∷ vs) grid inside =
     let more = room_few h d vs grid (λ w k. inside w (at_others v vs w k)) in
-    let p = inside_is h v.at (inside v.at (at_first v vs)) in
-    let low = grid.sides.low in
-    let one = row_few (goes_down d) v.at p.1 low in
+    let one = line_few (lines_rise d) (line_inside h d v.at (inside v.at (at_first v vs))) (lines_few h d grid) in
     omega arith
   where
-    row_few : (down : Bool) (w : Cell) → w.y < h.height → h.height ≤ 4096
-        → suc (if down then w.y else h.height - suc w.y) ≤ 4096
-    row_few down w h i = grind (arith, nat_tests)
+    line_few : (rise : Bool) {line lines : ℕ} → line < lines → lines ≤ 4096
+        → suc (if rise then line else lines - suc line) ≤ 4096
+    line_few rise h i = grind (arith, nat_tests)
 
 -- each walk has some room
 pub room_some : (h : GridData) (d : Dir) (walks : List Walk) → length walks ≤ room_of h d walks
@@ -73,6 +77,13 @@ pub queued_none : {h : GridData} {d : Dir} {t : TablesData} {steps : ℕ} {walks
     → ((w : Cell) → is_at_one walks w ≡ true → IsRight h t w d)
     → Queued h d (is_at_one walks) t t steps steps (length walks) (room_of h d walks) walks 0
 queued_none h i j = grind (arith, nat_tests)
+
+-- before the first move of walks
+pub standing : {h : GridData} {d : Dir} {t : TablesData} {walks : List Walk} → AreReady h t d
+    → ((w : Cell) → is_at_one walks w ≡ true → is_inside h w ≡ true)
+    → ((w : Cell) → is_at_one walks w ≡ true → IsRight h t w d)
+    → KeepAbreast h d (is_at_one walks) t t walks no_cell 0
+standing h i j = (queued_none {steps = 0} h i j).abreast
 
 -- in a round: those walks that are left of it, and those that went on
 pub record Round (h : GridData) (d : Dir) (old now : TablesData) (first steps : ℕ) (here onward : List Walk)
@@ -111,14 +122,14 @@ module _ {h : GridData} {d : Dir} {old now : TablesData} {first steps : ℕ} {he
       (its_walk ∷ others) (length onward)
   queue = rw (← queue_is) round.queued
 
-  pub round_next : {new : TablesData} {counted : ℕ} {on : Option Walk} → is_diagonal d ≡ true
+  pub round_next : {new : TablesData} {counted : ℕ} {on : Option Walk}
       → Mends h d (λ w. is_same w (get_or here i v).at) now new (length (option_to_list on))
       → ((later : Cell → Bool) → FollowBut h now d (λ w. is_same w (get_or here i v).at || later w)
       → FollowBut h new d (either (is_at_one (option_to_list on)) later))
       → ((next : Walk) → on ≡ Some next → IsOnward h new d (get_or here i v).at next.at)
       → counted ≤ steps + 1 → steps ≤ counted → {more : List Walk} → more ≡ onward ++ option_to_list on
       → Round h d old new first counted here more (i + 1)
-  round_next {new = new} {on = on} k mends follows onward_is c later {more = more} e = record {
+  round_next {new = new} {on = on} mends follows onward_is c later {more = more} e = record {
     queued = rw (queue_on, longer) (record {
       abreast = abreast_next queue.abreast mends follows onward_is;
       few = let few = queue.few in let a = room in omega arith;
@@ -140,7 +151,7 @@ module _ {h : GridData} {d : Dir} {old now : TablesData} {first steps : ℕ} {he
 
       room : length (option_to_list on) + room_of h d (others ++ option_to_list on)
           ≤ room_of h d (its_walk ∷ others)
-      room = room_next h d its_walk others new on k onward_is
+      room = room_next h d its_walk others new on onward_is
 
       queue_on : drop (i + 1) here ++ more ≡ others ++ option_to_list on
       queue_on = rw e (sym (append_assoc (drop (i + 1) here) onward (option_to_list on)))

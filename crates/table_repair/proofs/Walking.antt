@@ -1,6 +1,7 @@
 -- One walk back from a cell, as long as entries change.
 use Rattle.std.proofs.Common.{◌≡◌, ◌≢◌, ℕ, suc, ◌+◌, ◌<◌, ◌⊎◌, inl, inr, arith, Bool, true, false, sym, refl}
-use Rattle.std.proofs.Common.{◌∙◌, ◌||◌, length, length-set, get_or, ap}
+use Rattle.std.proofs.lemmas.Bool.Decides.{nat_tests}
+use Rattle.std.proofs.Common.{◌∙◌, ◌&&◌, ◌||◌, length, length-set, get_or, ap}
 use Rattle.std.specs.Prelude.{Some, None, ℤ, pos}
 use Rattle.std.proofs.lemmas.Bool.{cases_Bool}
 use Rattle.grid_moves.specs.declared.Cell.{Cell}
@@ -65,6 +66,15 @@ or_right false b h = h
 pub false_or : (a b : Bool) → a ≡ false → b ≡ false → (a || b) ≡ false
 false_or true b h k = h
 false_or false b h k = k
+
+pub and_true : (a b : Bool) → a ≡ true → b ≡ true → (a && b) ≡ true
+and_true a b h k = grind arith
+
+pub not_true : (b : Bool) → (b ≡ true → ⊥) → b ≡ false
+not_true b h = grind (arith, nat_tests)
+
+pub true_false : (b : Bool) → b ≡ true → b ≡ false → ⊥
+true_false b h k = cc
 
 -- the condition of a refresh
 pub rests_right : (h : GridData) (t : TablesData) (d : Dir) (u v : Cell) → ahead d u ≡ Some v

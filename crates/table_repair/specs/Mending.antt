@@ -92,10 +92,6 @@ without_far from_end s =
     if nat_lt s.first s.end then (if from_end then record { first = s.first; end = s.end - 1 }
     else record { first = s.first + 1; end = s.end }) else s
 
--- the cell lies in this row and one of these columns
-abbrev pub is_in_row : ℕ → Span → Cell → Bool
-is_in_row y columns v = nat_eq v.y y && is_among columns v.x
-
 -- the cell lies in one of these rows and columns
 abbrev pub is_in : Span → Span → Cell → Bool
 is_in rows columns v = is_among rows v.y && is_among columns v.x
