@@ -6,7 +6,6 @@ pub mod Mends
 pub mod Walking
 pub mod Sweeping
 pub mod Across
-pub mod Onward
 pub mod Abreast
 pub mod Rounds
 pub mod InPlace
