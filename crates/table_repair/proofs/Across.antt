@@ -1,6 +1,6 @@
 -- Lines across a direction.
 use Rattle.std.proofs.lemmas.Bool.Decides.{nat_tests}
-use Rattle.std.proofs.Common.{◌≡◌, ℕ, suc, ◌+◌, ◌<◌, ◌≤◌, arith, Bool, true, false, refl, sym, ◌∙◌, ◌&&◌}
+use Rattle.std.proofs.Common.{◌≡◌, ℕ, ◌+◌, ◌<◌, ◌≤◌, arith, Bool, true, false, refl, sym, ◌∙◌, ◌&&◌}
 use Rattle.std.specs.Prelude.{Some, nat_eq, if◌then◌else◌}
 use Rattle.grid_moves.specs.declared.Cell.{Cell}
 use Rattle.grid_moves.specs.declared.Dir.{Dir}
@@ -8,12 +8,11 @@ use Rattle.grid_moves.specs.Grid.{GridData, IsGrid, is_inside}
 use Rattle.grid_moves.specs.Move.{column_ahead, is_same, opposite, row_ahead}
 use Rattle.grid_moves.proofs.Legal.{and_both, is_same-itself, same_cell}
 use Rattle.grid_moves.proofs.Places.{inside_is, inside_from}
-use Rattle.pruning.proofs.Running.{AreMoved}
 use Rattle.plus_tables.specs.Tables.{TablesData}
 use Rattle.table_repair.specs.declared.span.Span.{Span}
-use Rattle.table_repair.specs.Lines.{is_sideways, line_of, place_of, cell_on, lines_of, places_of, lines_rise}
+use Rattle.table_repair.specs.Lines.{is_sideways, line_of, place_of, cell_on, lines_of, places_of}
 use Rattle.table_repair.specs.Lines.{is_on_line, is_across}
-use Rattle.table_repair.specs.Mending.{Mends, CanSweep, FollowBut, Sweeps, either, is_among, is_in}
+use Rattle.table_repair.specs.Mending.{Mends, CanSweep, Sweeps, is_among, is_in}
 use Rattle.table_repair.proofs.Mends.{mends_wider, follow_more}
 use Rattle.table_repair.proofs.Sweeping.{IsTaken, among_parts, among_from, same_number, number_same}
 use Rattle.table_repair.proofs.Walking.{and_true, not_true, true_false}

@@ -1,32 +1,28 @@
 -- A block is swept line by line: in each line walks begin beside those that have come to it.
 use Rattle.std.proofs.lemmas.Bool.Decides.{nat_tests}
-use Rattle.std.proofs.Common.{◌≡◌, ℕ, suc, ◌+◌, ◌<◌, ◌≤◌, ◌⊎◌, inl, inr, arith, Bool, true, false, refl, sym, ◌∙◌}
-use Rattle.std.proofs.Common.{◌||◌, List, [], ◌∷◌, ◌++◌, length}
-use Rattle.std.specs.Prelude.{Option, Some, None, ◌&&◌}
-use Rattle.std.specs.Option.{option_to_list}
+use Rattle.std.proofs.Common.{◌≡◌, ℕ, suc, ◌+◌, ◌<◌, ◌≤◌, inl, inr, arith, Bool, true, false}
+use Rattle.std.proofs.Common.{◌||◌, List, []}
+use Rattle.std.specs.Prelude.{Some, ◌&&◌}
 use Rattle.grid_moves.specs.declared.Cell.{Cell}
 use Rattle.grid_moves.specs.declared.Dir.{Dir}
 use Rattle.grid_moves.specs.Grid.{GridData, is_inside}
 use Rattle.grid_moves.specs.Move.{ahead, is_same}
-use Rattle.grid_moves.proofs.Legal.{and_both, is_same-cell, is_same-itself}
+use Rattle.grid_moves.proofs.Legal.{and_both, is_same-cell}
 use Rattle.pruning.proofs.Running.{AreMoved}
 use Rattle.plus_tables.specs.Tables.{TablesData}
 use Rattle.table_repair.specs.declared.span.Span.{Span}
 use Rattle.table_repair.specs.declared.walks.Walk.{Walk}
-use Rattle.table_repair.specs.Abreast.{is_at_one, no_cell, IsBehindOne, IsOnward, KeepAbreast}
+use Rattle.table_repair.specs.Abreast.{is_at_one, no_cell, IsBehindOne, KeepAbreast}
 use Rattle.table_repair.specs.Lines.{line_of, place_of, cell_on, lines_rise, is_on_line, is_across}
-use Rattle.table_repair.specs.Mending.{IsRight, AreReady, FollowBut, IsMended, CanSweep, Mends, either, is_among}
+use Rattle.table_repair.specs.Mending.{IsRight, CanSweep, either, is_among}
 use Rattle.table_repair.specs.Mending.{cell_after}
-use Rattle.table_repair.proofs.Abreast.{abreast_beside, abreast_enter, abreast_next, abreast_then, or_either}
-use Rattle.table_repair.proofs.Abreast.{at_both, at_next}
+use Rattle.table_repair.proofs.Abreast.{enter_next, or_either}
 use Rattle.table_repair.proofs.Across.{on_parts, line_of_block, line_or_rest, from_place, cell_there}
 use Rattle.table_repair.proofs.Across.{place_or_rest}
 use Rattle.table_repair.proofs.Lines.{after_moved, right_ahead}
-use Rattle.table_repair.proofs.Mends.{right_stays}
 use Rattle.table_repair.proofs.Moving.{ahead_moved}
-use Rattle.table_repair.proofs.Rounds.{some_on, none_on, standing}
 use Rattle.table_repair.proofs.Sweeping.{IsTaken}
-use Rattle.table_repair.proofs.Walking.{or_false, false_or, or_left, or_right, not_true}
+use Rattle.table_repair.proofs.Walking.{false_or, or_left, or_right, not_true}
 
 -- the line is one of those that are left, or lies behind them
 abbrev pub IsPast : Bool → Span → ℕ → Type 0
@@ -35,11 +31,6 @@ IsPast false left y = left.first ≤ y
 
 among_past : (rise : Bool) (left : Span) (y : ℕ) → is_among left y ≡ true → IsPast rise left y
 among_past rise left y h = grind (arith, nat_tests)
-
--- nothing has begun
-pub enter_none : {h : GridData} {d : Dir} {all : Cell → Bool} {t : TablesData} {walks : List Walk}
-    → AreReady h t d → walks ≡ [] → KeepAbreast h d all t t walks all 0
-enter_none h i = grind (arith, nat_tests)
 
 pub past_none : (rise : Bool) (left : Span) (d : Dir) (walks : List Walk) → walks ≡ [] → (w : Cell)
     → is_at_one walks w ≡ true → IsPast rise left (line_of d w)
@@ -53,36 +44,6 @@ pub beside_behind : {d : Dir} {there : Cell → Bool} {u : Cell} (row : Cell →
     → IsBehindOne d (either there row) u
 beside_behind {there = there} row b =
     record { from = b.from; stood = or_left (there b.from) (row b.from) b.stood; behind = b.behind }
-
--- walks begin at some of the cells that were left, whose entries are right
-pub enter_next : {h : GridData} {d : Dir} {all row left rest : Cell → Bool} {old now new : TablesData}
-    {walks onward : List Walk} {n m : ℕ} → KeepAbreast h d all old now walks left n
-    → ((w : Cell) → row w ≡ true → IsRight h now w d) → ((w : Cell) → row w ≡ true → all w ≡ true)
-    → ((w : Cell) → row w ≡ false → rest w ≡ false → left w ≡ false)
-    → KeepAbreast h d (either (is_at_one walks) row) now new onward no_cell m
-    → KeepAbreast h d all old new onward rest (n + m)
-enter_next {h = h} {d = d} {all = all} {row = row} {left = left} {rest = rest} {now = now} {walks = walks} {n = n}
-    abreast right within split second =
-    abreast_then abreast reached apart second
-  where
-    reached : (w : Cell) → (is_at_one walks w || row w) ≡ true → IsMended h now d all n w
-    reached w k = elim (or_either (is_at_one walks w) (row w) k) [
-      | inl i ↦ abreast.mended w i
-      | inr i ↦ record {
-        right = right w i;
-        moves = 0;
-        few = omega arith;
-        start = w;
-        starts_there = within w i;
-        reaches = refl;
-      }
-    ]
-
-    apart : (w : Cell) → (is_at_one walks w || row w) ≡ false → rest w ≡ false
-        → (is_at_one walks w || left w) ≡ false
-    apart w k r =
-        let p = or_false (is_at_one walks w) (row w) k in
-        false_or (is_at_one walks w) (left w) p.0 (split w p.1 r)
 
 -- place by place
 pub enter_place : {h : GridData} {d : Dir} (starts : Cell → Bool) (line place : ℕ) (places : Span) {v : Cell}
@@ -153,14 +114,7 @@ module _ {h : GridData} {d : Dir} (lines places : Span) {left rest : Span} {line
       (λ w i. line_of_block d lines places line (within line taken.member) w i)
       (λ w s r. line_or_rest taken d places w s r) second
 
--- no line is left, and the walks are led out
-pub enter_ends : {h : GridData} {d : Dir} {all left : Cell → Bool} {old now new : TablesData}
-    {walks onward : List Walk} {n m : ℕ} → KeepAbreast h d all old now walks left n
-    → ((w : Cell) → left w ≡ false) → KeepAbreast h d (is_at_one walks) now new onward no_cell m
-    → KeepAbreast h d all old new onward no_cell (n + m)
-enter_ends {left = left} {walks = walks} first none second =
-    abreast_then first first.mended (λ w k l. false_or (is_at_one walks w) (left w) k (none w)) second
-
+-- no line is left
 pub none_left : (d : Dir) (left places : Span) → ((k : ℕ) → is_among left k ≡ false) → (w : Cell)
     → is_across d left places w ≡ false
 none_left d left places none w = told (is_among left (line_of d w)) (is_among places (place_of d w))
@@ -168,44 +122,3 @@ none_left d left places none w = told (is_among left (line_of d w)) (is_among pl
   where
     told : (a b : Bool) → a ≡ false → (a && b) ≡ false
     told a b e = grind arith
-
--- One walk more: it goes one move on or ends.
-abbrev walk_from : Cell → Walk
-walk_from v = record { at = v }
-
-module _ {h : GridData} {d : Dir} (v : Cell) {old new : TablesData} (walks : List Walk) {on : Option Walk}
-    (ready : AreReady h old d) (all_inside : (w : Cell) → is_at_one walks w ≡ true → is_inside h w ≡ true)
-    (all_right : (w : Cell) → is_at_one walks w ≡ true → IsRight h old w d)
-    (inside : is_inside h v ≡ true) (right : IsRight h old v d)
-    (mends : Mends h d (λ w. is_same w v) old new (length (option_to_list on)))
-    (follows : (later : Cell → Bool) → FollowBut h old d (λ w. is_same w v || later w)
-    → FollowBut h new d (either (is_at_one (option_to_list on)) later))
-    (onward : (next : Walk) → on ≡ Some next → IsOnward h new d v next.at) where
-  begun : KeepAbreast h d (either (is_at_one walks) (λ w. is_same w v)) old old (walk_from v ∷ walks) no_cell 0
-  begun = abreast_enter (abreast_beside (λ w. is_same w v) (standing ready all_inside all_right))
-      (λ w. swapped (is_same w v) (is_at_one walks w))
-      (λ w k. rw (is_same-cell w v k) inside) (λ w k. rw (is_same-cell w v k) right)
-      (λ w k. or_right (is_at_one walks w) (is_same w v) k)
-    where
-      swapped : (a b : Bool) → (a || b) ≡ (b || a)
-      swapped a b = grind arith
-
-  led_on : {more : List Walk} {m : ℕ} → more ≡ walks ++ option_to_list on → 0 + length (option_to_list on) ≡ m
-      → KeepAbreast h d (either (is_at_one walks) (λ w. is_same w v)) old new more no_cell m
-  led_on e f = rw (e, ← f) (abreast_next begun mends follows onward)
-
-  pub begin_ends : on ≡ None
-      → KeepAbreast h d (either (is_at_one walks) (λ w. is_same w v)) old new walks no_cell 0
-  begin_ends e = led_on (none_on {xs = walks} e refl) (rw e refl)
-
-  module _ {next : Walk} {more : List Walk} (e : on ≡ Some next) (f : more ≡ walks ++ next ∷ []) where
-    pub begin_goes_on : KeepAbreast h d (either (is_at_one walks) (λ w. is_same w v)) old new more no_cell 1
-    begin_goes_on = led_on (some_on walks e f) (rw e refl)
-
-    pub begin_behind : (w : Cell) → is_at_one more w ≡ true → (is_at_one walks w ≡ true) ⊎ (ahead d w ≡ Some v)
-    begin_behind w k =
-        elim (or_either (is_at_one walks w) (is_at_one (next ∷ []) w)
-        (sym (at_both walks (next ∷ []) w) ∙ rw (← f) k)) [
-          | inl i ↦ inl i
-          | inr i ↦ inr (rw (at_next next w i) (onward next e).behind)
-        ]

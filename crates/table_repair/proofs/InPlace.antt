@@ -12,8 +12,9 @@ use Rattle.plus_tables.specs.Tables.{TablesData}
 use Rattle.table_repair.specs.declared.walks.Walk.{Walk}
 use Rattle.table_repair.specs.Abreast.{is_at_one, IsOnward, LedOn, room_of}
 use Rattle.table_repair.specs.Mending.{IsRight, AreReady, Mends, FollowBut, either}
-use Rattle.table_repair.proofs.Rounds.{Queued, Round, round_begins, round_next}
-use Rattle.table_repair.proofs.Rounds.{some_on, none_on, standing}
+use Rattle.table_repair.proofs.Rounds.{Round, round_begins, round_next, some_on, none_on, stood}
+use Rattle.table_repair.proofs.Rounds.{right_now}
+use Rattle.table_repair.proofs.Abreast.{left_less, standing}
 
 -- the first ones of the list are the walks that went on, and behind the first i it is as it was
 pub record InPlace (h : GridData) (d : Dir) (old now : TablesData) (first steps : ℕ) (here list : List Walk)
@@ -29,7 +30,7 @@ pub place_begins : {h : GridData} {d : Dir} {t : TablesData} {steps : ℕ} {walk
     → ((w : Cell) → is_at_one walks w ≡ true → IsRight h t w d)
     → InPlace h d t t steps steps walks walks 0 0
 place_begins ready i r = record {
-  round = round_begins ready i r refl refl;
+  round = round_begins ready i r;
   rest = refl;
   few = omega arith;
   size = refl;
@@ -51,6 +52,13 @@ module _ {h : GridData} {d : Dir} {old now : TablesData} {first steps : ℕ} {he
 
   parts : (get_or shown i v ≡ get_or here i v) × (drop (i + 1) list ≡ drop (i + 1) here)
   parts = rw same (same_front i list here v within l place.rest)
+
+  -- the walk that is led on
+  pub its_inside : is_inside h (get_or shown i v).at ≡ true
+  its_inside = rw parts.0 (place.round.inside (get_or here i v).at (stood v place.round l))
+
+  pub its_right : IsRight h now (get_or shown i v).at d
+  its_right = rw parts.0 (right_now v place.round l)
 
   module _ {new : TablesData} {counted : ℕ} {on : Option Walk}
       (mends : Mends h d (λ w. is_same w (get_or shown i v).at) now new (length (option_to_list on)))
@@ -93,18 +101,14 @@ module _ {h : GridData} {d : Dir} {old now : TablesData} {first steps : ℕ} {he
   round_done : Round h d old now first steps here walks i
   round_done = rw e place.round
 
-  led : Queued h d (is_at_one here) old now first steps (length here) (room_of h d here) walks
-      (length walks)
-  led = rw (drop_all i here past) at round_done.queued
-
   pub led_on : LedOn h d old now here walks first steps
   led_on = record {
-    abreast = led.abreast;
+    abreast = left_less round_done.abreast (λ w k. rw (drop_all i here past) refl);
     behind = round_done.behind;
-    room = led.few;
+    room = let a = round_done.room in omega arith;
     fewer = let a = round_done.fewer in let b = round_done.within in omega arith;
-    steps = let counted = led.counted in omega arith;
-    later = led.later;
+    steps = let a = round_done.counted in let b = round_done.within in omega arith;
+    later = round_done.later;
   }
 
 -- where no walk stands

@@ -1,6 +1,6 @@
 -- How the entries for one direction are made right, from the far end of each line.
 use Rattle.std.specs.Prelude.{◌≡◌, ℕ, zero, suc, ◌+◌, ◌≤◌, ◌⊎◌, Bool, true, false, ◌&&◌, ◌||◌, ◌-◌, Option}
-use Rattle.std.specs.Prelude.{Some, option_and_then, if◌then◌else◌, nat_le, nat_lt, nat_eq, length, None, not}
+use Rattle.std.specs.Prelude.{Some, option_and_then, if◌then◌else◌, nat_le, nat_lt, length, None, not}
 use Rattle.std.specs.Prelude.{min, List, [], ◌∷◌}
 use Rattle.grid_moves.specs.declared.Cell.{Cell}
 use Rattle.grid_moves.specs.declared.Dir.{Dir}

@@ -1,8 +1,7 @@
 -- Each place adds a walk.
-use Rattle.std.proofs.Common.{◌≡◌, ◌≤◌, true, inl, inr, arith}
+use Rattle.std.proofs.Common.{true, inl, inr, arith}
 use Rattle.table_repair.specs.Lines.{is_on_line}
 use Rattle.table_repair.specs.Abreast.{is_at_one}
-use Rattle.table_repair.specs.Mending.{IsRight}
 use Rattle.table_repair.proofs.Abreast.{abreast_beside, left_less}
 use Rattle.table_repair.proofs.Across.{on_map, cell_there, none_after, places_few}
 use Rattle.table_repair.proofs.Entering.{enter_place, beside_behind}

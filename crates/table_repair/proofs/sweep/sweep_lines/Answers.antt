@@ -2,9 +2,9 @@
 use Rattle.std.proofs.Common.{arith, sym, ◌∙◌}
 use Rattle.table_repair.specs.Lines.{lines_rise}
 use Rattle.table_repair.proofs.Sweeping.{taken_told, none_taken, among_parts}
-use Rattle.table_repair.proofs.Abreast.{abreast_ends}
+use Rattle.table_repair.proofs.Abreast.{abreast_ends, enter_ends, enter_none}
 use Rattle.table_repair.proofs.Across.{on_map}
-use Rattle.table_repair.proofs.Entering.{enter_none, past_none, enter_right, enter_past, enter_line, enter_ends}
+use Rattle.table_repair.proofs.Entering.{past_none, enter_right, enter_past, enter_line}
 use Rattle.table_repair.proofs.Entering.{none_left}
 use Rattle.table_repair.proofs.Totals.{later_on, few_entered, counted_entered}
 use Rattle.table_repair.proofs.sweep.sweep_lines.Goals as goal

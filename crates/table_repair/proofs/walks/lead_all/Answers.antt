@@ -3,7 +3,7 @@ use Rattle.std.proofs.Common.{arith, ap, ◌∙◌}
 use Rattle.arrayvec.specs.ArrayVec.{ArrayVec}
 use Rattle.table_repair.specs.declared.walks.Walk.{Walk}
 use Rattle.table_repair.proofs.InPlace.{place_begins, place_next}
-use Rattle.table_repair.proofs.InPlace.{place_ends, led_on}
+use Rattle.table_repair.proofs.InPlace.{place_ends, led_on, its_inside, its_right}
 use Rattle.table_repair.proofs.walks.lead_all.Goals as goal
 use Rattle.table_repair.proofs.walks.lead_all.Goals.{in-Some, in_default}
 
@@ -12,6 +12,14 @@ nowhere = record { at = record { x = 0; y = 0 } }
 
 pub loop-i-init : goal.loop-i-init
 loop-i-init g c = place_begins c.requires.ready c.requires.inside c.requires.right
+
+pub walk_on-requires-clause-inside : goal.walk_on-requires-clause-inside
+walk_on-requires-clause-inside g c = its_inside nowhere c.loop-i.invariant c.as_slice.ensures.value
+    (rw c.len-all.ensures.value at c.loop-i-test.true)
+
+pub walk_on-requires-clause-right : goal.walk_on-requires-clause-right
+walk_on-requires-clause-right g c = its_right nowhere c.loop-i.invariant c.as_slice.ensures.value
+    (rw c.len-all.ensures.value at c.loop-i-test.true)
 
 pub loop-i-preserved : goal.loop-i-preserved
 loop-i-preserved g c =
