@@ -1,5 +1,6 @@
 -- Walks back that keep abreast: one of them goes on or ends, and what they change adds up.
-use Rattle.std.proofs.Common.{◌≡◌, ℕ, zero, suc, ◌+◌, ◌⊎◌, inl, inr, arith, Bool, true, false, refl, sym, ◌∙◌}
+use Rattle.std.proofs.lemmas.Bool.Decides.{nat_tests}
+use Rattle.std.proofs.Common.{◌≡◌, ℕ, zero, suc, ◌+◌, ◌≤◌, ◌⊎◌, inl, inr, arith, Bool, true, false, refl, sym, ◌∙◌}
 use Rattle.std.proofs.Common.{◌||◌, List, [], ◌∷◌, ◌++◌, length}
 use Rattle.std.specs.Prelude.{Option, Some, None, option_and_then}
 use Rattle.std.specs.Option.{option_to_list}
@@ -11,10 +12,10 @@ use Rattle.grid_moves.proofs.Legal.{is_same-cell, is_same-itself}
 use Rattle.plus_tables.specs.Tables.{TablesData}
 use Rattle.table_repair.specs.declared.walks.Walk.{Walk}
 use Rattle.table_repair.specs.Abreast.{is_at_one, no_cell, IsOnward, KeepAbreast}
-use Rattle.table_repair.specs.Mending.{IsRight, IsMended, Mends, FollowBut, Sweeps, either}
+use Rattle.table_repair.specs.Mending.{IsRight, AreReady, IsMended, Mends, FollowBut, Sweeps, either}
 use Rattle.table_repair.specs.Mending.{cell_after}
 use Rattle.table_repair.proofs.Lines.{after_before}
-use Rattle.table_repair.proofs.Mends.{mends_wider, mends_then, still_mended, right_stays}
+use Rattle.table_repair.proofs.Mends.{mends_wider, mends_then, nothing_mended, still_mended, right_stays}
 use Rattle.table_repair.proofs.Mends.{ready_stays, follow_more}
 use Rattle.table_repair.proofs.Walking.{or_false, false_or, or_left, or_right}
 
@@ -22,12 +23,6 @@ use Rattle.table_repair.proofs.Walking.{or_false, false_or, or_left, or_right}
 or_joined : (a b c : Bool) → (a || (b || c)) ≡ false → ((a || b) || c) ≡ false
 or_joined true b c h = h
 or_joined false b c h = h
-
-or_swapped : (a b c : Bool) → ((a || b) || c) ≡ false → (b || (a || c)) ≡ false
-or_swapped true true c h = h
-or_swapped true false c h = h
-or_swapped false true c h = h
-or_swapped false false c h = h
 
 or_further : (a b c d : Bool) → d ≡ (b || c) → (a || d) ≡ ((a || b) || c)
 or_further true b c d h = refl
@@ -93,83 +88,102 @@ mends_through : {h : GridData} {d : Dir} {starts piece : Cell → Bool} {old now
 mends_through first reached mends =
     mends_then first mends (λ u k. mended_further reached u k)
 
-module _ {h : GridData} {d : Dir} {starts : Cell → Bool} {old now : TablesData} {v : Walk} {rest : List Walk}
-    {n : ℕ} (abreast : KeepAbreast h d starts old now (v ∷ rest) no_cell n) where
-  pub first_mended : IsMended h now d starts n v.at
-  first_mended = abreast.mended v.at (at_first v rest)
+-- a cell begins where it stands
+pub begins : {h : GridData} {t : TablesData} {d : Dir} {starts : Cell → Bool} {n : ℕ} (w : Cell)
+    → IsRight h t w d → starts w ≡ true → IsMended h t d starts n w
+begins w right there = record {
+  right = right;
+  moves = 0;
+  few = omega arith;
+  start = w;
+  starts_there = there;
+  reaches = refl;
+}
 
-  module _ {new : TablesData} {m : ℕ} (mends : Mends h d (λ w. is_same w v.at) now new m) where
-    -- what was made right behind the first walk lies behind its start
-    mends_on : Mends h d starts old new (n + m)
-    mends_on = mends_through abreast.mends
-        (λ w k. let same = is_same-cell w v.at k in rw same first_mended) mends
+-- before the first move
+pub standing : {h : GridData} {d : Dir} {t : TablesData} {walks : List Walk} → AreReady h t d
+    → ((w : Cell) → is_at_one walks w ≡ true → is_inside h w ≡ true)
+    → ((w : Cell) → is_at_one walks w ≡ true → IsRight h t w d)
+    → KeepAbreast h d (is_at_one walks) t t walks no_cell 0
+standing {h} {d} {t} {walks} ready inside right = record {
+  ready = ready;
+  inside = inside;
+  mended = λ w k. begins w (right w k) k;
+  mends = nothing_mended h d (is_at_one walks) t;
+  follows = λ later f. f;
+}
 
-    others_mended : (w : Cell) → is_inside h w ≡ true → IsMended h now d starts n w
-        → IsMended h new d starts (n + m) w
-    others_mended w i k = still_mended (λ w j. j) (right_stays mends w d i k.right) (omega arith) k
+-- beside walks that stand one more goes one move on from a cell, or ends
+module _ {h : GridData} {d : Dir} (v : Cell) {old new : TablesData} (walks : List Walk) {on : Option Walk}
+    (ready : AreReady h old d) (inside : (w : Cell) → is_at_one walks w ≡ true → is_inside h w ≡ true)
+    (right : (w : Cell) → is_at_one walks w ≡ true → IsRight h old w d)
+    (mends : Mends h d (λ w. is_same w v) old new (length (option_to_list on)))
+    (follows : (later : Cell → Bool) → FollowBut h old d (λ w. is_same w v || later w)
+    → FollowBut h new d (either (is_at_one (option_to_list on)) later))
+    (onward : (next : Walk) → on ≡ Some next → IsOnward h new d v next.at) where
+  either_one : (w : Cell) → is_at_one (walks ++ option_to_list on) w ≡ true
+      → (is_at_one walks w ≡ true) ⊎ (is_at_one (option_to_list on) w ≡ true)
+  either_one w k = or_either (is_at_one walks w) (is_at_one (option_to_list on) w)
+      (sym (at_both walks (option_to_list on) w) ∙ k)
 
-  -- the first walk goes on, behind all others, or ends
-  pub abreast_next : {new : TablesData} {on : Option Walk}
-      → Mends h d (λ w. is_same w v.at) now new (length (option_to_list on))
-      → ((later : Cell → Bool) → FollowBut h now d (λ w. is_same w v.at || later w)
-      → FollowBut h new d (either (is_at_one (option_to_list on)) later))
-      → ((next : Walk) → on ≡ Some next → IsOnward h new d v.at next.at)
-      → KeepAbreast h d starts old new (rest ++ option_to_list on) no_cell (n + length (option_to_list on))
-  abreast_next {new = new} {on = on} mends follows onward = record {
-    ready = ready_stays mends abreast.ready;
+  onward_at : (o : Option Walk) → ((next : Walk) → o ≡ Some next → IsOnward h new d v next.at)
+      → (w : Cell) → is_at_one (option_to_list o) w ≡ true → IsOnward h new d v w
+  onward_at None given w a = absurd (cc)
+  onward_at (Some next) given w a = rw (at_next next w a) (given next refl)
+
+  some_length : (o : Option Walk) → (w : Cell) → is_at_one (option_to_list o) w ≡ true
+      → 1 ≤ length (option_to_list o)
+  some_length None w a = absurd (cc)
+  some_length (Some next) w a = omega arith
+
+  stepped : KeepAbreast h d (either (is_at_one walks) (λ w. is_same w v)) old new (walks ++ option_to_list on)
+      no_cell (length (option_to_list on))
+  stepped = record {
+    ready = ready_stays mends ready;
     inside = λ w k. elim (either_one w k) [
-      | inl r ↦ abreast.inside w (at_others v rest w r)
-      | inr a ↦ (of_next on onward w a).inside
+      | inl r ↦ inside w r
+      | inr a ↦ (onward_at on onward w a).inside
     ];
     mended = λ w k. elim (either_one w k) [
-      | inl r ↦ others_mended mends w
-          (abreast.inside w (at_others v rest w r)) (abreast.mended w (at_others v rest w r))
-      | inr a ↦ next_mended on onward w a
+      | inl r ↦ begins w (right_stays mends w d (inside w r) (right w r))
+          (or_left (is_at_one walks w) (is_same w v) r)
+      | inr a ↦ (let o = onward_at on onward w a in record {
+        right = o.right;
+        moves = 1;
+        few = some_length on w a;
+        start = v;
+        starts_there = or_right (is_at_one walks v) (is_same v v) (is_same-itself v);
+        reaches = after_before d 0 w v v o.behind refl;
+      })
     ];
-    mends = mends_on mends;
-    follows = λ later f. follow_more (λ w k. narrower w later k) (follows (either (is_at_one rest) later)
-        (follow_more (λ w k. wider w later k) (abreast.follows later f)));
+    mends = mends_wider (λ w k. or_right (is_at_one walks w) (is_same w v) k) mends;
+    follows = λ later f. follow_more (λ w k. narrower w later k) (follows (either (is_at_one walks) later)
+        (follow_more (λ w k. wider (is_at_one walks w) (is_same w v) (later w) k) f));
   }
     where
-      either_one : (w : Cell) → is_at_one (rest ++ option_to_list on) w ≡ true
-          → (is_at_one rest w ≡ true) ⊎ (is_at_one (option_to_list on) w ≡ true)
-      either_one w k = or_either (is_at_one rest w) (is_at_one (option_to_list on) w)
-          (sym (at_both rest (option_to_list on) w) ∙ k)
+      wider : (a b c : Bool) → (b || (a || c)) ≡ false → ((a || b) || c) ≡ false
+      wider a b c k = grind arith
 
-      narrower : (w : Cell) (later : Cell → Bool)
-          → (is_at_one (rest ++ option_to_list on) w || later w) ≡ false
-          → (is_at_one (option_to_list on) w || (is_at_one rest w || later w)) ≡ false
+      regroup : (z a b c : Bool) → z ≡ (a || b) → (z || c) ≡ false → (b || (a || c)) ≡ false
+      regroup z a b c e k = grind arith
+
+      narrower : (w : Cell) (later : Cell → Bool) → (is_at_one (walks ++ option_to_list on) w || later w) ≡ false
+          → (is_at_one (option_to_list on) w || (is_at_one walks w || later w)) ≡ false
       narrower w later k =
-          regroup (is_at_one (rest ++ option_to_list on) w) (is_at_one rest w)
-          (is_at_one (option_to_list on) w) (later w) (at_both rest (option_to_list on) w) k
-        where
-          regroup : (z a b c : Bool) → z ≡ (a || b) → (z || c) ≡ false → (b || (a || c)) ≡ false
-          regroup z a b c e k = or_swapped a b c (rw e at k)
+          regroup (is_at_one (walks ++ option_to_list on) w) (is_at_one walks w)
+          (is_at_one (option_to_list on) w) (later w) (at_both walks (option_to_list on) w) k
 
-      wider : (w : Cell) (later : Cell → Bool) → (is_same w v.at || (is_at_one rest w || later w)) ≡ false
-          → (is_at_one (v ∷ rest) w || later w) ≡ false
-      wider w later k = or_joined (is_same w v.at) (is_at_one rest w) (later w) k
+  pub step_on : {more : List Walk} {m : ℕ} → more ≡ walks ++ option_to_list on → length (option_to_list on) ≡ m
+      → KeepAbreast h d (either (is_at_one walks) (λ w. is_same w v)) old new more no_cell m
+  step_on e f = rw (e, ← f) stepped
 
-      of_next : (o : Option Walk) → ((next : Walk) → o ≡ Some next → IsOnward h new d v.at next.at)
-          → (w : Cell) → is_at_one (option_to_list o) w ≡ true → IsOnward h new d v.at w
-      of_next None given w a = absurd (cc)
-      of_next (Some next) given w a = rw (at_next next w a) (given next refl)
-
-      next_mended : (o : Option Walk) → ((next : Walk) → o ≡ Some next → IsOnward h new d v.at next.at)
-          → (w : Cell) → is_at_one (option_to_list o) w ≡ true
-          → IsMended h new d starts (n + length (option_to_list o)) w
-      next_mended None given w a = absurd (cc)
-      next_mended (Some next) given w a =
-          let k = of_next (Some next) given w a in
-          record {
-            right = k.right;
-            moves = suc first_mended.moves;
-            few = let b = first_mended.few in omega arith;
-            start = first_mended.start;
-            starts_there = first_mended.starts_there;
-            reaches = after_before d first_mended.moves w v.at first_mended.start k.behind
-                first_mended.reaches;
-          }
+  -- where it stands then
+  pub step_behind : {more : List Walk} → more ≡ walks ++ option_to_list on → (w : Cell)
+      → is_at_one more w ≡ true → (is_at_one walks w ≡ true) ⊎ (ahead d w ≡ Some v)
+  step_behind e w k = elim (either_one w (rw (← e) k)) [
+    | inl i ↦ inl i
+    | inr i ↦ inr (onward_at on onward w i).behind
+  ]
 
 -- no walk is left
 pub abreast_ends : {h : GridData} {d : Dir} {starts : Cell → Bool} {old now : TablesData}
@@ -221,34 +235,54 @@ abreast_beside {starts = starts} row first = record {
       (follow_more (λ w k. or_joined (starts w) (row w) (later w) k) f);
 }
 
--- walks begin at cells that were left, whose entries are right
-pub abreast_enter : {h : GridData} {d : Dir} {starts row : Cell → Bool} {old now : TablesData}
-    {walks more : List Walk} {n : ℕ} → KeepAbreast h d starts old now walks row n
-    → ((w : Cell) → is_at_one more w ≡ (is_at_one walks w || row w))
-    → ((w : Cell) → row w ≡ true → is_inside h w ≡ true)
-    → ((w : Cell) → row w ≡ true → IsRight h now w d) → ((w : Cell) → row w ≡ true → starts w ≡ true)
-    → KeepAbreast h d starts old now more no_cell n
-abreast_enter {row = row} {walks = walks} {more = more} h i j k l = record {
-  ready = h.ready;
-  inside = λ w m. elim (or_either (is_at_one walks w) (row w) (sym (i w) ∙ m)) [
-    | inl a ↦ h.inside w a
-    | inr r ↦ j w r
-  ];
-  mended = λ w m. elim (or_either (is_at_one walks w) (row w) (sym (i w) ∙ m)) [
-    | inl a ↦ h.mended w a
-    | inr r ↦ record {
-      right = k w r;
-      moves = 0;
-      few = omega arith;
-      start = w;
-      starts_there = l w r;
-      reaches = refl;
-    }
-  ];
-  mends = h.mends;
-  follows = λ later f. follow_more (λ w m.
-      let p = or_false (is_at_one more w) (later w) m in
-      let q = or_false (is_at_one walks w) (row w) (sym (i w) ∙ p.0) in
-      false_or (is_at_one walks w) (row w || later w) q.0 (false_or (row w) (later w) q.1 p.1))
-      (h.follows later f);
+-- of what is left none waits any more
+pub left_less : {h : GridData} {d : Dir} {starts left rest : Cell → Bool} {old now : TablesData}
+    {walks : List Walk} {n : ℕ} → KeepAbreast h d starts old now walks left n
+    → ((w : Cell) → rest w ≡ false → left w ≡ false) → KeepAbreast h d starts old now walks rest n
+left_less {left = left} {rest = rest} {walks = walks} abreast less = record {
+  ready = abreast.ready;
+  inside = abreast.inside;
+  mended = abreast.mended;
+  mends = abreast.mends;
+  follows = λ later f. follow_more (λ w k.
+      let p = or_false (is_at_one walks w) (rest w || later w) k in
+      let q = or_false (rest w) (later w) p.1 in
+      false_or (is_at_one walks w) (left w || later w) p.0 (false_or (left w) (later w) (less w q.0) q.1))
+      (abreast.follows later f);
 }
+
+-- walks begin at some of the cells that were left, whose entries are right
+pub enter_next : {h : GridData} {d : Dir} {all row left rest : Cell → Bool} {old now new : TablesData}
+    {walks onward : List Walk} {n m : ℕ} → KeepAbreast h d all old now walks left n
+    → ((w : Cell) → row w ≡ true → IsRight h now w d) → ((w : Cell) → row w ≡ true → all w ≡ true)
+    → ((w : Cell) → row w ≡ false → rest w ≡ false → left w ≡ false)
+    → KeepAbreast h d (either (is_at_one walks) row) now new onward no_cell m
+    → KeepAbreast h d all old new onward rest (n + m)
+enter_next {h = h} {d = d} {all = all} {row = row} {left = left} {rest = rest} {now = now} {walks = walks} {n = n}
+    abreast right within split second =
+    abreast_then abreast reached apart second
+  where
+    reached : (w : Cell) → (is_at_one walks w || row w) ≡ true → IsMended h now d all n w
+    reached w k = elim (or_either (is_at_one walks w) (row w) k) [
+      | inl i ↦ abreast.mended w i
+      | inr i ↦ begins w (right w i) (within w i)
+    ]
+
+    apart : (w : Cell) → (is_at_one walks w || row w) ≡ false → rest w ≡ false
+        → (is_at_one walks w || left w) ≡ false
+    apart w k r =
+        let p = or_false (is_at_one walks w) (row w) k in
+        false_or (is_at_one walks w) (left w) p.0 (split w p.1 r)
+
+-- nothing has begun
+pub enter_none : {h : GridData} {d : Dir} {all : Cell → Bool} {t : TablesData} {walks : List Walk}
+    → AreReady h t d → walks ≡ [] → KeepAbreast h d all t t walks all 0
+enter_none h i = grind (arith, nat_tests)
+
+-- nothing is left, and the walks are led on
+pub enter_ends : {h : GridData} {d : Dir} {all left : Cell → Bool} {old now new : TablesData}
+    {walks onward : List Walk} {n m : ℕ} → KeepAbreast h d all old now walks left n
+    → ((w : Cell) → left w ≡ false) → KeepAbreast h d (is_at_one walks) now new onward no_cell m
+    → KeepAbreast h d all old new onward no_cell (n + m)
+enter_ends {left = left} {walks = walks} first none second =
+    abreast_then first first.mended (λ w k l. false_or (is_at_one walks w) (left w) k (none w)) second

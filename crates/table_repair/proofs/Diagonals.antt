@@ -68,9 +68,9 @@ module _ (h : GridData) (rows columns : Span) {wide rear : Span} (by : ℕ) (d :
       → span_length (span_next before rows by h.height) ≤ h.height
   rear_short before p = grind (arith, nat_tests)
 
-  -- how many cells that are, at most three of them in each row behind the block
+  -- how many cells that are
   pub cells_few : IsBlock h rows columns
-      → span_length rows * span_length wide + 3 * span_length rear ≤ 3 * (h.width + h.height)
+      → span_length rows * span_length wide + span_length rear * span_length columns ≤ 3 * (h.width + h.height)
   cells_few b = grind (arith, wide_short, rear_short, mul-le-mul)
 
 pub steps_both : (start now new m n cells more limit : ℕ) → now ≤ start + m + cells → new ≤ now + n + more

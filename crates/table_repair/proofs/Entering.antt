@@ -1,143 +1,124 @@
--- A narrow block is swept row by row: in each row walks begin beside those that have come to it.
+-- A block is swept line by line: in each line walks begin beside those that have come to it.
 use Rattle.std.proofs.lemmas.Bool.Decides.{nat_tests}
-use Rattle.std.proofs.Common.{◌≡◌, ℕ, suc, ◌+◌, ◌<◌, ◌≤◌, inl, inr, arith, Bool, true, false, refl}
+use Rattle.std.proofs.Common.{◌≡◌, ℕ, suc, ◌+◌, ◌<◌, ◌≤◌, inl, inr, arith, Bool, true, false}
 use Rattle.std.proofs.Common.{◌||◌, List, []}
-use Rattle.std.specs.Prelude.{nat_eq}
+use Rattle.std.specs.Prelude.{Some, ◌&&◌}
 use Rattle.grid_moves.specs.declared.Cell.{Cell}
 use Rattle.grid_moves.specs.declared.Dir.{Dir}
 use Rattle.grid_moves.specs.Grid.{GridData, is_inside}
-use Rattle.grid_moves.proofs.Legal.{and_both}
-use Rattle.pruning.specs.Turns.{is_diagonal}
+use Rattle.grid_moves.specs.Move.{ahead, is_same}
+use Rattle.grid_moves.proofs.Legal.{and_both, is_same-cell}
 use Rattle.pruning.proofs.Running.{AreMoved}
 use Rattle.plus_tables.specs.Tables.{TablesData}
 use Rattle.table_repair.specs.declared.span.Span.{Span}
 use Rattle.table_repair.specs.declared.walks.Walk.{Walk}
 use Rattle.table_repair.specs.Abreast.{is_at_one, no_cell, IsBehindOne, KeepAbreast}
-use Rattle.table_repair.specs.Mending.{IsRight, AreReady, IsMended, CanSweep, either, is_among, is_in_row}
-use Rattle.table_repair.specs.Mending.{is_in, goes_down}
-use Rattle.table_repair.proofs.Abreast.{abreast_beside, abreast_enter, abreast_then, or_either}
+use Rattle.table_repair.specs.Lines.{line_of, place_of, cell_on, lines_rise, is_on_line, is_across}
+use Rattle.table_repair.specs.Mending.{IsRight, CanSweep, either, is_among}
+use Rattle.table_repair.specs.Mending.{cell_after}
+use Rattle.table_repair.proofs.Abreast.{enter_next, or_either}
+use Rattle.table_repair.proofs.Across.{on_parts, line_of_block, line_or_rest, from_place, cell_there}
+use Rattle.table_repair.proofs.Across.{place_or_rest}
 use Rattle.table_repair.proofs.Lines.{after_moved, right_ahead}
-use Rattle.table_repair.proofs.Mends.{right_stays}
 use Rattle.table_repair.proofs.Moving.{ahead_moved}
-use Rattle.table_repair.proofs.Rows.{not_true, row_of_block, row_or_rest}
-use Rattle.table_repair.proofs.Sweeping.{IsTaken, among_parts, number_same}
-use Rattle.table_repair.proofs.Walking.{or_false, false_or, or_right}
+use Rattle.table_repair.proofs.Sweeping.{IsTaken}
+use Rattle.table_repair.proofs.Walking.{false_or, or_left, or_right, not_true}
 
--- the row is one of those that are left, or lies behind them
+-- the line is one of those that are left, or lies behind them
 abbrev pub IsPast : Bool → Span → ℕ → Type 0
 IsPast true left y = y < left.end
 IsPast false left y = left.first ≤ y
 
-among_past : (down : Bool) (left : Span) (y : ℕ) → is_among left y ≡ true → IsPast down left y
-among_past down left y h = grind (arith, nat_tests)
+among_past : (rise : Bool) (left : Span) (y : ℕ) → is_among left y ≡ true → IsPast rise left y
+among_past rise left y h = grind (arith, nat_tests)
 
-pub row_below : (h : GridData) (rows : Span) (y : ℕ) → is_among rows y ≡ true → rows.end ≤ h.height
-    → y < h.height
-row_below h rows y i low = let p = among_parts rows y i in let l = p.1 in omega arith
+pub past_none : (rise : Bool) (left : Span) (d : Dir) (walks : List Walk) → walks ≡ [] → (w : Cell)
+    → is_at_one walks w ≡ true → IsPast rise left (line_of d w)
+past_none rise left d walks e w k = absurd (none walks e k)
+  where
+    none : (walks : List Walk) → walks ≡ [] → is_at_one walks w ≡ true → ⊥
+    none walks e k = grind arith
 
--- nothing has begun
-pub enter_none : {h : GridData} {d : Dir} {all : Cell → Bool} {t : TablesData} {walks : List Walk}
-    → AreReady h t d → walks ≡ [] → KeepAbreast h d all t t walks all 0
-enter_none h i = grind (arith, nat_tests)
+-- a cell behind one of these is behind one of more
+pub beside_behind : {d : Dir} {there : Cell → Bool} {u : Cell} (row : Cell → Bool) → IsBehindOne d there u
+    → IsBehindOne d (either there row) u
+beside_behind {there = there} row b =
+    record { from = b.from; stood = or_left (there b.from) (row b.from) b.stood; behind = b.behind }
 
-pub past_none : (down : Bool) (left : Span) (walks : List Walk) → walks ≡ [] → (w : Cell)
-    → is_at_one walks w ≡ true → IsPast down left w.y
-past_none down left walks e w k = grind arith
+-- place by place
+pub enter_place : {h : GridData} {d : Dir} (starts : Cell → Bool) (line place : ℕ) (places : Span) {v : Cell}
+    {old now new : TablesData} {walks onward : List Walk} {n m : ℕ} → v ≡ cell_on d line place
+    → is_among places place ≡ true
+    → KeepAbreast h d (either starts (is_on_line d line places)) old now walks
+    (is_on_line d line (from_place place places)) n
+    → IsRight h now v d → KeepAbreast h d (either (is_at_one walks) (λ w. is_same w v)) now new onward no_cell m
+    → KeepAbreast h d (either starts (is_on_line d line places)) old new onward
+    (is_on_line d line (from_place (place + 1) places)) (n + m)
+enter_place {d = d} starts line place places {v = v} is among abreast right second = enter_next abreast
+    (λ w k. rw (is_same-cell w v k) right)
+    (λ w k. rw (is_same-cell w v k) (or_right (starts v) (is_on_line d line places v)
+    (cell_there d line place places is among)))
+    (place_or_rest d line place places is) second
 
-module _ {h : GridData} {d : Dir} (rows columns : Span) {left rest : Span} {y : ℕ} {old now : TablesData}
-    {walks : List Walk} {n : ℕ} (diagonal : is_diagonal d ≡ true)
-    (abreast : KeepAbreast h d (is_in rows columns) old now walks (is_in left columns) n)
-    (past : (w : Cell) → is_at_one walks w ≡ true → IsPast (goes_down d) left w.y)
-    (within : (k : ℕ) → is_among left k ≡ true → is_among rows k ≡ true)
-    (taken : IsTaken (goes_down d) left y rest) where
-  of_block : (w : Cell) → is_in_row y columns w ≡ true → is_in rows columns w ≡ true
-  of_block w i = row_of_block rows columns within taken w i
+module _ {h : GridData} {d : Dir} (lines places : Span) {left rest : Span} {line : ℕ} {old now : TablesData}
+    {walks : List Walk} {n : ℕ}
+    (abreast : KeepAbreast h d (is_across d lines places) old now walks (is_across d left places) n)
+    (past : (w : Cell) → is_at_one walks w ≡ true → IsPast (lines_rise d) left (line_of d w))
+    (within : (k : ℕ) → is_among left k ≡ true → is_among lines k ≡ true)
+    (taken : IsTaken (lines_rise d) left line rest) where
+  -- what lies ahead of the line is not past
+  ahead_past : (d : Dir) (k : ℕ) (v w : Cell) → IsTaken (lines_rise d) left line rest → line_of d v ≡ line
+      → AreMoved d (suc k) v w → IsPast (lines_rise d) left (line_of d w) → ⊥
+  ahead_past d k v w t e m p = grind arith
 
-  -- what lies ahead of the row is not past
-  ahead_past : (k : ℕ) (v w : Cell) → v.y ≡ y → AreMoved d (suc k) v w → IsPast (goes_down d) left w.y → ⊥
-  ahead_past k v w e m p = grind arith
-
-  row_is : (v : Cell) → is_in_row y columns v ≡ true → v.y ≡ y
-  row_is v i = number_same v.y y (and_both (nat_eq v.y y) (is_among columns v.x) i).0
-
-  -- the row's entries are right, since no cell ahead waits
-  pub enter_right : CanSweep h old d (is_in rows columns)
-      → ((v : Cell) → is_in_row y columns v ≡ true → is_inside h v ≡ true) → (v : Cell)
-      → is_in_row y columns v ≡ true → IsRight h now v d
+  -- the line's entries are right, since no cell ahead waits
+  pub enter_right : CanSweep h old d (is_across d lines places)
+      → ((v : Cell) → is_on_line d line places v ≡ true → is_inside h v ≡ true) → (v : Cell)
+      → is_on_line d line places v ≡ true → IsRight h now v d
   enter_right can inside v here =
-      right_ahead h now d (either (is_at_one walks) (either (is_in left columns) can.later))
+      right_ahead h now d (either (is_at_one walks) (either (is_across d left places) can.later))
       (abreast.follows can.later can.follow) v (inside v here)
-      (λ w k r. false_or (is_at_one walks w) (is_in left columns w || can.later w)
-      (not_true (is_at_one walks w)
-      (λ i. ahead_past k v w (row_is v here) (after_moved d (suc k) v w r) (past w i)))
-      (false_or (is_in left columns w) (can.later w)
-      (not_true (is_in left columns w)
-      (λ i. ahead_past k v w (row_is v here) (after_moved d (suc k) v w r)
-      (among_past (goes_down d) left w.y (and_both (is_among left w.y) (is_among columns w.x) i).0)))
-      (can.none_ahead v w k (of_block v here) r)))
-
-  -- walks that have left the row are past those that are left
-  pub enter_past : (w : Cell) → IsBehindOne d (either (is_at_one walks) (is_in_row y columns)) w
-      → IsPast (goes_down d) rest w.y
-  enter_past w b = grind (arith, ahead_moved, or_either, row_is, among_past)
-
-  pub enter_next : {new : TablesData} {onward : List Walk} {m : ℕ}
-      → ((v : Cell) → is_in_row y columns v ≡ true → IsRight h now v d)
-      → KeepAbreast h d (either (is_at_one walks) (is_in_row y columns)) now new onward no_cell m
-      → KeepAbreast h d (is_in rows columns) old new onward (is_in rest columns) (n + m)
-  enter_next right second =
-      abreast_then abreast reached split second
+      (λ w k r. false_or (is_at_one walks w) (is_across d left places w || can.later w)
+      (not_true (is_at_one walks w) (λ i. not_past w k r (past w i)))
+      (false_or (is_across d left places w) (can.later w)
+      (not_true (is_across d left places w) (λ i. not_past w k r
+      (among_past (lines_rise d) left (line_of d w)
+      (and_both (is_among left (line_of d w)) (is_among places (place_of d w)) i).0)))
+      (can.none_ahead v w k
+      (line_of_block d lines places line (within line taken.member) v here) r)))
     where
-      reached : (w : Cell) → (is_at_one walks w || is_in_row y columns w) ≡ true
-          → IsMended h now d (is_in rows columns) n w
-      reached w k = elim (or_either (is_at_one walks w) (is_in_row y columns w) k) [
-        | inl i ↦ abreast.mended w i
-        | inr i ↦ record {
-          right = right w i;
-          moves = 0;
-          few = omega arith;
-          start = w;
-          starts_there = of_block w i;
-          reaches = refl;
-        }
-      ]
+      not_past : (w : Cell) (k : ℕ) → cell_after d (suc k) v ≡ Some w
+          → IsPast (lines_rise d) left (line_of d w) → ⊥
+      not_past w k r p = ahead_past d k v w taken (on_parts d line places v here).0
+          (after_moved d (suc k) v w r) p
 
-      split : (w : Cell) → (is_at_one walks w || is_in_row y columns w) ≡ false
-          → is_in rest columns w ≡ false → (is_at_one walks w || is_in left columns w) ≡ false
-      split w k r =
-          let p = or_false (is_at_one walks w) (is_in_row y columns w) k in
-          false_or (is_at_one walks w) (is_in left columns w) p.0
-          (row_or_rest rows columns within taken w p.1 r)
+  behind_past : (d : Dir) (w v : Cell) → IsTaken (lines_rise d) left line rest → AreMoved d 1 w v
+      → IsPast (lines_rise d) left (line_of d v) → IsPast (lines_rise d) rest (line_of d w)
+  behind_past d w v t m p = grind arith
 
--- no row is left, and the walks are led out
-pub enter_ends : {h : GridData} {d : Dir} {all left : Cell → Bool} {old now new : TablesData}
-    {walks onward : List Walk} {n m : ℕ} → KeepAbreast h d all old now walks left n
-    → ((w : Cell) → left w ≡ false) → KeepAbreast h d (is_at_one walks) now new onward no_cell m
-    → KeepAbreast h d all old new onward no_cell (n + m)
-enter_ends {left = left} {walks = walks} first none second =
-    abreast_then first first.mended (λ w k l. false_or (is_at_one walks w) (left w) k (none w)) second
+  -- walks that have left the line are past those that are left
+  pub enter_past : (w : Cell) → IsBehindOne d (either (is_at_one walks) (is_on_line d line places)) w
+      → IsPast (lines_rise d) rest (line_of d w)
+  enter_past w b = behind_past d w b.from taken (ahead_moved d w b.from b.behind)
+      (elim (or_either (is_at_one walks b.from) (is_on_line d line places b.from) b.stood) [
+        | inl i ↦ past b.from i
+        | inr i ↦ (let e = (on_parts d line places b.from i).0 in
+            rw e (among_past (lines_rise d) left line taken.member))
+      ])
 
--- One row: some walks were led out or none, others begin in the row, and all go one move on or end.
-module _ {h : GridData} {d : Dir} (row : Cell → Bool) {old mid : TablesData} (walks : List Walk)
-    {kept : List Walk} (all : List Walk) {n : ℕ}
-    (first : KeepAbreast h d (is_at_one walks) old mid kept no_cell n)
-    (there : (w : Cell) → is_at_one all w ≡ (is_at_one kept w || row w))
-    (inside : (w : Cell) → row w ≡ true → is_inside h w ≡ true)
-    (right : (w : Cell) → row w ≡ true → IsRight h old w d) where
-  pub entered : KeepAbreast h d (either (is_at_one walks) row) old mid all no_cell n
-  entered = abreast_enter (abreast_beside row first) there inside
-      (λ w k. right_stays first.mends w d (inside w k) (right w k))
-      (λ w k. or_right (is_at_one walks w) (row w) k)
+  pub enter_line : {new : TablesData} {onward : List Walk} {m : ℕ}
+      → ((v : Cell) → is_on_line d line places v ≡ true → IsRight h now v d)
+      → KeepAbreast h d (either (is_at_one walks) (is_on_line d line places)) now new onward no_cell m
+      → KeepAbreast h d (is_across d lines places) old new onward (is_across d rest places) (n + m)
+  enter_line right second = enter_next abreast right
+      (λ w i. line_of_block d lines places line (within line taken.member) w i)
+      (λ w s r. line_or_rest taken d places w s r) second
 
-  pub entered_next : {new : TablesData} {onward : List Walk} {m : ℕ}
-      → KeepAbreast h d (is_at_one all) mid new onward no_cell m
-      → KeepAbreast h d (either (is_at_one walks) row) old new onward no_cell (n + m)
-  entered_next second =
-      enter_ends entered (λ w. refl) second
-
-pub entered_behind : (d : Dir) (row : Cell → Bool) (walks kept all onward : List Walk)
-    → ((w : Cell) → is_at_one kept w ≡ true → is_at_one walks w ≡ true)
-    → ((w : Cell) → is_at_one all w ≡ (is_at_one kept w || row w))
-    → ((w : Cell) → is_at_one onward w ≡ true → IsBehindOne d (is_at_one all) w) → (w : Cell)
-    → is_at_one onward w ≡ true → IsBehindOne d (either (is_at_one walks) row) w
-entered_behind d row walks kept all onward same there behind w k = grind (arith, nat_tests)
+-- no line is left
+pub none_left : (d : Dir) (left places : Span) → ((k : ℕ) → is_among left k ≡ false) → (w : Cell)
+    → is_across d left places w ≡ false
+none_left d left places none w = told (is_among left (line_of d w)) (is_among places (place_of d w))
+    (none (line_of d w))
+  where
+    told : (a b : Bool) → a ≡ false → (a && b) ≡ false
+    told a b e = grind arith

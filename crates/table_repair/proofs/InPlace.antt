@@ -1,5 +1,5 @@
 -- A round in one list: the walks that go on move to its front.
-use Rattle.std.proofs.Common.{◌≡◌, ℕ, ◌+◌, ◌<◌, ◌≤◌, arith, Bool, true, refl, sym, ◌∙◌, ◌||◌, List, ◌∷◌}
+use Rattle.std.proofs.Common.{◌≡◌, ℕ, ◌+◌, ◌<◌, ◌≤◌, arith, Bool, true, refl, sym, ◌∙◌, ◌||◌, List, [], ◌∷◌}
 use Rattle.std.proofs.Common.{◌++◌, length, get_or, take, drop}
 use Rattle.std.proofs.lemmas.List.{drop_all, drop_more, drop-set-lt, take_more_set, length-set}
 use Rattle.std.specs.Prelude.{Option, Some, None, slice_set}
@@ -8,13 +8,13 @@ use Rattle.grid_moves.specs.declared.Cell.{Cell}
 use Rattle.grid_moves.specs.declared.Dir.{Dir}
 use Rattle.grid_moves.specs.Grid.{GridData, is_inside}
 use Rattle.grid_moves.specs.Move.{is_same}
-use Rattle.pruning.specs.Turns.{is_diagonal}
 use Rattle.plus_tables.specs.Tables.{TablesData}
 use Rattle.table_repair.specs.declared.walks.Walk.{Walk}
-use Rattle.table_repair.specs.Abreast.{is_at_one, IsBehindOne, IsOnward, room_of}
+use Rattle.table_repair.specs.Abreast.{is_at_one, IsOnward, LedOn, room_of}
 use Rattle.table_repair.specs.Mending.{IsRight, AreReady, Mends, FollowBut, either}
-use Rattle.table_repair.proofs.Rounds.{Queued, Round, round_begins, round_next}
-use Rattle.table_repair.proofs.Rounds.{some_on, none_on}
+use Rattle.table_repair.proofs.Rounds.{Round, round_begins, round_next, some_on, none_on, stood}
+use Rattle.table_repair.proofs.Rounds.{right_now}
+use Rattle.table_repair.proofs.Abreast.{left_less, standing}
 
 -- the first ones of the list are the walks that went on, and behind the first i it is as it was
 pub record InPlace (h : GridData) (d : Dir) (old now : TablesData) (first steps : ℕ) (here list : List Walk)
@@ -30,7 +30,7 @@ pub place_begins : {h : GridData} {d : Dir} {t : TablesData} {steps : ℕ} {walk
     → ((w : Cell) → is_at_one walks w ≡ true → IsRight h t w d)
     → InPlace h d t t steps steps walks walks 0 0
 place_begins ready i r = record {
-  round = round_begins ready i r refl refl;
+  round = round_begins ready i r;
   rest = refl;
   few = omega arith;
   size = refl;
@@ -53,7 +53,14 @@ module _ {h : GridData} {d : Dir} {old now : TablesData} {first steps : ℕ} {he
   parts : (get_or shown i v ≡ get_or here i v) × (drop (i + 1) list ≡ drop (i + 1) here)
   parts = rw same (same_front i list here v within l place.rest)
 
-  module _ {new : TablesData} {counted : ℕ} {on : Option Walk} (k : is_diagonal d ≡ true)
+  -- the walk that is led on
+  pub its_inside : is_inside h (get_or shown i v).at ≡ true
+  its_inside = rw parts.0 (place.round.inside (get_or here i v).at (stood v place.round l))
+
+  pub its_right : IsRight h now (get_or shown i v).at d
+  its_right = rw parts.0 (right_now v place.round l)
+
+  module _ {new : TablesData} {counted : ℕ} {on : Option Walk}
       (mends : Mends h d (λ w. is_same w (get_or shown i v).at) now new (length (option_to_list on)))
       (follows : (later : Cell → Bool) → FollowBut h now d (λ w. is_same w (get_or shown i v).at || later w)
       → FollowBut h new d (either (is_at_one (option_to_list on)) later))
@@ -62,7 +69,7 @@ module _ {h : GridData} {d : Dir} {old now : TablesData} {first steps : ℕ} {he
     next_round : {more : List Walk} → more ≡ take onward list ++ option_to_list on
         → Round h d old new first counted here more (i + 1)
     next_round e =
-        round_next v place.round l k (rw parts.0 at mends) (rw parts.0 at follows)
+        round_next v place.round l (rw parts.0 at mends) (rw parts.0 at follows)
         (rw parts.0 at is_onward) c later e
 
     -- the walk goes on: it stands behind those that did so before
@@ -94,12 +101,25 @@ module _ {h : GridData} {d : Dir} {old now : TablesData} {first steps : ℕ} {he
   round_done : Round h d old now first steps here walks i
   round_done = rw e place.round
 
-  pub led : Queued h d (is_at_one here) old now first steps (length here) (room_of h d here) walks
-      (length walks)
-  led = rw (drop_all i here past) at round_done.queued
+  pub led_on : LedOn h d old now here walks first steps
+  led_on = record {
+    abreast = left_less round_done.abreast (λ w k. rw (drop_all i here past) refl);
+    behind = round_done.behind;
+    room = let a = round_done.room in omega arith;
+    fewer = let a = round_done.fewer in let b = round_done.within in omega arith;
+    steps = let a = round_done.counted in let b = round_done.within in omega arith;
+    later = round_done.later;
+  }
 
-  pub led_behind : (w : Cell) → is_at_one walks w ≡ true → IsBehindOne d (is_at_one here) w
-  led_behind = round_done.behind
-
-  pub led_fewer : length walks ≤ length here
-  led_fewer = let a = round_done.fewer in let b = round_done.within in omega arith
+-- where no walk stands
+pub led_none : {h : GridData} {d : Dir} {t : TablesData} {walks : List Walk} {steps : ℕ} → AreReady h t d
+    → walks ≡ [] → LedOn h d t t walks walks steps steps
+unfolding room_of
+led_none ready e = rw e (record {
+  abreast = standing ready (λ w k. absurd (cc)) (λ w k. absurd (cc));
+  behind = λ w k. absurd (cc);
+  room = omega arith;
+  fewer = omega arith;
+  steps = omega arith;
+  later = omega arith;
+})

@@ -5,12 +5,10 @@ pub mod Lines
 pub mod Mends
 pub mod Walking
 pub mod Sweeping
-pub mod Onward
+pub mod Across
 pub mod Abreast
 pub mod Rounds
 pub mod InPlace
-pub mod Rows
-pub mod Pieces
 pub mod Entering
 pub mod Totals
 pub mod Directions

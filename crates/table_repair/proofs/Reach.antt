@@ -17,7 +17,7 @@ use Rattle.table_repair.specs.Mending.{is_among, is_in, span_beside, widened, sp
 use Rattle.table_repair.specs.Mending.{goes_right, goes_down, NoneAhead}
 use Rattle.table_repair.proofs.Lines.{after_moved}
 use Rattle.table_repair.proofs.Sweeping.{among_parts, among_from}
-use Rattle.table_repair.proofs.Rows.{and_true, not_true}
+use Rattle.table_repair.proofs.Walking.{and_true, not_true}
 use Rattle.table_repair.proofs.Walking.{or_right}
 
 wide_before : (s : Span) (by side a b k : ℕ) → is_among s b ≡ true → b ≡ a + k → k ≤ by

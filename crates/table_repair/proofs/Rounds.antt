@@ -2,7 +2,7 @@
 use Rattle.std.proofs.lemmas.Bool.Decides.{nat_tests}
 use Rattle.std.proofs.Common.{◌≡◌, ℕ, zero, suc, ◌+◌, ◌-◌, ◌*◌, ◌<◌, ◌≤◌, inl, inr, arith, Bool, true, false}
 use Rattle.std.proofs.Common.{refl, sym, ◌∙◌, ◌||◌, List, [], ◌∷◌, ◌++◌, length, length-append}
-use Rattle.std.proofs.Common.{append_assoc, get_or, drop}
+use Rattle.std.proofs.Common.{get_or, drop}
 use Rattle.std.proofs.lemmas.List.{append-nil, drop_more}
 use Rattle.std.specs.Prelude.{Option, Some, None, if◌then◌else◌}
 use Rattle.std.specs.Option.{option_to_list}
@@ -10,16 +10,20 @@ use Rattle.grid_moves.specs.declared.Cell.{Cell}
 use Rattle.grid_moves.specs.declared.Dir.{Dir}
 use Rattle.grid_moves.specs.Grid.{GridData, IsGrid, is_inside}
 use Rattle.grid_moves.specs.Move.{ahead, is_same}
+use Rattle.grid_moves.proofs.Legal.{is_same-cell}
 use Rattle.grid_moves.proofs.Places.{inside_is}
-use Rattle.pruning.specs.Turns.{is_diagonal}
 use Rattle.plus_tables.specs.Tables.{TablesData}
 use Rattle.table_repair.specs.declared.walks.Walk.{Walk}
 use Rattle.table_repair.specs.Abreast.{is_at_one, no_cell, IsBehindOne, IsOnward, KeepAbreast, back_room}
 use Rattle.table_repair.specs.Abreast.{room_of}
-use Rattle.table_repair.specs.Mending.{IsRight, AreReady, Mends, FollowBut, either, goes_down}
-use Rattle.table_repair.proofs.Abreast.{abreast_next, abreast_then, at_both, at_first}
-use Rattle.table_repair.proofs.Abreast.{at_next, at_others, or_either}
+use Rattle.table_repair.specs.Mending.{IsRight, AreReady, Mends, FollowBut, either}
+use Rattle.table_repair.specs.Lines.{lines_rise}
+use Rattle.table_repair.proofs.Abreast.{abreast_then, at_first, at_others, enter_next, enter_none, standing}
+use Rattle.table_repair.proofs.Abreast.{step_on, step_behind}
+use Rattle.table_repair.proofs.Across.{line_inside, lines_few}
+use Rattle.table_repair.proofs.Mends.{right_stays}
 use Rattle.table_repair.proofs.Moving.{ahead_moved}
+use Rattle.table_repair.proofs.Walking.{false_or}
 
 pub room_both : (h : GridData) (d : Dir) (xs ys : List Walk)
     → room_of h d (xs ++ ys) ≡ room_of h d xs + room_of h d ys
@@ -27,16 +31,25 @@ unfolding room_of
 room_both h d [] ys = omega arith
 room_both h d (x ∷ xs) ys = let e = room_both h d xs ys in omega arith
 
-room_behind : (h : GridData) (d : Dir) (u v : Cell) → is_diagonal d ≡ true → is_inside h u ≡ true
+room_behind : (h : GridData) (d : Dir) (u v : Cell) → is_inside h u ≡ true
     → ahead d u ≡ Some v → back_room h d v ≡ back_room h d u + 1
-room_behind h d u v k i e = grind (arith, inside_is, ahead_moved)
+room_behind h d u v i e = grind (arith, inside_is, ahead_moved)
 
 -- a walk that goes on or ends has less room behind it
-room_next : (h : GridData) (d : Dir) (v : Walk) (rest : List Walk) (t : TablesData) (on : Option Walk)
-    → is_diagonal d ≡ true → ((next : Walk) → on ≡ Some next → IsOnward h t d v.at next.at)
-    → length (option_to_list on) + room_of h d (rest ++ option_to_list on) ≤ room_of h d (v ∷ rest)
+room_next : (h : GridData) (d : Dir) (v : Cell) (t : TablesData) (on : Option Walk)
+    → ((next : Walk) → on ≡ Some next → IsOnward h t d v next.at)
+    → length (option_to_list on) + room_of h d (option_to_list on) ≤ back_room h d v
 unfolding room_of
-room_next h d v rest t on i j = grind (arith, nat_tests, room_both, room_behind)
+room_next h d v t None j = omega arith
+room_next h d v t (Some next) j =
+    let k = j next refl in
+    let f = room_behind h d next.at v k.inside k.behind in
+    omega arith
+
+room_first : (h : GridData) (d : Dir) (v : Walk) (rest : List Walk)
+    → room_of h d (v ∷ rest) ≡ back_room h d v.at + room_of h d rest
+unfolding room_of
+room_first h d v rest = refl
 
 pub room_few : (h : GridData) (d : Dir) (walks : List Walk) → IsGrid h
     → ((w : Cell) → is_at_one walks w ≡ true → is_inside h w ≡ true)
@@ -45,14 +58,12 @@ unfolding room_of
 room_few h d [] grid inside = omega arith
 room_few h d (v ∷ vs) grid inside =
     let more = room_few h d vs grid (λ w k. inside w (at_others v vs w k)) in
-    let p = inside_is h v.at (inside v.at (at_first v vs)) in
-    let low = grid.sides.low in
-    let one = row_few (goes_down d) v.at p.1 low in
+    let one = line_few (lines_rise d) (line_inside h d v.at (inside v.at (at_first v vs))) (lines_few h d grid) in
     omega arith
   where
-    row_few : (down : Bool) (w : Cell) → w.y < h.height → h.height ≤ 4096
-        → suc (if down then w.y else h.height - suc w.y) ≤ 4096
-    row_few down w h i = grind (arith, nat_tests)
+    line_few : (rise : Bool) {line lines : ℕ} → line < lines → lines ≤ 4096
+        → suc (if rise then line else lines - suc line) ≤ 4096
+    line_few rise h i = grind (arith, nat_tests)
 
 -- each walk has some room
 pub room_some : (h : GridData) (d : Dir) (walks : List Walk) → length walks ≤ room_of h d walks
@@ -72,23 +83,41 @@ pub queued_none : {h : GridData} {d : Dir} {t : TablesData} {steps : ℕ} {walks
     → ((w : Cell) → is_at_one walks w ≡ true → is_inside h w ≡ true)
     → ((w : Cell) → is_at_one walks w ≡ true → IsRight h t w d)
     → Queued h d (is_at_one walks) t t steps steps (length walks) (room_of h d walks) walks 0
-queued_none h i j = grind (arith, nat_tests)
+queued_none h i j = record {
+  abreast = standing h i j;
+  few = omega arith;
+  counted = omega arith;
+  later = omega arith;
+}
 
--- in a round: those walks that are left of it, and those that went on
+-- in a round: the walks from one on wait, and those before went on or ended
 pub record Round (h : GridData) (d : Dir) (old now : TablesData) (first steps : ℕ) (here onward : List Walk)
     (i : ℕ) : Type 0 where
-  pub queued : Queued h d (is_at_one here) old now first steps (length here) (room_of h d here)
-      (drop i here ++ onward) (length onward)
+  pub inside : (w : Cell) → is_at_one here w ≡ true → is_inside h w ≡ true
+  pub right : (w : Cell) → is_at_one here w ≡ true → IsRight h old w d
+  pub abreast : KeepAbreast h d (is_at_one here) old now onward (is_at_one (drop i here)) (length onward)
+  pub room : length onward + room_of h d onward + room_of h d (drop i here) ≤ room_of h d here
+  pub counted : steps ≤ first + i
+  pub later : first ≤ steps
   pub fewer : length onward ≤ i
   pub within : i ≤ length here
   pub behind : (w : Cell) → is_at_one onward w ≡ true → IsBehindOne d (is_at_one here) w
 
-pub round_begins : {h : GridData} {d : Dir} {t : TablesData} {steps : ℕ} {walks here onward : List Walk}
-    → AreReady h t d
+pub round_begins : {h : GridData} {d : Dir} {t : TablesData} {steps : ℕ} {walks : List Walk} → AreReady h t d
     → ((w : Cell) → is_at_one walks w ≡ true → is_inside h w ≡ true)
-    → ((w : Cell) → is_at_one walks w ≡ true → IsRight h t w d)
-    → here ≡ walks → onward ≡ [] → Round h d t t steps steps here onward 0
-round_begins h i j k l = grind (arith, nat_tests, append-nil, queued_none)
+    → ((w : Cell) → is_at_one walks w ≡ true → IsRight h t w d) → Round h d t t steps steps walks [] 0
+unfolding room_of
+round_begins ready inside right = record {
+  inside = inside;
+  right = right;
+  abreast = enter_none ready refl;
+  room = omega arith;
+  counted = omega arith;
+  later = omega arith;
+  fewer = omega arith;
+  within = omega arith;
+  behind = λ w k. absurd (cc);
+}
 
 -- a walk of a list stands where one does
 at_index : (vs : List Walk) (i : ℕ) (v : Walk) → i < length vs → is_at_one vs (get_or vs i v).at ≡ true
@@ -98,66 +127,59 @@ at_index (x ∷ xs) (suc i) v l = at_others x xs (get_or xs i v).at (at_index xs
 
 module _ {h : GridData} {d : Dir} {old now : TablesData} {first steps : ℕ} {here onward : List Walk} {i : ℕ}
     (v : Walk) (round : Round h d old now first steps here onward i) (l : i < length here) where
-  abbrev its_walk : Walk
-  its_walk = get_or here i v
+  abbrev its_cell : Cell
+  its_cell = (get_or here i v).at
 
-  abbrev others : List Walk
-  others = drop (i + 1) here ++ onward
+  pub stood : is_at_one here its_cell ≡ true
+  stood = at_index here i v l
 
-  queue_is : drop i here ++ onward ≡ its_walk ∷ others
-  queue_is = rw (drop_more here i v l) refl
+  pub right_now : IsRight h now its_cell d
+  right_now = right_stays round.abreast.mends its_cell d (round.inside its_cell stood)
+      (round.right its_cell stood)
 
-  queue : Queued h d (is_at_one here) old now first steps (length here) (room_of h d here)
-      (its_walk ∷ others) (length onward)
-  queue = rw (← queue_is) round.queued
+  split : (w : Cell) → is_same w its_cell ≡ false → is_at_one (drop (i + 1) here) w ≡ false
+      → is_at_one (drop i here) w ≡ false
+  split w s r = rw (drop_more here i v l) (false_or (is_same w its_cell) (is_at_one (drop (i + 1) here) w) s r)
 
-  pub round_next : {new : TablesData} {counted : ℕ} {on : Option Walk} → is_diagonal d ≡ true
+  pub round_next : {new : TablesData} {counted : ℕ} {on : Option Walk}
       → Mends h d (λ w. is_same w (get_or here i v).at) now new (length (option_to_list on))
       → ((later : Cell → Bool) → FollowBut h now d (λ w. is_same w (get_or here i v).at || later w)
       → FollowBut h new d (either (is_at_one (option_to_list on)) later))
       → ((next : Walk) → on ≡ Some next → IsOnward h new d (get_or here i v).at next.at)
       → counted ≤ steps + 1 → steps ≤ counted → {more : List Walk} → more ≡ onward ++ option_to_list on
       → Round h d old new first counted here more (i + 1)
-  round_next {new = new} {on = on} k mends follows onward_is c later {more = more} e = record {
-    queued = rw (queue_on, longer) (record {
-      abreast = abreast_next queue.abreast mends follows onward_is;
-      few = let few = queue.few in let a = room in omega arith;
-      counted = let counted = queue.counted in
-          let a = length-append others (option_to_list on) in omega arith;
-      later = let a = queue.later in omega arith;
-    });
+  round_next {new = new} {on = on} mends follows onward_is c later {more = more} e = record {
+    inside = round.inside;
+    right = round.right;
+    abreast = rw longer (enter_next round.abreast (λ w k. rw (is_same-cell w its_cell k) right_now)
+        (λ w k. rw (is_same-cell w its_cell k) stood) split
+        (step_on its_cell onward round.abreast.ready round.abreast.inside
+        (λ w k. (round.abreast.mended w k).right) mends follows onward_is e refl));
+    room = let a = round.room in let b = room_next h d its_cell new on onward_is in let f = room_more in
+        let g = room_left_over in let n = longer in omega arith;
+    counted = let a = round.counted in omega arith;
+    later = let a = round.later in omega arith;
     fewer = let a = longer in let b = one_more on in let c = round.fewer in omega arith;
     within = omega arith;
-    behind = λ w a. elim (or_either (is_at_one onward w) (is_at_one (option_to_list on) w)
-        (sym (at_both onward (option_to_list on) w) ∙ rw (← e) a)) [
+    behind = λ w a. elim (step_behind its_cell onward round.abreast.ready round.abreast.inside
+        (λ w k. (round.abreast.mended w k).right) mends follows onward_is e w a) [
           | inl b ↦ round.behind w b
-          | inr b ↦ of_next on onward_is w b
+          | inr b ↦ record { from = its_cell; stood = stood; behind = b }
         ];
   }
     where
       longer : length more ≡ length onward + length (option_to_list on)
       longer = rw e (length-append onward (option_to_list on))
 
-      room : length (option_to_list on) + room_of h d (others ++ option_to_list on)
-          ≤ room_of h d (its_walk ∷ others)
-      room = room_next h d its_walk others new on k onward_is
+      room_more : room_of h d more ≡ room_of h d onward + room_of h d (option_to_list on)
+      room_more = rw e (room_both h d onward (option_to_list on))
 
-      queue_on : drop (i + 1) here ++ more ≡ others ++ option_to_list on
-      queue_on = rw e (sym (append_assoc (drop (i + 1) here) onward (option_to_list on)))
+      room_left_over : room_of h d (drop i here) ≡ back_room h d its_cell + room_of h d (drop (i + 1) here)
+      room_left_over = rw (drop_more here i v l) (room_first h d (get_or here i v) (drop (i + 1) here))
 
       one_more : (o : Option Walk) → length (option_to_list o) ≤ 1
-      one_more o = grind (arith, nat_tests)
-
-      of_next : (o : Option Walk) → ((next : Walk) → o ≡ Some next → IsOnward h new d its_walk.at next.at)
-          → (w : Cell) → is_at_one (option_to_list o) w ≡ true → IsBehindOne d (is_at_one here) w
-      of_next None given w a = absurd (cc)
-      of_next (Some next) given w a =
-          let same = at_next next w a in
-          rw same (record {
-            from = its_walk.at;
-            stood = at_index here i v l;
-            behind = (given next refl).behind;
-          })
+      one_more None = omega arith
+      one_more (Some x) = omega arith
 
 pub some_on : {on : Option Walk} {next : Walk} (xs : List Walk) {ys : List Walk} → on ≡ Some next
     → ys ≡ xs ++ next ∷ []

@@ -1,13 +1,14 @@
 -- Walks back that keep abreast.
 use Rattle.std.specs.Prelude.{◌≡◌, ℕ, suc, ◌+◌, ◌-◌, Bool, true, false, ◌||◌, Some, List, [], ◌∷◌}
-use Rattle.std.specs.Prelude.{if◌then◌else◌}
+use Rattle.std.specs.Prelude.{if◌then◌else◌, length, ◌≤◌}
 use Rattle.grid_moves.specs.declared.Cell.{Cell}
 use Rattle.grid_moves.specs.declared.Dir.{Dir}
 use Rattle.grid_moves.specs.Grid.{GridData, is_inside}
 use Rattle.grid_moves.specs.Move.{ahead, is_same}
 use Rattle.plus_tables.specs.Tables.{TablesData}
 use Rattle.table_repair.specs.declared.walks.Walk.{Walk}
-use Rattle.table_repair.specs.Mending.{IsRight, AreReady, FollowBut, IsMended, Mends, either, goes_down}
+use Rattle.table_repair.specs.Mending.{IsRight, AreReady, FollowBut, IsMended, Mends, either}
+use Rattle.table_repair.specs.Lines.{lines_rise, line_of, lines_of}
 
 -- one of the walks stands at the cell
 abbrev pub is_at_one : List Walk → Cell → Bool
@@ -41,11 +42,21 @@ pub record KeepAbreast (h : GridData) (d : Dir) (starts : Cell → Bool) (old no
   pub follows : (later : Cell → Bool) → FollowBut h old d (either starts later)
       → FollowBut h now d (either (is_at_one walks) (either left later))
 
--- how many rows lie behind a cell, itself among them
+-- how many lines across the direction lie behind a cell, its own among them
 abbrev pub back_room : GridData → Dir → Cell → ℕ
-back_room h d w = suc (if goes_down d then w.y else h.height - suc w.y)
+back_room h d w = suc (if lines_rise d then line_of d w else lines_of h d - suc (line_of d w))
 
 -- and behind all walks
 unfoldable pub room_of : GridData → Dir → List Walk → ℕ
 room_of h d [] = 0
 room_of h d (v ∷ vs) = back_room h d v.at + room_of h d vs
+
+-- One round: each walk went one move back, or ended.
+pub record LedOn (h : GridData) (d : Dir) (old new : TablesData) (walks onward : List Walk) (before after : ℕ)
+    : Type 0 where
+  pub abreast : KeepAbreast h d (is_at_one walks) old new onward no_cell (length onward)
+  pub behind : (w : Cell) → is_at_one onward w ≡ true → IsBehindOne d (is_at_one walks) w
+  pub room : length onward + room_of h d onward ≤ room_of h d walks
+  pub fewer : length onward ≤ length walks
+  pub steps : after ≤ before + length walks
+  pub later : before ≤ after

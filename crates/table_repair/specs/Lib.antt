@@ -3,4 +3,4 @@ pub mod Counted
 pub mod Mending
 pub mod Repaired
 pub mod Abreast
-pub mod Blocks
+pub mod Lines

@@ -1,6 +1,6 @@
 -- How the entries for one direction are made right, from the far end of each line.
 use Rattle.std.specs.Prelude.{◌≡◌, ℕ, zero, suc, ◌+◌, ◌≤◌, ◌⊎◌, Bool, true, false, ◌&&◌, ◌||◌, ◌-◌, Option}
-use Rattle.std.specs.Prelude.{Some, option_and_then, if◌then◌else◌, nat_le, nat_lt, nat_eq, length, None, not}
+use Rattle.std.specs.Prelude.{Some, option_and_then, if◌then◌else◌, nat_le, nat_lt, length, None, not}
 use Rattle.std.specs.Prelude.{min, List, [], ◌∷◌}
 use Rattle.grid_moves.specs.declared.Cell.{Cell}
 use Rattle.grid_moves.specs.declared.Dir.{Dir}
@@ -91,10 +91,6 @@ abbrev pub without_far : Bool → Span → Span
 without_far from_end s =
     if nat_lt s.first s.end then (if from_end then record { first = s.first; end = s.end - 1 }
     else record { first = s.first + 1; end = s.end }) else s
-
--- the cell lies in this row and one of these columns
-abbrev pub is_in_row : ℕ → Span → Cell → Bool
-is_in_row y columns v = nat_eq v.y y && is_among columns v.x
 
 -- the cell lies in one of these rows and columns
 abbrev pub is_in : Span → Span → Cell → Bool

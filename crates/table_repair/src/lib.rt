@@ -9,8 +9,6 @@
 #![tactic(auto)]
 
 pub mod laws;
-mod mend;
-mod narrow;
 mod repair;
 mod repairer;
 mod span;

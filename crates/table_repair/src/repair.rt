@@ -1,15 +1,15 @@
 //! The repair: straight entries first, and then the diagonal ones.
 
-ghost use Rattle.std.specs.Prelude.{◌≡◌, ◌+◌, ◌*◌, ◌<◌, ◌≤◌, true, length};
+ghost use Rattle.std.specs.Prelude.{◌≡◌, ◌+◌, ◌*◌, ◌<◌, ◌≤◌, true, [], length};
 ghost use Rattle.grid_moves.specs.declared.Dir.{Dir};
 ghost use Rattle.pruning.specs.Turns.{is_diagonal};
 ghost use Rattle.table_repair.specs.Mending as spec;
 ghost use Rattle.table_repair.specs.Mending.{AreReady, AreRight, AreSound, FollowBut, IsBlock, Mends, MendsKind};
 ghost use Rattle.table_repair.specs.Mending.{any_cell, is_in, is_in_reach, is_listed, is_straight, span_length};
 
-use crate::narrow::sweep_narrow;
 use crate::span::{Span, span_next, widened};
 use crate::sweep::{goes_down, goes_right, sweep};
+use crate::walks::Walks;
 use grid_moves::{Dir, Grid, Terrain};
 use plus_tables::Tables;
 use std::sync::ledger::Ledger;
@@ -33,14 +33,15 @@ pub fn sweep_straight<L: Ledger>(
         → FollowBut grid.now tables.old d (is_in rows columns) }
     ensures mends { MendsKind grid.now is_straight (is_in rows columns) tables.old tables.new result }
     ensures right { (d : Dir) → is_listed dirs.now d ≡ true → AreRight grid.now tables.new d }
-    ensures few { result ≤ 68719476736 * length dirs.now }
+    ensures few { result ≤ 17592204918784 * length dirs.now }
     ensures steps { steps.new
         ≤ steps.old + result + length dirs.now * (span_length rows * span_length columns) }
     ensures later { steps.old ≤ steps.new }
 {
+    let mut walks = Walks::new();
     let mut changed = 0;
     for d in dirs {
-        changed += sweep(tables, grid, rows, columns, *d, steps);
+        changed += sweep(tables, grid, &mut walks, rows, columns, *d, steps);
     }
     changed
 }
@@ -68,6 +69,7 @@ fn rows_behind(grid: &Grid, rows: Span, by: u16, d: Dir) -> Span
 fn sweep_diagonal<L: Ledger>(
     tables: &mut Tables,
     grid: &Grid,
+    walks: &mut Walks,
     rows: Span,
     columns: Span,
     by: u16,
@@ -75,20 +77,22 @@ fn sweep_diagonal<L: Ledger>(
     steps: &mut Steps<L>,
 ) -> u64
     requires ready { AreReady grid.now tables.old d }
+    requires none { walks.old.items ≡ [] }
     requires diagonal { is_diagonal d ≡ true }
     requires block { IsBlock grid.now rows columns }
     requires by { by ≤ 4096 }
     requires waits { FollowBut grid.now tables.old d (is_in_reach grid.now rows columns by d) }
     ensures mends { Mends grid.now d any_cell tables.old tables.new result }
     ensures right { AreRight grid.now tables.new d }
-    ensures few { result ≤ 137438953472 }
+    ensures none { walks.new.items ≡ [] }
+    ensures few { result ≤ 35184409837568 }
     ensures steps { steps.new ≤ steps.old + result + 3 * (grid.now.width + grid.now.height) }
     ensures later { steps.old ≤ steps.new }
 {
     let wide = columns_in_reach(grid, columns, by, d);
     let rear = rows_behind(grid, rows, by, d);
-    let changed = sweep(tables, grid, rows, wide, d, steps);
-    changed + sweep_narrow(tables, grid, rear, columns, d, steps)
+    let changed = sweep(tables, grid, walks, rows, wide, d, steps);
+    changed + sweep(tables, grid, walks, rear, columns, d, steps)
 }
 
 /// Makes the entries for these diagonal directions right that wait in reach of the block; says how many
@@ -112,14 +116,15 @@ pub fn sweep_diagonals<L: Ledger>(
         → FollowBut grid.now tables.old d (is_in_reach grid.now rows columns by d) }
     ensures mends { MendsKind grid.now is_diagonal any_cell tables.old tables.new result }
     ensures right { (d : Dir) → is_listed dirs.now d ≡ true → AreRight grid.now tables.new d }
-    ensures few { result ≤ 137438953472 * length dirs.now }
+    ensures few { result ≤ 35184409837568 * length dirs.now }
     ensures steps { steps.new
         ≤ steps.old + result + length dirs.now * (3 * (grid.now.width + grid.now.height)) }
     ensures later { steps.old ≤ steps.new }
 {
+    let mut walks = Walks::new();
     let mut changed = 0;
     for d in dirs {
-        changed += sweep_diagonal(tables, grid, rows, columns, by, *d, steps);
+        changed += sweep_diagonal(tables, grid, &mut walks, rows, columns, by, *d, steps);
     }
     changed
 }

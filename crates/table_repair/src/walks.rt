@@ -1,23 +1,19 @@
-//! Walks back along diagonals side by side, a move for each in turn.
+//! Walks back side by side, a move for each in turn.
 //!
 //! Cells beside each other in a row lie on diagonals beside each other, and their entries lie side by side in
 //! memory. One walk alone takes another line of memory for each entry. Walks that keep abreast take each line
 //! once, and in order. No walk rests on another, so the same entries are refreshed whatever their order.
 
-ghost use Rattle.std.specs.Prelude.{◌≡◌, ◌+◌, ◌*◌, ◌<◌, ◌≤◌, Bool, true, ◌||◌, Some, [], length, slice_set};
+ghost use Rattle.std.specs.Prelude.{◌≡◌, ◌+◌, ◌-◌, ◌*◌, ◌<◌, ◌≤◌, ◌⊎◌, Bool, true, ◌||◌, Some, [], length, slice_set};
 ghost use Rattle.std.specs.Option.{option_to_list};
 ghost use Rattle.grid_moves.specs.declared.Cell.{Cell};
-ghost use Rattle.grid_moves.specs.Grid.{is_inside};
-ghost use Rattle.grid_moves.specs.Move.{is_same};
-ghost use Rattle.pruning.specs.Turns.{is_diagonal};
-ghost use Rattle.table_repair.specs.Mending.{IsRight, AreReady, FollowBut, Mends, either, is_in_row, span_length};
-ghost use Rattle.table_repair.specs.Blocks.{SweepsRow};
-ghost use Rattle.table_repair.specs.Abreast.{IsBehindOne, IsOnward, KeepAbreast, is_at_one, no_cell, room_of};
+ghost use Rattle.grid_moves.specs.Grid.{IsGrid, is_inside};
+ghost use Rattle.grid_moves.specs.Move.{ahead, column_ahead, is_same, opposite, row_ahead};
+ghost use Rattle.table_repair.specs.Mending.{IsRight, AreReady, FollowBut, Mends, behind_on, either};
+ghost use Rattle.table_repair.specs.Abreast.{IsOnward, KeepAbreast, LedOn, is_at_one, no_cell};
 
-use crate::mend::cell_before;
-use crate::span::Span;
 use arrayvec::ArrayVec;
-use grid_moves::{Cell, Dir, Grid};
+use grid_moves::{Cell, Dir, Grid, Terrain, before, dir_number};
 use plus_tables::Tables;
 use std::sync::ledger::Ledger;
 use steps::Steps;
@@ -36,8 +32,46 @@ impl Default for Walk {
     }
 }
 
-/// Walks that keep abreast, at most 512.
-pub type Walks = ArrayVec<Walk, 512>;
+/// Walks that keep abreast, at most 256.
+pub type Walks = ArrayVec<Walk, 256>;
+
+// One more than the columns by which a move back along each direction leads to the east, and one more than the
+// rows by which it leads to the south. They are read from tables, so that there is no branch on the direction.
+const COLUMNS_BACK_AND_ONE: [u16; 8] = [1, 0, 0, 0, 1, 2, 2, 2];
+
+const ROWS_BACK_AND_ONE: [u16; 8] = [2, 2, 1, 0, 0, 0, 1, 2];
+
+// One more than the columns by which a move back along d leads to the east.
+#[inline(always)]
+fn columns_back_and_one(d: Dir) -> u16
+    ensures { column_ahead (opposite d) 1 ≡ Some result }
+{
+    COLUMNS_BACK_AND_ONE[dir_number(d) as usize]
+}
+
+// One more than the rows by which a move back along d leads to the south.
+#[inline(always)]
+fn rows_back_and_one(d: Dir) -> u16
+    ensures { row_ahead (opposite d) 1 ≡ Some result }
+{
+    ROWS_BACK_AND_ONE[dir_number(d) as usize]
+}
+
+// The cell behind, if it lies on the map.
+#[inline(always)]
+fn cell_before(grid: &Grid, d: Dir, v: Cell) -> Option<Cell>
+    requires grid { IsGrid grid.now }
+    requires inside { is_inside grid.now v ≡ true }
+    ensures { result ≡ behind_on grid.now d v }
+{
+    let x = before(v.x + columns_back_and_one(d));
+    let y = before(v.y + rows_back_and_one(d));
+    if x < grid.width() && y < grid.height() {
+        Some(Cell { x, y })
+    } else {
+        None
+    }
+}
 
 // Makes the entry for `d` at the cell behind a walk right; the walk from there, if the entry changed.
 #[inline(always)]
@@ -77,9 +111,9 @@ fn set_walk(walks: &mut Walks, place: usize, walk: Walk)
     walks.as_mut_slice()[place] = walk;
 }
 
-/// Leads each walk one move back; those whose entry changed go on, the others end. Those that go on move to
-/// the front of the list, so a round touches no more of it than the walks that are left.
-pub fn lead_on<L: Ledger>(
+// Leads each walk one move back; those whose entry changed go on, the others end. Those that go on move to the
+// front of the list, so a round touches no more of it than the walks that are left.
+fn lead_all<L: Ledger>(
     tables: &mut Tables,
     grid: &Grid,
     walks: &mut Walks,
@@ -87,19 +121,9 @@ pub fn lead_on<L: Ledger>(
     steps: &mut Steps<L>,
 )
     requires ready { AreReady grid.now tables.old d }
-    requires diagonal { is_diagonal d ≡ true }
     requires inside { (w : Cell) → is_at_one walks.old.items w ≡ true → is_inside grid.now w ≡ true }
     requires right { (w : Cell) → is_at_one walks.old.items w ≡ true → IsRight grid.now tables.old w d }
-    ensures abreast { KeepAbreast grid.now d (is_at_one walks.old.items) tables.old tables.new
-        walks.new.items no_cell (length walks.new.items) }
-    ensures behind { (w : Cell) → is_at_one walks.new.items w ≡ true
-        → IsBehindOne d (is_at_one walks.old.items) w }
-    ensures room { length walks.new.items + room_of grid.now d walks.new.items
-        ≤ room_of grid.now d walks.old.items }
-    ensures fewer { length walks.new.items ≤ length walks.old.items }
-    ensures short { length walks.new.items ≤ 512 }
-    ensures steps { steps.new ≤ steps.old + length walks.old.items }
-    ensures later { steps.old ≤ steps.new }
+    ensures { LedOn grid.now d tables.old tables.new walks.old.items walks.new.items steps.old steps.new }
 {
     let all = walks.len();
     let mut onward: usize = 0;
@@ -113,6 +137,25 @@ pub fn lead_on<L: Ledger>(
     walks.truncate(onward);
 }
 
+/// Leads each walk one move back, if there are any: in most lines of a small repair there are none.
+#[inline(always)]
+pub fn lead_on<L: Ledger>(
+    tables: &mut Tables,
+    grid: &Grid,
+    walks: &mut Walks,
+    d: Dir,
+    steps: &mut Steps<L>,
+)
+    requires ready { AreReady grid.now tables.old d }
+    requires inside { (w : Cell) → is_at_one walks.old.items w ≡ true → is_inside grid.now w ≡ true }
+    requires right { (w : Cell) → is_at_one walks.old.items w ≡ true → IsRight grid.now tables.old w d }
+    ensures { LedOn grid.now d tables.old tables.new walks.old.items walks.new.items steps.old steps.new }
+{
+    if !walks.is_empty() {
+        lead_all(tables, grid, walks, d, steps);
+    }
+}
+
 /// Leads all walks back, each as long as entries change; says how many did.
 pub fn lead_out<L: Ledger>(
     tables: &mut Tables,
@@ -122,8 +165,7 @@ pub fn lead_out<L: Ledger>(
     steps: &mut Steps<L>,
 ) -> u64
     requires ready { AreReady grid.now tables.old d }
-    requires diagonal { is_diagonal d ≡ true }
-    requires short { length walks.old.items ≤ 512 }
+    requires short { length walks.old.items ≤ 256 }
     requires inside { (w : Cell) → is_at_one walks.old.items w ≡ true → is_inside grid.now w ≡ true }
     requires right { (w : Cell) → is_at_one walks.old.items w ≡ true → IsRight grid.now tables.old w d }
     ensures abreast { KeepAbreast grid.now d (is_at_one walks.old.items) tables.old tables.new
@@ -135,45 +177,73 @@ pub fn lead_out<L: Ledger>(
 {
     let mut changed = 0;
     'round: while !walks.is_empty() {
-        lead_on(tables, grid, walks, d, steps);
+        lead_all(tables, grid, walks, d, steps);
         changed += walks.len() as u64;
     }
     changed
 }
 
-/// A walk more at each cell of a row's piece.
-pub fn enter(walks: &mut Walks, y: u16, columns: Span)
-    requires some { columns.first ≤ columns.end }
-    requires few { length walks.old.items + span_length columns ≤ 512 }
-    ensures there { (w : Cell) → is_at_one walks.new.items w
-        ≡ (is_at_one walks.old.items w || is_in_row y columns w) }
-    ensures length { length walks.new.items ≡ length walks.old.items + span_length columns }
-{
-    for x in columns.first..columns.end {
-        walks.push(Walk { at: Cell { x, y } });
-    }
-}
-
-/// Makes the entries for a diagonal direction right that wait for the cells of this piece of a row, which are
-/// right; says how many changed. The piece has at most 512 columns.
-pub fn mend_abreast<L: Ledger>(
+// Leads all walks out if no further one fits; says how many entries changed.
+fn make_room<L: Ledger>(
     tables: &mut Tables,
     grid: &Grid,
-    y: u16,
-    columns: Span,
+    walks: &mut Walks,
     d: Dir,
     steps: &mut Steps<L>,
 ) -> u64
     requires ready { AreReady grid.now tables.old d }
-    requires diagonal { is_diagonal d ≡ true }
-    requires some { columns.first ≤ columns.end }
-    requires short { span_length columns ≤ 512 }
-    requires row { y < grid.now.height }
-    requires columns { columns.end ≤ grid.now.width }
-    requires right { (w : Cell) → is_in_row y columns w ≡ true → IsRight grid.now tables.old w d }
-    ensures { SweepsRow grid.now d y columns tables.old tables.new steps.old steps.new result }
+    requires short { length walks.old.items ≤ 256 }
+    requires inside { (w : Cell) → is_at_one walks.old.items w ≡ true → is_inside grid.now w ≡ true }
+    requires right { (w : Cell) → is_at_one walks.old.items w ≡ true → IsRight grid.now tables.old w d }
+    ensures abreast { KeepAbreast grid.now d (is_at_one walks.old.items) tables.old tables.new
+        walks.new.items no_cell result }
+    ensures same { (w : Cell) → is_at_one walks.new.items w ≡ true → is_at_one walks.old.items w ≡ true }
+    ensures room { length walks.new.items ≤ 255 }
+    ensures few { result ≤ 1048576 }
+    ensures steps { steps.new + length walks.new.items ≤ steps.old + result + length walks.old.items }
+    ensures later { steps.old ≤ steps.new }
 {
-    let mut walks = Walks::new();
-    enter(&mut walks, y, columns);
-    lead_out(tables, grid, &mut walks, d, steps)
+    if walks.remaining_capacity() < 1 {
+        lead_out(tables, grid, walks, d, steps)
+    } else {
+        0
+    }
+}
+
+/// Lets one walk more begin, at a cell whose entry is right, and leads it one move back. Entries that it changed
+/// are counted besides those before.
+#[inline(always)]
+pub fn begin<L: Ledger>(
+    tables: &mut Tables,
+    grid: &Grid,
+    walks: &mut Walks,
+    from: Cell,
+    d: Dir,
+    changed: u64,
+    steps: &mut Steps<L>,
+) -> u64
+    requires ready { AreReady grid.now tables.old d }
+    requires short { length walks.old.items ≤ 255 }
+    requires inside { (w : Cell) → is_at_one walks.old.items w ≡ true → is_inside grid.now w ≡ true }
+    requires right { (w : Cell) → is_at_one walks.old.items w ≡ true → IsRight grid.now tables.old w d }
+    requires from_inside { is_inside grid.now from ≡ true }
+    requires from_right { IsRight grid.now tables.old from d }
+    requires few { changed ≤ 4294971648 }
+    ensures abreast { KeepAbreast grid.now d (either (is_at_one walks.old.items) (λ w. is_same w from))
+        tables.old tables.new walks.new.items no_cell (result - changed) }
+    ensures behind { (w : Cell) → is_at_one walks.new.items w ≡ true
+        → (is_at_one walks.old.items w ≡ true) ⊎ (ahead d w ≡ Some from) }
+    ensures short { length walks.new.items ≤ 255 }
+    ensures more { changed ≤ result }
+    ensures few { result ≤ changed + 1048577 }
+    ensures steps { steps.new + length walks.new.items + changed ≤ steps.old + result + length walks.old.items + 1 }
+    ensures later { steps.old ≤ steps.new }
+{
+    match walk_on(tables, grid, Walk { at: from }, d, steps) {
+        Some(next) => {
+            walks.push(next);
+            changed + (1 + make_room(tables, grid, walks, d, steps))
+        }
+        None => changed,
+    }
 }

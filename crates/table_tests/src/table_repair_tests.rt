@@ -169,11 +169,11 @@ fn five_hundred_edits(rt: HostRuntime) -> Result<(), Fail> {
     Ok(())
 }
 
-// In an open map changes spread over more than 64 rows, whose walks keep abreast.
+// In an open map more walks begin in a line than keep abreast.
 #[test]
 fn edits_of_an_open_map(rt: HostRuntime) -> Result<(), Fail> {
     for corner in [Corner::Never, Corner::One, Corner::Both] {
-        assert!(rt; edits_agree::<Brand>(rt.alloc(), 200, 0, 20, corner, Blank::new(1))?);
+        assert!(rt; edits_agree::<Brand>(rt.alloc(), 300, 0, 10, corner, Blank::new(1))?);
     }
     Ok(())
 }

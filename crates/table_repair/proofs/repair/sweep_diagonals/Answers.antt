@@ -41,6 +41,7 @@ loop-d-preserved g c =
       few = omega arith;
       counted = counted_pass c.args.steps.now c.loop-d.steps _ c.loop-d.changed
           c.sweep_diagonal-changed.result c.loop-d.d-index _ i.counted c.sweep_diagonal-changed.ensures.steps;
+      none = c.sweep_diagonal-changed.ensures.none;
       later = later_on i.later c.sweep_diagonal-changed.ensures.later;
     }
 

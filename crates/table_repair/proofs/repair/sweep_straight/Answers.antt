@@ -38,6 +38,7 @@ loop-d-preserved g c =
       few = omega arith;
       counted = counted_pass c.args.steps.now c.loop-d.steps _ c.loop-d.changed c.sweep-changed.result
           c.loop-d.d-index _ i.counted c.sweep-changed.ensures.steps;
+      none = c.sweep-changed.ensures.none;
       later = later_on i.later c.sweep-changed.ensures.later;
     }
 

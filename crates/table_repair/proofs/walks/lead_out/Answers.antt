@@ -8,14 +8,14 @@ use Rattle.table_repair.proofs.walks.lead_out.Goals as goal
 pub round-init : goal.round-init
 round-init g c = queued_none c.requires.ready c.requires.inside c.requires.right
 
-pub lead_on-requires-clause-ready : goal.lead_on-requires-clause-ready
-lead_on-requires-clause-ready g c = c.round.invariant.abreast.ready
+pub lead_all-requires-clause-ready : goal.lead_all-requires-clause-ready
+lead_all-requires-clause-ready g c = c.round.invariant.abreast.ready
 
-pub lead_on-requires-clause-inside : goal.lead_on-requires-clause-inside
-lead_on-requires-clause-inside g c = c.round.invariant.abreast.inside
+pub lead_all-requires-clause-inside : goal.lead_all-requires-clause-inside
+lead_all-requires-clause-inside g c = c.round.invariant.abreast.inside
 
-pub lead_on-requires-clause-right : goal.lead_on-requires-clause-right
-lead_on-requires-clause-right g c = λ w k. (c.round.invariant.abreast.mended w k).right
+pub lead_all-requires-clause-right : goal.lead_all-requires-clause-right
+lead_all-requires-clause-right g c = λ w k. (c.round.invariant.abreast.mended w k).right
 
 pub overflow_add-changed : goal.overflow_add-changed
 overflow_add-changed g c =
@@ -23,7 +23,7 @@ overflow_add-changed g c =
     let room = room_few c.args.grid.now c.args.d c.args.walks.now.items c.requires.ready.grid
     c.requires.inside in
     let short = c.requires.short in
-    let less = c.lead_on.ensures.room in
+    let less = c.lead_all.ensures.room in
     let len = c.len.ensures.value in
     omega arith
 
@@ -32,7 +32,7 @@ round-smaller g c = grind (arith, room_left)
 
 pub round-preserved : goal.round-preserved
 round-preserved g c = rw c.len.ensures.value (rounds_more c.round.invariant
-    c.lead_on.ensures.abreast c.lead_on.ensures.room c.lead_on.ensures.steps c.lead_on.ensures.later)
+    c.lead_all.ensures.abreast c.lead_all.ensures.room c.lead_all.ensures.steps c.lead_all.ensures.later)
 
 pub returns-clause-abreast : goal.returns-clause-abreast
 returns-clause-abreast g c = c.round.invariant.abreast

@@ -3,7 +3,7 @@ use Rattle.std.proofs.Common.{sym, ◌∙◌}
 use Rattle.table_repair.proofs.Lines.{behind_on-is}
 use Rattle.table_repair.proofs.Mends.{on_inside, nothing_mended}
 use Rattle.table_repair.proofs.Walking.{rests_right, nothing_set}
-use Rattle.table_repair.proofs.Onward.{follows_end, follows_stay, mends_one, follows_on, onward_told}
+use Rattle.table_repair.proofs.Walking.{follows_end, follows_stay, mends_one, follows_on, onward_told}
 use Rattle.table_repair.proofs.walks.walk_on.Goals as goal
 
 pub refresh-requires-clause-rests : goal.refresh-requires-clause-rests
@@ -24,32 +24,27 @@ refresh-requires-clause-inside g c =
 
 pub returns-then-refresh-clause-mends : goal.returns-then-refresh-clause-mends
 returns-then-refresh-clause-mends g c =
-    mends_one c.args.walk.at c.requires.ready c.requires.inside
-    c.requires.right c.in-Some.before (sym c.cell_before.ensures ∙ c.in-Some.is)
+    mends_one c.args.walk.at c.requires.ready c.in-Some.before (sym c.cell_before.ensures ∙ c.in-Some.is)
     c.refresh.ensures.is (c.refresh.ensures.changed c.if-refresh.true)
 
 pub returns-then-refresh-clause-follows : goal.returns-then-refresh-clause-follows
 returns-then-refresh-clause-follows g c =
-    follows_on c.args.walk.at c.requires.ready c.requires.inside
-    c.requires.right c.in-Some.before (sym c.cell_before.ensures ∙ c.in-Some.is)
-    c.refresh.ensures.is (c.refresh.ensures.changed c.if-refresh.true)
+    follows_on c.args.walk.at c.requires.ready c.in-Some.before (sym c.cell_before.ensures ∙ c.in-Some.is)
+    c.refresh.ensures.is
 
 pub returns-then-refresh-clause-onward : goal.returns-then-refresh-clause-onward
 returns-then-refresh-clause-onward g c =
-    onward_told c.args.walk.at c.requires.ready c.requires.inside
-    c.requires.right c.in-Some.before (sym c.cell_before.ensures ∙ c.in-Some.is)
-    c.refresh.ensures.is (c.refresh.ensures.changed c.if-refresh.true)
+    onward_told c.args.walk.at c.requires.ready c.in-Some.before (sym c.cell_before.ensures ∙ c.in-Some.is)
+    c.refresh.ensures.is
 
 pub returns-else-refresh-clause-follows : goal.returns-else-refresh-clause-follows
 returns-else-refresh-clause-follows g c =
-    follows_stay c.args.walk.at c.requires.ready c.requires.inside
-    c.requires.right c.in-Some.before (sym c.cell_before.ensures ∙ c.in-Some.is)
+    follows_stay c.args.walk.at c.requires.ready c.in-Some.before (sym c.cell_before.ensures ∙ c.in-Some.is)
     c.refresh.ensures.is (c.refresh.ensures.stayed c.if-refresh.false)
 
 pub returns-in_default-clause-follows : goal.returns-in_default-clause-follows
 returns-in_default-clause-follows g c =
-    follows_end c.args.walk.at c.requires.ready c.requires.inside
-    c.requires.right (sym c.cell_before.ensures ∙ c.in_default.is)
+    follows_end c.args.walk.at c.requires.ready (sym c.cell_before.ensures ∙ c.in_default.is)
 
 pub returns-else-refresh-clause-mends : goal.returns-else-refresh-clause-mends
 returns-else-refresh-clause-mends g c =
