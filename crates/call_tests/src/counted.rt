@@ -45,22 +45,23 @@ help | --help => - its text is compared at its ends alone, in ample.rt
 // each rule of the sets before a colon. The first sets are all that it takes; with none it takes neither.
 const COMMANDS: &str = "
 query m 0 0 0 0 | engine=any rule=any: walk, water, point, none, apart, outside, blocked, cells, trace, \
-    tables, map faults, absent, streams | engine=small rule=any: large | engine=loading rule=any: table faults \
-    | engine=jumpless rule=any: states
+    tables, map faults, absent, streams | engine=small rule=any: large | engine=loading rule=any: table faults, water tables \
+    | engine=jumpless rule=any: states | engine=jumping rule=any: to W, to SW, to NW
 solve m s | engine=each rule=any: walk, water, point, none, apart, outside, blocked, ok, same, empty, cells, \
-    trace, tables, map faults, script faults, absent, streams | engine=loading rule=any: table faults \
-    | engine=plain rule=any: states
+    trace, tables, map faults, script faults, absent, streams \
+    | engine=loading rule=any: table faults, water tables | engine=plain rule=any: states
 live m | engine=each rule=any: walk, water, point, none, apart, outside, blocked, ok, same, empty, cells, \
-    trace, tables, map faults, script faults, absent, streams | engine=loading rule=any: table faults \
-    | engine=plain rule=any: states
+    trace, tables, map faults, script faults, absent, streams \
+    | engine=loading rule=any: table faults, water tables | engine=plain rule=any: states
 scen m s | engine=any rule=any: agree, near, off, scale, outside, blocked, none, apart, point, water, empty, \
     taken, done, tables, map faults, scen faults, absent, streams \
-    | engine=small rule=any: large | engine=loading rule=any: table faults | engine=jumpless rule=any: states
+    | engine=small rule=any: large | engine=loading rule=any: table faults, water tables \
+    | engine=jumpless rule=any: states
 judge m s t | rule=any: accepted, refused, scale, outside, blocked, none, apart, point, water, empty, done, \
     map faults, scen faults, walks faults, absent, streams
 lengths m s | rule=any: lengths, scale, outside, blocked, none, apart, point, water, empty, done, \
     map faults, scen faults, absent, streams
-problems m 1 1 | rule=any: problems, few, map faults, absent, streams
+problems m 1 1 | rule=any: problems, few, water, apart, map faults, absent, streams
 prove m 0 0 0 0 | rule=any: least, water, point, none, apart, outside, blocked, map faults, absent, streams
 check m s | rule=any: least, water, point, none, apart, size, ends, walk, start, goal, move, open, \
     map faults, cert faults, absent, streams
@@ -69,7 +70,7 @@ drill 1 | engine=each rule=any: drill, streams | engine=plain rule=any: states
 draw m 0 0 0 0 | engine=each rule=any: walk, trace, water, point, none, apart, outside, blocked, map faults, \
     absent, streams | engine=plain rule=any: states
 costs m 0 0 | rule=any: costs, water, outside, blocked, map faults, absent, streams
-tables m | rule=any: tables, map faults, absent, streams
+tables m | rule=any: tables, water tables, map faults, absent, streams
 boxes m 0 0 | rule=any: boxes, water, outside, blocked, large, map faults, absent, streams
 moves m 0 0 | rule=any: moves, water, outside, blocked, large, map faults, absent, streams
 --help | help
