@@ -181,6 +181,43 @@ fn each_kind_of_outcome_has_a_row_or_a_reason(rt: HostRuntime) -> Result<(), Fai
     Ok(())
 }
 
+// The kinds whose name stands in a row's lines, before their sum. `lengths` prints nothing of what it leaves out,
+// and a certificate that claims that there is no walk may be refused.
+const PRINTED: &str =
+    "walk, none, outside, blocked, ok, same, agree, near, off, scale, accepted, refused, least, \
+    size, ends, start, goal, move, open, large, M1, M2, M3, M4, M5, M6, C1, C2, C3, C4, T1, T2, K1, K2, P1, P2, F1, \
+    F2, F3";
+
+fn has_word(lines: &str, name: &str) -> bool {
+    for line in lines.split('/') {
+        for word in line.split(' ') {
+            if word == name {
+                return true;
+            }
+        }
+    }
+    false
+}
+
+#[test]
+fn each_row_prints_the_kind_that_it_shows(rt: HostRuntime) {
+    for table in TABLES {
+        for line in table.lines() {
+            let Some(row) = row_of(line) else {
+                continue;
+            };
+            let (lines, _) = row.lines.split_once("/sum ").unwrap_or((row.lines, ""));
+            let command = row.words.split_whitespace().next().unwrap_or("");
+            let is_told = row.status <= 6 && command != "lengths" && command != "check";
+            for name in row.shows.split(',') {
+                if is_told && has_name(PRINTED, name.trim()) {
+                    assert_eq!(rt; has_word(lines, name.trim()), true, "{line}");
+                }
+            }
+        }
+    }
+}
+
 // How many lines the command of this name has.
 fn count_lines(name: &str) -> u64 {
     let mut count = 0u64;
