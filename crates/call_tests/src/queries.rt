@@ -90,7 +90,7 @@ states | query m 0 0 2 0 states=cell engine=jumpless rule=any | ... => 2 jps: wo
 states | query m 0 0 2 0 states=arrival engine=jumpless rule=any | ... => 2 jps: word 8
 states | query m 0 0 2 0 states=cell rule=any | ... => 2 jps: word 9
 tables, streams | query m 0 0 2 0 tables=t engine=loading rule=any | ... | | % => 0 walk 2 0 0,0 2,0
-water tables | query m 0 0 2 0 tables=t engine=loading rule=any | WWW | | %water => 0 walk 2 0 0,0 2,0
+water tables | query m 1 0 2 0 tables=t engine=loading rule=any | .WW | | %water => 0 walk 1 0 1,0 2,0
 tables | query m 0 0 2 0 tables=t engine=other rule=any | ... | | % => 2 jps: word 8
 tables | query m 0 0 2 0 tables=t engine=small rule=any | ... | | % => 2 jps: word 8
 ";
@@ -159,9 +159,9 @@ states | live m states=cell engine=plain rule=any | ... | query 0 0 2 0 => 2 jps
 tables, streams | scripted tables=t engine=loading rule=any | ... \
     | query 0 0 2 0/block 1 0/query 0 0 2 0/free 1 0/query 2 0 0 0 | % \
     => 0 walk 2 0 0,0 2,0/ok/none/ok/walk 2 0 2,0 0,0
-water tables | scripted tables=t engine=loading rule=any | WWW \
-    | query 0 0 2 0/block 1 0/query 0 0 2 0/flood 1 0/query 2 0 0 0/free 0 0/query 0 0 1 0 | %water \
-    => 0 walk 2 0 0,0 2,0/ok/none/ok/walk 2 0 2,0 0,0/ok/none
+water tables | scripted tables=t engine=loading rule=any | .WW \
+    | query 1 0 2 0/block 2 0/query 1 0 2 0/flood 2 0/query 2 0 1 0/query 0 0 1 0/flood 0 0/query 0 0 2 0 | %water \
+    => 0 walk 1 0 1,0 2,0/ok/blocked/ok/walk 1 0 2,0 1,0/none/ok/walk 2 0 0,0 2,0
 tables | solve m s tables=t engine=other rule=any | ... | query 0 0 2 0 | % => 2 jps: word 5
 tables | live m tables=t engine=other rule=any | ... | query 0 0 2 0 | % => 2 jps: word 4
 T1 | solve m s engine=each rule=any | ... | query 0 0 2 0/bolck 1 0/block 1 0 => 3 jps: script T1 line 2

@@ -11,11 +11,11 @@
 //! them have the same outcome. An engine that jumps counts twice, with one state for each direction of arrival
 //! at a cell, and with one for each cell (`states=cell`). The first file is `m`: rows of cells, or a whole text
 //! where it begins with `type`. The second is `s`, and what comes in to `live`; the third is `t`. A line `~N` is
-//! N blanks. `%` is the table file of three cells under the row's rule, `%water` that of three water cells; `%P=B`
+//! N blanks. `%` is the table file of three cells under the row's rule, `%water` that of `.WW`; `%P=B`
 //! has the byte B at place P, `%cut` lacks the last byte. A line `jps: ..` goes to standard error, all others are the output.
 
 use crate::calls::{Call, ENGINES, RULES, check, check_reads};
-use crate::commands::{THREE_CELLS, THREE_WATER_CELLS};
+use crate::commands::{SHORE_CELLS, THREE_CELLS};
 use crate::counted::calls_showing;
 use crate::small::large;
 use std::alloc::{AllocError, Global};
@@ -301,7 +301,7 @@ fn third_of(alloc: Global, told: &str, rule: &str) -> Result<Vec<u8>, AllocError
         return text_of(alloc, told);
     };
     let cells = if change == "water" {
-        THREE_WATER_CELLS
+        SHORE_CELLS
     } else {
         THREE_CELLS
     };
