@@ -485,20 +485,27 @@ fn refused_words_and_texts_are_named(rt: HostRuntime) -> Result<(), Fail> {
     Ok(())
 }
 
-// What is written of three words before one that is no text, the write of this number failing.
-fn check_refused(alloc: Global, rt: &impl Abort, failing: u64, line: &[u8]) -> Result<(), Fail> {
-    let before = strings(alloc, "query m 0")?;
+// What is written of a word that is no text, behind these words, the write of this number failing.
+fn check_refused(
+    alloc: Global,
+    rt: &impl Abort,
+    before: &str,
+    failing: u64,
+    line: &[u8],
+) -> Result<(), Fail> {
+    let before = strings(alloc, before)?;
     let mut err = stream(alloc, failing)?;
     let status = refuse(alloc, before.as_slice(), &mut err);
     compare(rt, (status, err.bytes()), (2, line));
     Ok(())
 }
 
-// A word that is no text stands where the row's next word would; then the stream fails at once.
+// A word that is no text stands where the row's next word would, or first of all; then the stream fails at once.
 #[test]
 fn words_that_are_no_text_are_named(rt: HostRuntime) -> Result<(), Fail> {
-    check_refused(rt.alloc(), &rt, 0, b"jps: word 4\n")?;
-    check_refused(rt.alloc(), &rt, 1, b"")
+    check_refused(rt.alloc(), &rt, "query m 0", 0, b"jps: word 4\n")?;
+    check_refused(rt.alloc(), &rt, "", 0, b"jps: word 1\n")?;
+    check_refused(rt.alloc(), &rt, "query m 0", 1, b"")
 }
 
 // Rows of a map of 3 by 2 with nothing and with all of it blocked; a failing write of a made map;

@@ -35,6 +35,7 @@ water | moves m 1 0 rule=any | .WW => 0 run 0,0 -/run 2,0 E
 outside | moves m 2 0 rule=any | .. => 0 outside
 blocked | moves m 1 0 rule=any | .@ => 0 blocked
 tables, streams | tables m rule=any | ... | | % => 0 %
+water tables | tables m rule=any | .WW | | %water => 0 %
 make, streams | make 7 3 2 0 => 0 type octile/height 2/width 3/map/.../...
 make | make 0 2 1 100 => 0 type octile/height 1/width 2/map/@@
 version, streams | --version => 0 jps 1.2.0

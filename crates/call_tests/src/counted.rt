@@ -45,22 +45,23 @@ help | --help => - its text is compared at its ends alone, in ample.rt
 // each rule of the sets before a colon. The first sets are all that it takes; with none it takes neither.
 const COMMANDS: &str = "
 query m 0 0 0 0 | engine=any rule=any: walk, water, point, none, apart, outside, blocked, cells, trace, \
-    tables, map faults, absent, streams | engine=small rule=any: large | engine=loading rule=any: table faults \
-    | engine=jumpless rule=any: states
+    tables, map faults, absent, streams | engine=small rule=any: large | engine=loading rule=any: table faults, water tables \
+    | engine=jumpless rule=any: states | engine=jumping rule=any: to W, to SW, to NW
 solve m s | engine=each rule=any: walk, water, point, none, apart, outside, blocked, ok, same, empty, cells, \
-    trace, tables, map faults, script faults, absent, streams | engine=loading rule=any: table faults \
-    | engine=plain rule=any: states
+    trace, tables, map faults, script faults, absent, streams \
+    | engine=loading rule=any: table faults, water tables | engine=plain rule=any: states
 live m | engine=each rule=any: walk, water, point, none, apart, outside, blocked, ok, same, empty, cells, \
-    trace, tables, map faults, script faults, absent, streams | engine=loading rule=any: table faults \
-    | engine=plain rule=any: states
+    trace, tables, map faults, script faults, absent, streams \
+    | engine=loading rule=any: table faults, water tables | engine=plain rule=any: states
 scen m s | engine=any rule=any: agree, near, off, scale, outside, blocked, none, apart, point, water, empty, \
     taken, done, tables, map faults, scen faults, absent, streams \
-    | engine=small rule=any: large | engine=loading rule=any: table faults | engine=jumpless rule=any: states
+    | engine=small rule=any: large | engine=loading rule=any: table faults, water tables \
+    | engine=jumpless rule=any: states
 judge m s t | rule=any: accepted, refused, scale, outside, blocked, none, apart, point, water, empty, done, \
     map faults, scen faults, walks faults, absent, streams
 lengths m s | rule=any: lengths, scale, outside, blocked, none, apart, point, water, empty, done, \
     map faults, scen faults, absent, streams
-problems m 1 1 | rule=any: problems, few, map faults, absent, streams
+problems m 1 1 | rule=any: problems, few, water, apart, map faults, absent, streams
 prove m 0 0 0 0 | rule=any: least, water, point, none, apart, outside, blocked, map faults, absent, streams
 check m s | rule=any: least, water, point, none, apart, size, ends, walk, start, goal, move, open, \
     map faults, cert faults, absent, streams
@@ -69,7 +70,7 @@ drill 1 | engine=each rule=any: drill, streams | engine=plain rule=any: states
 draw m 0 0 0 0 | engine=each rule=any: walk, trace, water, point, none, apart, outside, blocked, map faults, \
     absent, streams | engine=plain rule=any: states
 costs m 0 0 | rule=any: costs, water, outside, blocked, map faults, absent, streams
-tables m | rule=any: tables, map faults, absent, streams
+tables m | rule=any: tables, water tables, map faults, absent, streams
 boxes m 0 0 | rule=any: boxes, water, outside, blocked, large, map faults, absent, streams
 moves m 0 0 | rule=any: moves, water, outside, blocked, large, map faults, absent, streams
 --help | help
@@ -178,6 +179,44 @@ fn each_kind_of_outcome_has_a_row_or_a_reason(rt: HostRuntime) -> Result<(), Fai
         }
     }
     Ok(())
+}
+
+// The kinds whose name stands in a row's lines, before their sum. `lengths` prints nothing of what it leaves out,
+// and a certificate that claims that there is no walk may be refused.
+const PRINTED: &str =
+    "walk, none, outside, blocked, ok, same, agree, near, off, scale, accepted, refused, least, \
+    size, ends, start, goal, move, open, large, M1, M2, M3, M4, M5, M6, C1, C2, C3, C4, T1, T2, K1, K2, P1, P2, F1, \
+    F2, F3";
+
+fn has_word(lines: &str, name: &str) -> bool {
+    for line in lines.split('/') {
+        for word in line.split(' ') {
+            if word == name {
+                return true;
+            }
+        }
+    }
+    false
+}
+
+#[test]
+fn each_row_prints_the_kind_that_it_shows(rt: HostRuntime) {
+    for table in TABLES {
+        for line in table.lines() {
+            let Some(row) = row_of(line) else {
+                continue;
+            };
+            let (lines, _) = row.lines.split_once("/sum ").unwrap_or((row.lines, ""));
+            let command = row.words.split_whitespace().next().unwrap_or("");
+            for name in row.shows.split(',') {
+                let name = name.trim();
+                let is_left = command == "lengths" || command == "check" && name == "none";
+                if row.status <= 6 && !is_left && has_name(PRINTED, name) {
+                    assert_eq!(rt; has_word(lines, name), true, "{line}");
+                }
+            }
+        }
+    }
 }
 
 // How many lines the command of this name has.

@@ -61,6 +61,8 @@ states | scen m s states=cell engine=jumpless rule=any | ... | version 1 => 2 jp
 states | scen m s engine=jumpless states=arrival rule=any | ... | version 1 => 2 jps: word 5
 tables, streams | scen m s tables=t engine=loading rule=any | ... | version 1/0 m 3 1 0 0 2 0 2 | % \
     => 0 row 1 agree 2 0/sum 1 agree 1 near 0 off 0 other 0
+water tables | scen m s tables=t engine=loading rule=any | .WW | version 1/0 m 3 1 1 0 2 0 1 | %water \
+    => 0 row 1 agree 1 0/sum 1 agree 1 near 0 off 0 other 0
 tables | scen m s tables=t engine=other rule=any | ... | version 1 | % => 2 jps: word 5
 tables | scen m s tables=t engine=small rule=any | ... | version 1 | % => 2 jps: word 5
 ";

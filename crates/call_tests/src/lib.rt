@@ -18,6 +18,8 @@ mod counted;
 #[cfg(test)]
 mod judged;
 #[cfg(test)]
+mod large;
+#[cfg(test)]
 mod live;
 #[cfg(test)]
 mod queries;

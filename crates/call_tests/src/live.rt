@@ -83,9 +83,13 @@ fn a_script_is_answered_up_to_its_first_fault(rt: HostRuntime) -> Result<(), Fai
     let open: &[u8] = b"query 0 1 2 1\nblock 1 1";
     let misspelt: &[u8] = b"query 0 1 2 1\n\nbolck 1 1\nblock 1 1\n";
     let line = b"jps: script T1 line 3\n";
-    for piece in [1, 7, 4096] {
-        check_pieces(alloc, &rt, ("live m", open), piece, 0, 0, BOTH, b"")?;
-        check_pieces(alloc, &rt, ("live m", misspelt), piece, 0, 3, WALK, line)?;
+    for engine in ENGINES {
+        let words = spelled(alloc, "live m engine=", engine, "")?;
+        let words = words.as_str();
+        for piece in [1, 7, 4096] {
+            check_pieces(alloc, &rt, (words, open), piece, 0, 0, BOTH, b"")?;
+            check_pieces(alloc, &rt, (words, misspelt), piece, 0, 3, WALK, line)?;
+        }
     }
     Ok(())
 }
@@ -130,6 +134,7 @@ impl<'a> Sink for Noted<'a> {
 fn check_order(
     alloc: Global,
     rt: &impl Abort,
+    words: &str,
     script: &[u8],
     status: u8,
     line: &[u8],
@@ -145,8 +150,8 @@ fn check_order(
         reads: &reads,
         notes: ArrayVec::new(),
     };
-    let answer = status_of(alloc, rt, live("live m"), &mut input, &mut out, line)?;
-    assert_eq!(rt; answer, status);
+    let answer = status_of(alloc, rt, live(words), &mut input, &mut out, line)?;
+    assert_eq!(rt; answer, status, "{words}");
     assert_eq!(rt; out.notes.as_slice(), notes);
     assert_eq!(rt; reads.get(), read);
     Ok(())
@@ -156,7 +161,11 @@ fn check_order(
 #[test]
 fn a_line_is_answered_before_the_next_read(rt: HostRuntime) -> Result<(), Fail> {
     let alloc = rt.alloc();
-    check_order(alloc, &rt, SCRIPT, 0, b"", &[2, 4], 5)
+    for engine in ENGINES {
+        let words = spelled(alloc, "live m engine=", engine, "")?;
+        check_order(alloc, &rt, words.as_str(), SCRIPT, 0, b"", &[2, 4], 5)?;
+    }
+    Ok(())
 }
 
 // A misspelt line ends the call with the read that completes it, a long one with that of its 129th byte.
@@ -164,9 +173,32 @@ fn a_line_is_answered_before_the_next_read(rt: HostRuntime) -> Result<(), Fail> 
 fn a_refused_line_ends_the_call_at_once(rt: HostRuntime) -> Result<(), Fail> {
     let alloc = rt.alloc();
     let misspelt = b"bolck\nblock 1 1\nblock 1 1\n";
-    check_order(alloc, &rt, misspelt, 3, b"jps: script T1 line 1\n", &[], 1)?;
     let long = [b' '; 200];
-    check_order(alloc, &rt, &long, 3, b"jps: script T2 line 1\n", &[], 19)
+    for engine in ENGINES {
+        let words = spelled(alloc, "live m engine=", engine, "")?;
+        let words = words.as_str();
+        check_order(
+            alloc,
+            &rt,
+            words,
+            misspelt,
+            3,
+            b"jps: script T1 line 1\n",
+            &[],
+            1,
+        )?;
+        check_order(
+            alloc,
+            &rt,
+            words,
+            &long,
+            3,
+            b"jps: script T2 line 1\n",
+            &[],
+            19,
+        )?;
+    }
+    Ok(())
 }
 
 // By each engine and under each rule the script has the same lines, but that jumps stop between two

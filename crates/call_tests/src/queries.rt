@@ -80,11 +80,17 @@ trace | query m 0 0 4 0 show=trace engine=by-arrival rule=slipping | ...@./.@.@.
     => 0 walk 2 3 0,0 1,0 2,1 3,2 4,1 4,0 taken 0,0:- 1,0:E 2,1:SE 0,1:S 1,2:SE 2,1:NE 3,2:SE 4,1:NE 4,0:N
 trace | query m 0 0 4 0 show=trace engine=by-cell rule=slipping | ...@./.@.@./..... \
     => 0 walk 2 3 0,0 1,0 2,1 3,2 4,1 4,0 taken 0,0:- 1,0:E 2,1:SE 0,1:S 1,2:SE 3,2:SE 4,1:NE 4,0:N
+trace, to W | query m 2 0 0 0 show=trace engine=jumping rule=any | ... => 0 walk 2 0 2,0 0,0 taken 2,0:- 0,0:W
+trace, to SW | query m 2 0 0 2 show=trace engine=jumping rule=any | .../.../... \
+    => 0 walk 0 2 2,0 0,2 taken 2,0:- 0,2:SW
+trace, to NW | query m 2 2 0 0 show=trace engine=jumping rule=any | .../.../... \
+    => 0 walk 0 2 2,2 0,0 taken 2,2:- 0,0:NW
 states | query m 0 0 2 0 engine=jumpless states=cell rule=any | ... => 2 jps: word 8
 states | query m 0 0 2 0 states=cell engine=jumpless rule=any | ... => 2 jps: word 8
 states | query m 0 0 2 0 states=arrival engine=jumpless rule=any | ... => 2 jps: word 8
 states | query m 0 0 2 0 states=cell rule=any | ... => 2 jps: word 9
 tables, streams | query m 0 0 2 0 tables=t engine=loading rule=any | ... | | % => 0 walk 2 0 0,0 2,0
+water tables | query m 1 0 2 0 tables=t engine=loading rule=any | .WW | | %water => 0 walk 1 0 1,0 2,0
 tables | query m 0 0 2 0 tables=t engine=other rule=any | ... | | % => 2 jps: word 8
 tables | query m 0 0 2 0 tables=t engine=small rule=any | ... | | % => 2 jps: word 8
 ";
@@ -153,6 +159,9 @@ states | live m states=cell engine=plain rule=any | ... | query 0 0 2 0 => 2 jps
 tables, streams | scripted tables=t engine=loading rule=any | ... \
     | query 0 0 2 0/block 1 0/query 0 0 2 0/free 1 0/query 2 0 0 0 | % \
     => 0 walk 2 0 0,0 2,0/ok/none/ok/walk 2 0 2,0 0,0
+water tables | scripted tables=t engine=loading rule=any | .WW \
+    | query 1 0 2 0/block 2 0/query 1 0 2 0/flood 2 0/query 2 0 1 0/query 0 0 1 0/flood 0 0/query 0 0 2 0 | %water \
+    => 0 walk 1 0 1,0 2,0/ok/blocked/ok/walk 1 0 2,0 1,0/none/ok/walk 2 0 0,0 2,0
 tables | solve m s tables=t engine=other rule=any | ... | query 0 0 2 0 | % => 2 jps: word 5
 tables | live m tables=t engine=other rule=any | ... | query 0 0 2 0 | % => 2 jps: word 4
 T1 | solve m s engine=each rule=any | ... | query 0 0 2 0/bolck 1 0/block 1 0 => 3 jps: script T1 line 2

@@ -23,6 +23,10 @@ water | lengths m s rule=slipping | W.W/WWW | version 1/0 m 3 2 0 0 2 0 0 \
     => 0 version 1/0\tm\t3\t2\t0\t0\t2\t0\t2.82842712
 problems, streams | problems m 1 1 rule=any | .. => 0 version 1/0\tm\t2\t1\t1\t0\t0\t0\t1.00000000
 problems | problems m 1 1 rule=both | .@/@. => 0 version 1/0\tm\t2\t2\t1\t1\t0\t0\t1.41421356
+problems, water | problems m 1 1 rule=any | WW => 0 version 1/0\tm\t2\t1\t1\t0\t0\t0\t1.00000000
+problems, water | problems m 1 1 rule=both | W@/@W => 0 version 1/0\tm\t2\t2\t1\t1\t0\t0\t1.41421356
+few, water | problems m 1 1 rule=strict | W@/@W => 1 version 1
+few, apart | problems m 1 1 rule=any | .W => 1 version 1
 few | problems m 1 1 rule=strict | .@/@. => 1 version 1
 few | problems m 1 2 rule=any | . => 1 version 1
 ";

@@ -11,11 +11,11 @@
 //! them have the same outcome. An engine that jumps counts twice, with one state for each direction of arrival
 //! at a cell, and with one for each cell (`states=cell`). The first file is `m`: rows of cells, or a whole text
 //! where it begins with `type`. The second is `s`, and what comes in to `live`; the third is `t`. A line `~N` is
-//! N blanks. `%` is the table file of three cells under the row's rule, `%P=B` has the byte B at place P, `%cut`
-//! lacks the last byte. A line `jps: ..` goes to standard error, all others are the output.
+//! N blanks. `%` is the table file of three cells under the row's rule, `%water` that of `.WW`; `%P=B`
+//! has the byte B at place P, `%cut` lacks the last byte. A line `jps: ..` goes to standard error, all others are the output.
 
 use crate::calls::{Call, ENGINES, RULES, check, check_reads};
-use crate::commands::THREE_CELLS;
+use crate::commands::{SHORE_CELLS, THREE_CELLS};
 use crate::counted::calls_showing;
 use crate::small::large;
 use std::alloc::{AllocError, Global};
@@ -300,7 +300,12 @@ fn third_of(alloc: Global, told: &str, rule: &str) -> Result<Vec<u8>, AllocError
     let Some(change) = told.strip_prefix("%") else {
         return text_of(alloc, told);
     };
-    let mut tables = Vec::from_slice(alloc, THREE_CELLS)?;
+    let cells = if change == "water" {
+        SHORE_CELLS
+    } else {
+        THREE_CELLS
+    };
+    let mut tables = Vec::from_slice(alloc, cells)?;
     if 8 < tables.len() {
         tables[8] = match rule {
             "rule=one" => 1,

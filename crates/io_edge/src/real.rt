@@ -10,18 +10,22 @@ ghost use Rattle.io_edge.specs.Causes.{Counts, HasCause, NoneFell};
 ghost use Rattle.io_edge.specs.Told.{ReadsAt, untold};
 
 use crate::outside::{Failed, Files, Sink, Source};
+use arrayvec::ArrayVec;
+use std::fs::OpenFile;
 use std::io::{Read, Seek, SeekFrom, Write};
 use std::marker::Model;
 use std::{fs, io, rt};
 
-/// The files of the system. One count of faults serves for every name.
+/// The files of the system, of which the one that was read last stays open until its end was read. One count of
+/// faults serves for every name.
 #[derive(Drop)]
-pub struct RealFiles<'a, R> {
+pub struct RealFiles<'a, R: rt::Files> {
     rt: &'a R,
+    open: Option<Opened<R::File>>,
     faults: u64,
 }
 
-impl<'a, R> Model for RealFiles<'a, R> {
+impl<'a, R: rt::Files> Model for RealFiles<'a, R> {
     ghost use Rattle.std.specs.Prelude.{ℕ};
 
     ghost Value = { ℕ };
@@ -29,22 +33,61 @@ impl<'a, R> Model for RealFiles<'a, R> {
     ghost view = { λ files. files.faults };
 }
 
-impl<'a, R> RealFiles<'a, R> {
+impl<'a, R: rt::Files> RealFiles<'a, R> {
     /// The files that the runtime opens, with no fault yet.
     pub fn new(rt: &'a R) -> RealFiles<'a, R>
         ensures { result ≡ 0 }
     {
-        RealFiles { rt, faults: 0 }
+        RealFiles {
+            rt,
+            open: None,
+            faults: 0,
+        }
     }
 }
 
-// Opens the file, moves to the place and reads once.
-fn read_once<R: rt::Files>(rt: &R, name: &str, place: u64, buf: &mut [u8]) -> io::Result<usize>
-    ensures { IfOk result (λ n. n ≤ length buf.old) }
+// The system opens no file of a longer name.
+const LONGEST_NAME: usize = 4096;
+
+// An open file and its name.
+#[derive(Drop)]
+struct Opened<F> {
+    name: ArrayVec<u8, LONGEST_NAME>,
+    file: F,
+}
+
+// Opens a regular file. Another one is not opened, as a pipe would wait for whoever writes to it.
+fn open_regular<R: rt::Files>(rt: &R, name: &str) -> io::Result<Opened<R::File>> {
+    let mut kept = ArrayVec::new();
+    if kept.try_extend_from_slice(name.as_bytes()).is_ok() && fs::metadata(rt, name)?.is_file() {
+        let file = fs::open(rt, name)?;
+        // Another file may have come under this name since.
+        if file.metadata()?.is_file() {
+            return Ok(Opened { name: kept, file });
+        }
+    }
+    Err(io::Error::from(io::ErrorKind::Unsupported))
+}
+
+// Reads once. A file is opened where its first byte is asked for, and then read on from what was opened, though
+// another one may have taken its name.
+fn read_once<R: rt::Files>(
+    rt: &R,
+    open: Option<Opened<R::File>>,
+    name: &str,
+    place: u64,
+    buf: &mut [u8],
+) -> io::Result<(usize, Opened<R::File>)>
+    ensures { IfOk result (λ read. read.0 ≤ length buf.old) }
 {
-    let mut file = fs::open(rt, name)?;
-    file.seek(SeekFrom::Start(place))?;
-    file.read(buf)
+    let is_kept = |opened: &Opened<R::File>| place > 0 && opened.name.as_slice() == name.as_bytes();
+    let mut opened = match open.filter(is_kept) {
+        Some(opened) => opened,
+        None => open_regular(rt, name)?,
+    };
+    opened.file.seek(SeekFrom::Start(place))?;
+    let count = opened.file.read(buf)?;
+    Ok((count, opened))
 }
 
 impl<'a, R: rt::Files> Files for RealFiles<'a, R> {
@@ -59,8 +102,13 @@ impl<'a, R: rt::Files> Files for RealFiles<'a, R> {
         ensures later { NoneFell (λ _. self.old) (λ _. self.new) }
         ensures counted { Counts self.old self.new result }
     {
-        match read_once(self.rt, name, place, buf) {
-            Ok(count) => Ok(count),
+        match read_once(self.rt, self.open.take(), name, place, buf) {
+            Ok((count, opened)) => {
+                if count > 0 {
+                    self.open = Some(opened);
+                }
+                Ok(count)
+            }
             Err(_) => {
                 self.faults = self.faults.saturating_add(1);
                 Err(Failed)

@@ -129,3 +129,22 @@ fn the_first_difference_is_named(rt: HostRuntime) {
         assert!(rt; refusal(rt.alloc(), change, corner) == answer, "{change:?}");
     }
 }
+
+#[test]
+fn faults_of_tables_are_told_by_their_codes(rt: HostRuntime) -> Result<(), Fail> {
+    let entry = TableFault::Entry {
+        ground: Ground::Water,
+        cell: Cell { x: 1, y: 2 },
+        dir: Dir::NE,
+    };
+    for (fault, text) in [
+        (TableFault::Head, "F1"),
+        (TableFault::Length, "F2"),
+        (entry, "F3 Water Cell { x: 1, y: 2 } NE"),
+        (TableFault::NoMemory, "memory"),
+    ] {
+        let told = format!(in rt.alloc(); "{fault}")?;
+        assert_eq!(rt; told.as_str(), text);
+    }
+    Ok(())
+}

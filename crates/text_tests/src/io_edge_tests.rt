@@ -117,6 +117,45 @@ fn a_real_file_is_read_to_its_end(rt: HostRuntime) -> Result<(), Fail> {
     Ok(())
 }
 
+// Reads of two bytes from these places give these bytes.
+fn check_reads<F: Files>(rt: &impl Abort, files: &mut F, name: &str, reads: &[(u64, &[u8])]) {
+    let mut buf = [0u8; 2];
+    for (place, bytes) in reads {
+        assert_eq!(rt;
+            files.read_at(name, *place, &mut buf).ok(),
+            Some(bytes.len())
+        );
+        assert_eq!(rt; buf.starts_with(bytes), true, "from byte {place}");
+    }
+}
+
+// A file is read on from what was opened, though another one takes its name; from its first byte on the other
+// one is read, and so is a file of another name.
+#[test]
+fn a_replaced_file_is_read_to_its_own_end(rt: HostRuntime) -> Result<(), Fail> {
+    let (old, new) = ("io_edge_old.txt", "io_edge_new.txt");
+    fs::write(&rt, old, "walk")?;
+    fs::write(&rt, new, "WALKED")?;
+    let mut files = RealFiles::new(&rt);
+    check_reads(&rt, &mut files, old, &[(0, b"wa")]);
+    fs::rename(&rt, new, old)?;
+    check_reads(&rt, &mut files, old, &[(2, b"lk"), (4, b""), (0, b"WA")]);
+    fs::write(&rt, new, "other")?;
+    check_reads(&rt, &mut files, new, &[(2, b"he"), (4, b"r")]);
+    fs::remove_file(&rt, old)?;
+    fs::remove_file(&rt, new)?;
+    Ok(())
+}
+
+// A folder, a device that is empty, and one that never ends.
+#[test]
+fn only_regular_files_are_read(rt: HostRuntime) {
+    for name in [".", "/dev/null", "/dev/zero"] {
+        let read = read_whole(rt.alloc(), &mut RealFiles::new(&rt), name, 10);
+        compare(&rt, read, Err(ReadStop::Fault));
+    }
+}
+
 #[test]
 fn a_real_sink_writes_to_its_writer(rt: HostRuntime) -> Result<(), Fail> {
     let mut bytes = Vec::new(rt.alloc());

@@ -7,6 +7,8 @@
 #[cfg(test)]
 mod changed_bytes_tests;
 #[cfg(test)]
+mod fault_tests;
+#[cfg(test)]
 mod io_edge_tests;
 #[cfg(test)]
 mod map_maker_tests;
