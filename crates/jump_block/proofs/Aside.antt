@@ -77,5 +77,6 @@ pub component_found : (g : GridData) (goal u : Cell) (d : Dir) (axis : Axis) (wa
     → (old new : ℕ) (found : Bool) → FindsAside g u (dir_on axis way) old new found → IsAside d u goal
     → found ≡ is_some (first_stop g goal u (part_on axis d))
 component_found g goal u d axis way e old new found finds aside =
-    let at = subst (λ (w : Way). FindsAside g u (dir_on axis w) old new found) e finds goal (aside.off axis) in
-    at.2 ∙ ap (λ (o : Option ℕ). is_some o) at.1.0
+    let by = subst (λ (w : Way). FindsAside g u (dir_on axis w) old new found) e finds goal in
+    let its = by (aside.off axis) in
+    its.2 ∙ ap (λ (o : Option ℕ). is_some o) its.1.0

@@ -27,10 +27,10 @@ use Rattle.jump_block.specs.declared.straight.Bits.{Bits}
 use Rattle.jump_block.specs.declared.word.Way.{Way}
 use Rattle.jump_block.specs.declared.word.Way.TheVariants.{Forward, Back}
 use Rattle.jump_block.specs.Trail.{Trail, along, at_start, begun, opens, opens_beside, trail_on}
-use Rattle.jump_block.specs.Scan.{Finds, FindsFrom, IsStart, MeetsFrom, MeetsMark, looked, most_lanes}
+use Rattle.jump_block.specs.Scan.{IsStart, MeetsFrom, MeetsMark, most_lanes}
 use Rattle.jump_block.specs.Source as block
-use Rattle.jump_block.specs.Source.{AreItsBits, by_line, dir_on, line_of, lines_on, part_on, place_of, scanned}
-use Rattle.jump_block.specs.Source.{FindsAside, Stops, StopsAside, StopsAt, StopsFrom, start_of, trail_of}
+use Rattle.jump_block.specs.Source.{AreItsBits, by_line, dir_on, line_of, lines_on, place_of, scanned}
+use Rattle.jump_block.specs.Source.{FindsAside, Stops, StopsAt, StopsFrom, start_of, trail_of}
 
 abbrev pub cell : ℕ → ℕ → Cell
 cell x y = record { x = x; y = y }
@@ -91,7 +91,8 @@ beyond_rows g x y h1 = grind (arith, nat_tests, common_steps, outside)
 
 -- a scan may start at a free cell, along its row and along its column
 module _ (b : Bits) (g : GridData) (x : Cell) (are : AreItsBits b g) (free : is_free g x ≡ true) where
-  pub start_on : (axis : Axis) → IsStart (lines_on b axis).now (by_line g axis) (line_of axis x) (place_of axis x)
+  pub start_on : (axis : Axis)
+      → IsStart (lines_on b axis).now (by_line g axis) (line_of axis x) (place_of axis x)
   start_on Row =
       let inside = free_inside g x free in
       let s = are.whole.sides in
@@ -175,9 +176,9 @@ module _ (g : GridData) (x y : ℕ) (axis : Axis) (way : Way) where
       ≡ is_open g (cell_on axis way (cell x y) k) (turn s (dir_on axis way))
   side_is s k = grind (arith, nat_tests, common_steps, is_open_there)
 
-alike : (axis : Axis) (way : Way) (rule : Corner) (t : Trail) (k : ℕ) → opens_beside (begun rule t) k
-    ≡ (opens (at_start rule (side_of Right axis way t)) k || opens (at_start rule (side_of Left axis way t)) k)
-alike axis way rule t k = grind arith
+alike : (axis : Axis) (way : Way) (r : Corner) (t : Trail) (k : ℕ) → opens_beside (begun r t) k
+    ≡ (opens (at_start r (side_of Right axis way t)) k || opens (at_start r (side_of Left axis way t)) k)
+alike axis way r t k = grind arith
 
 straight_on : (axis : Axis) (way : Way) → is_diagonal (dir_on axis way) ≡ false
 straight_on axis way = grind (arith, nat_tests, common_steps)
@@ -186,6 +187,8 @@ line_finds : (g : GridData) (x : Cell) (axis : Axis) (way : Way) → is_free g x
     → FindsStop g x (dir_on axis way) g.corner (begun g.corner (trail_of g axis way x))
 line_finds g x axis way free =
     let t = trail_of g axis way x in
+    let side = side_is g x.x x.y axis way in
+    let begins = side_begins g x.x x.y axis way in
     ray_finds g x (dir_on axis way) (straight_on axis way) free (cell_on axis way x) t.free
     (λ k. record {
       right = at_start g.corner (side_of Right axis way t) k;
@@ -193,11 +196,10 @@ line_finds g x axis way free =
     })
     (record {
       starts = stands_at g x.x x.y axis way;
-      begins = begins_with (may_cut g.corner) _ _ _ _ (side_begins g x.x x.y axis way Right)
-          (side_begins g x.x x.y axis way Left);
+      begins = begins_with (may_cut g.corner) _ _ _ _ (begins Right) (begins Left);
       open_is = open_is g x.x x.y axis way;
       goes = goes g x.x x.y axis way;
-      sides_are = λ k. same_sides _ _ _ _ (side_is g x.x x.y axis way Right k) (side_is g x.x x.y axis way Left k);
+      sides_are = λ k. same_sides _ _ _ _ (side Right k) (side Left k);
     })
     (begun g.corner t) (alike axis way g.corner t) (λ k. refl)
 
@@ -206,9 +208,8 @@ module _ (b : Bits) (g : GridData) (x : Cell) (are : AreItsBits b g) (free : is_
     (axis : Axis) (way : Way) (s : Start) (stands : s ≡ start_of b axis x) (rule : Corner)
     (same : rule ≡ b.corner) where
   -- at the start, known by the line
-  on_line : (P : Trail → Type 0)
-      → ((free : ℕ → ℕ → Bool) → IsStart s.lines.now free s.line s.place → P (trail_on free way s.line s.place))
-      → P (trail_of g axis way x)
+  on_line : (P : Trail → Type 0) → ((free : ℕ → ℕ → Bool) → IsStart s.lines.now free s.line s.place
+      → P (trail_on free way s.line s.place)) → P (trail_of g axis way x)
   on_line P known = subst (λ (t : Start). (free : ℕ → ℕ → Bool) → IsStart t.lines.now free t.line t.place
       → P (trail_on free way t.line t.place)) stands known (by_line g axis) (start_on b g x are free axis)
 
@@ -216,33 +217,23 @@ module _ (b : Bits) (g : GridData) (x : Cell) (are : AreItsBits b g) (free : is_
   finds_stop = subst (λ (c : Corner). FindsStop g x (dir_on axis way) c (begun c (trail_of g axis way x)))
       (sym (same ∙ are.rule)) (line_finds g x axis way free)
 
-  stops : (goal : Cell) (to_goal old new : ℕ) (found : Option Halt) (stop : Option ℕ)
-      → to_goal ≡ moves_to (dir_on axis way) x goal
-      → Finds rule (begun rule (trail_of g axis way x)) to_goal found → stop ≡ block.stop_of rule found to_goal
-      → new ≤ old + most_lanes (looked to_goal found) → Stops g goal x (dir_on axis way) old new stop
-  stops goal to_goal old new found stop e is its most =
-      let known = finds_stop to_goal found is in (
-        its ∙ known.0 ∙ ap (λ (n : ℕ). stop_of (reach_of g x (dir_on axis way)) n) e
+  stops : (goal : Cell) (to_goal old new : ℕ) (stop : Option ℕ) → to_goal ≡ moves_to (dir_on axis way) x goal
+      → StopsAt rule (begun rule (trail_of g axis way x)) to_goal old new stop
+      → Stops g goal x (dir_on axis way) old new stop
+  stops goal to_goal old new stop e its =
+      let known = finds_stop to_goal its.0 its.1 in (
+        its.2 ∙ known.0 ∙ ap (λ (n : ℕ). stop_of (reach_of g x (dir_on axis way)) n) e
             ∙ sym (straight_stop g goal x (dir_on axis way) (straight_on axis way)),
-        subst (λ (o : Option ℕ). new ≤ old + most_lanes (scanned g x (dir_on axis way) o)) (sym its)
-            (let within = known.1 in omega (arith, within, most)),
+        subst (λ (o : Option ℕ). new ≤ old + most_lanes (scanned g x (dir_on axis way) o)) (sym its.2)
+            (let within = known.1 in let most = its.3 in omega (arith, within, most)),
       )
 
-  pub straight_stops : (goal : Cell) (to_goal same_moves old new : ℕ) (found : Option Halt) (stop : Option ℕ)
-      → to_goal ≡ moves_to (dir_on axis way) x goal → same_moves ≡ to_goal
-      → FindsFrom s.lines.now rule way same_moves s.line s.place found → stop ≡ block.stop_of rule found to_goal
-      → new ≤ old + most_lanes (looked same_moves found) → Stops g goal x (dir_on axis way) old new stop
-  straight_stops goal to_goal same_moves old new found stop e f is its most =
-      stops goal to_goal old new found stop e
-      (subst (λ (n : ℕ). Finds rule (begun rule (trail_of g axis way x)) n found) f
-      (on_line (λ t. Finds rule (begun rule t) same_moves found) is)) its
-      (subst (λ (n : ℕ). new ≤ old + most_lanes (looked n found)) f most)
-
-  pub stops_aside : (old new : ℕ) (stop : Option ℕ) → StopsFrom s.lines.now rule way s.line s.place old new stop
-      → StopsAside g x (dir_on axis way) old new stop
-  stops_aside old new stop its goal off =
-      let at = on_line (λ t. StopsAt rule (begun rule t) old new stop) its in
-      stops goal 0 old new at.0 stop (sym off) at.1 at.2 at.3
+  pub stops_there : (goal : Cell) (to_goal old new : ℕ) (stop : Option ℕ)
+      → to_goal ≡ moves_to (dir_on axis way) x goal
+      → StopsFrom s.lines.now rule way to_goal s.line s.place old new stop
+      → Stops g goal x (dir_on axis way) old new stop
+  stops_there goal to_goal old new stop e its =
+      stops goal to_goal old new stop e (on_line (λ t. StopsAt rule (begun rule t) to_goal old new stop) its)
 
   pub finds_aside : (old new : ℕ) (marked : Bool)
       → MeetsFrom s.lines.now rule way s.line s.place old new marked
@@ -251,7 +242,7 @@ module _ (b : Bits) (g : GridData) (x : Cell) (are : AreItsBits b g) (free : is_
       let met = on_line (λ t. MeetsMark rule (begun rule t) old new marked) its in
       let found : Option Halt = Some (record { passed = met.0; marked = marked }) in (
         block.stop_of rule found 0,
-        stops goal 0 old new found _ (sym off) met.1 refl met.2,
+        stops goal 0 old new _ (sym off) (found, met.1, refl, met.2),
         shown met.0 marked,
       )
     where

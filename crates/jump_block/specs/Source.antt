@@ -149,16 +149,16 @@ abbrev pub stop_of : Corner → Option Halt → ℕ → Option ℕ
 stop_of rule (Some h) to_goal = reach.stop_of (reach_of_halt rule h) to_goal
 stop_of rule None to_goal = Some to_goal
 
--- the stop that follows from where a scan halts, the goal not being ahead, and the steps of such a scan at
--- most
-abbrev pub StopsAt : Corner → Trail → ℕ → ℕ → Option ℕ → Type 0
-StopsAt rule t old new stop = (found : Option Halt) × Finds rule t 0 found × (stop ≡ stop_of rule found 0)
-    × (new ≤ old + most_lanes (looked 0 found))
+-- the stop that follows from where a scan halts, the goal lying so many moves ahead, or 0, and the steps of such
+-- a scan at most
+abbrev pub StopsAt : Corner → Trail → ℕ → ℕ → ℕ → Option ℕ → Type 0
+StopsAt rule t to_goal old new stop = (found : Option Halt) × Finds rule t to_goal found
+    × (stop ≡ stop_of rule found to_goal) × (new ≤ old + most_lanes (looked to_goal found))
 
 -- the same of a scan from this place of this line, on each map that the lines show
-abbrev pub StopsFrom : LineData → Corner → Way → ℕ → ℕ → ℕ → ℕ → Option ℕ → Type 0
-StopsFrom l rule way line place old new stop = (free : ℕ → ℕ → Bool) → IsStart l free line place
-    → StopsAt rule (begun rule (trail_on free way line place)) old new stop
+abbrev pub StopsFrom : LineData → Corner → Way → ℕ → ℕ → ℕ → ℕ → ℕ → Option ℕ → Type 0
+StopsFrom l rule way to_goal line place old new stop = (free : ℕ → ℕ → Bool) → IsStart l free line place
+    → StopsAt rule (begun rule (trail_on free way line place)) to_goal old new stop
 
 -- whether a diagonal jump stops at a cell
 abbrev pub stops_at : GridData → Cell → Dir → Cell → Bool

@@ -108,8 +108,8 @@ abbrev pub IsAhead : Way → ℕ → ℕ → Type 0
 IsAhead Forward from edge = from < edge
 IsAhead Back from edge = edge ≤ from
 
--- the bits at which a scan halts in the word from `base` on, given that it makes n moves, and more only to the
--- word's places
+-- the bits at which a scan halts in the word from `base` on, given that it makes n moves, and more only to
+-- the word's places
 pub record IsFound (t : Trail) (way : Way) (from base n found : ℕ) : Type 0 where
   pub clear : IsClear t n
   pub bits : TellMoves (halts t) way from base found

@@ -1,9 +1,8 @@
 //! Diagonal jumps: cell by cell, with a scan in each component from each cell.
 
-ghost use Rattle.std.specs.Prelude.{◌≡◌, ℕ, ◌+◌, ◌<◌, ◌≤◌, ◌&&◌, ◌||◌, Bool, false, true, is_some, nat_eq};
+ghost use Rattle.std.specs.Prelude.{◌≡◌, ℕ, ◌+◌, ◌<◌, ◌≤◌, ◌&&◌, ◌||◌, Bool, false, true, nat_eq};
 ghost use Rattle.grid_moves.specs.Grid.{GridData};
 ghost use Rattle.grid_moves.specs.Move as moves;
-ghost use Rattle.grid_moves.specs.Move.{is_same};
 ghost use Rattle.pruning.specs.Turns.{is_diagonal};
 ghost use Rattle.pruning.specs.Allowed.{can_move};
 ghost use Rattle.pruning.specs.Marked.{is_forced};

@@ -68,7 +68,8 @@ fn finds_next<const FORWARD: bool, const RULE: usize, L: Ledger>(
     requires starts { (free : ℕ → ℕ → Bool) × IsStart lines.now free line place }
     requires near { AreNearStart lines.now line place near }
     requires clear { ClearFrom lines.now rule (ways.way_of FORWARD) line place }
-    ensures finds { MeetsFrom lines.now rule (ways.way_of FORWARD) line place (steps.old + 3) steps.new result }
+    ensures finds { MeetsFrom lines.now rule (ways.way_of FORWARD) line place
+        (steps.old + 3) steps.new result }
     ensures more { steps.old ≤ steps.new }
 {
     let found = halt_next(
@@ -130,7 +131,7 @@ fn mark_past<const FORWARD: bool, const RULE: usize, L: Ledger>(
     requires block { HasFirst lines.now (ways.way_of FORWARD) line place
         (record { middle = middle; before = before; after = after }) }
     requires clear { ClearFrom lines.now (ruled.rule_of_number RULE) (ways.way_of FORWARD) line place }
-    ensures stops { StopsFrom lines.now (ruled.rule_of_number RULE) (ways.way_of FORWARD) line place
+    ensures stops { StopsFrom lines.now (ruled.rule_of_number RULE) (ways.way_of FORWARD) 0 line place
         steps.old (steps.new + 3) result }
     ensures more { steps.old ≤ steps.new }
 {
@@ -156,7 +157,7 @@ pub(crate) fn first_mark<const FORWARD: bool, const RULE: usize, L: Ledger>(
     steps: &mut Steps<L>,
 ) -> Option<u16>
     requires starts { (free : ℕ → ℕ → Bool) × IsStart lines.now free line place }
-    ensures stops { StopsFrom lines.now (ruled.rule_of_number RULE) (ways.way_of FORWARD) line place
+    ensures stops { StopsFrom lines.now (ruled.rule_of_number RULE) (ways.way_of FORWARD) 0 line place
         steps.old steps.new result }
     ensures fewest { steps.old + 3 ≤ steps.new }
 {

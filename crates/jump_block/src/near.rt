@@ -114,7 +114,8 @@ fn side_word(way: Way, words: ThreeWords) -> u64
 pub(crate) fn leads_from_bit(rule: Corner, d: Dir, words: ThreeWords, place: u32) -> bool
     requires small { place < 64 }
     requires more { HasNextBit (source.way_on Row d) place }
-    ensures { result ≡ (is_set (spec.side_word (source.way_on Column d) words) (spec.next_bit (source.way_on Row d) place)
+    ensures { result
+        ≡ (is_set (spec.side_word (source.way_on Column d) words) (spec.next_bit (source.way_on Row d) place)
         && moves.is_passable rule (is_set (spec.side_word (source.way_on Column d) words) place)
         (is_set words.middle (spec.next_bit (source.way_on Row d) place))) }
 {

@@ -80,8 +80,8 @@ fn scan_on<L: Ledger>(
     None
 }
 
-/// The way that leads forward, or else back, so that it can be a constant of a function, which has code of its
-/// own for each.
+/// The way forward, or else the way back, so that it can be a constant of a function, which has code of its own
+/// for each.
 #[inline(always)]
 pub(crate) fn way_of(forward: bool) -> Way
     ensures { result ≡ spec.way_of forward }
@@ -146,7 +146,8 @@ pub(crate) fn scan_rest<const FORWARD: bool, const RULE: usize, L: Ledger>(
     requires eight { AreEight block }
     requires block { HasFirst lines.now (spec.way_of FORWARD) line place block }
     requires clear { ClearFrom lines.now (ruled.rule_of_number RULE) (spec.way_of FORWARD) line place }
-    ensures finds { FindsFrom lines.now (ruled.rule_of_number RULE) (spec.way_of FORWARD) 0 line place result }
+    ensures finds { FindsFrom lines.now (ruled.rule_of_number RULE) (spec.way_of FORWARD) 0
+        line place result }
     ensures most { steps.new + 3 ≤ steps.old + most_lanes (looked 0 result) }
     ensures more { steps.old ≤ steps.new }
 {
@@ -159,8 +160,8 @@ pub(crate) fn scan_rest<const FORWARD: bool, const RULE: usize, L: Ledger>(
     }
 }
 
-/// Scans along a line from a free cell: finds where the scan halts, or `None` where the goal, so many moves on,
-/// is met before; 0 where the goal is not ahead.
+/// Scans along a line from a free cell: finds where the scan halts, or `None` where the goal is met before. The
+/// goal lies so many moves on, or is not ahead, which is 0.
 ///
 /// Most scans halt in the block in which they start, so what is past it is looked at out of line. `AIMED`
 /// tells whether the goal may be ahead: where it is false, the goal is not ahead and is not looked for.

@@ -9,7 +9,8 @@ ghost use Rattle.pruning.specs.Stop.{IsFirstStop};
 ghost use Rattle.pruning.specs.Turns.{is_diagonal};
 ghost use Rattle.jump_block.specs.Scan.{most_lanes};
 ghost use Rattle.bit_grid.specs.Bits.{AreBitsOf};
-ghost use Rattle.jump_block.specs.Source.{AreItsBits, JumpsOnEach, JumpsOnSome, OnEach, OnSome, is_forward, is_back, diagonal_of, is_toward, scanned, Stops};
+ghost use Rattle.jump_block.specs.Source.{AreItsBits, JumpsOnEach, JumpsOnSome, OnEach, OnSome, Stops};
+ghost use Rattle.jump_block.specs.Source.{is_forward, is_back, diagonal_of, is_toward, scanned};
 
 use crate::diagonal::{diagonal_of, is_toward};
 use crate::straight::{Axis, Bits};
@@ -55,7 +56,8 @@ impl<'a> Bits<'a> {
         requires rule { self.now.corner ≡ ruled.rule_of_number RULE }
         requires stands { OnSome self.now at }
         requires aside { AIMED ≡ false → is_toward (diagonal_of EAST SOUTH) at goal ≡ false }
-        ensures first { OnEach self.now at (λ g. result ≡ first.first_stop g goal at (diagonal_of EAST SOUTH)) }
+        ensures first { OnEach self.now at
+            (λ g. result ≡ first.first_stop g goal at (diagonal_of EAST SOUTH)) }
         ensures fewest { steps.old + 3 ≤ steps.new }
     {
         let bits = self.under::<RULE>();
@@ -72,7 +74,8 @@ impl<'a> Bits<'a> {
     ) -> Option<u16>
         requires rule { self.now.corner ≡ ruled.rule_of_number RULE }
         requires stands { OnSome self.now at }
-        ensures first { OnEach self.now at (λ g. result ≡ first.first_stop g goal at (diagonal_of EAST SOUTH)) }
+        ensures first { OnEach self.now at
+            (λ g. result ≡ first.first_stop g goal at (diagonal_of EAST SOUTH)) }
         ensures fewest { steps.old + 3 ≤ steps.new }
     {
         if is_toward(diagonal_of(EAST, SOUTH), at, goal) {

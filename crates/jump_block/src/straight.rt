@@ -3,7 +3,6 @@
 ghost use Rattle.std.specs.Prelude.{◌≡◌, ℕ, ◌+◌, ◌≤◌, Bool, false, true};
 ghost use Rattle.pruning.specs.Turns.{is_diagonal};
 ghost use Rattle.grid_moves.specs.Ruled as ruled;
-ghost use Rattle.jump_plain.specs.Reach as reach;
 ghost use Rattle.jump_block.specs.Scan.{IsStart};
 ghost use Rattle.jump_block.specs.Source as spec;
 ghost use Rattle.jump_block.specs.Word as ways;

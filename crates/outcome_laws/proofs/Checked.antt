@@ -52,7 +52,8 @@ module _ (g : GridData) (c : Certificate) where
 
   by_free : has_size g c ≡ true → (b : Bool) → has_free_ends g c ≡ b → HasVerdict
   by_free size false off = refused_so reject.Ends (size, off)
-  by_free size true ends = let judged = claim_judged g c.start c.goal c.claim in by_claim size ends judged.0 judged.1
+  by_free size true ends =
+      let judged = claim_judged g c.start c.goal c.claim in by_claim size ends judged.0 judged.1
 
   by_size : (b : Bool) → has_size g c ≡ b → HasVerdict
   by_size false off = refused_so reject.Size off

@@ -1,6 +1,6 @@
 -- What is known of the numbers, cells and points that the lines of a certificate spell.
-use Rattle.std.proofs.Common.{◌≡◌, refl, ap, subst, ℕ, suc, ◌+◌, ◌^◌, ◌<◌, ◌≤◌, arith, inl, inr, Bool, true, false}
-use Rattle.std.proofs.Common.{List, [], ◌∷◌, length}
+use Rattle.std.proofs.Common.{◌≡◌, refl, ap, subst, ℕ, suc, ◌+◌, ◌^◌, ◌<◌, ◌≤◌, arith, inl, inr, Bool}
+use Rattle.std.proofs.Common.{true, false, List, [], ◌∷◌, length}
 use Rattle.std.specs.Prelude.{Option, Some, None, nat_lt, nat_le, ◌&&◌, ◌==◌, if◌then◌else◌, codes}
 use Rattle.std.specs.List.{list_all}
 use Rattle.std.specs.Option.{option_and_then, option_map}
@@ -58,8 +58,8 @@ first_low most (word ∷ words) cut e =
 abbrev AreLow : ℕ → ℕ × ℕ → Type 0
 AreLow most two = (two.0 < 10 ^ most) × (two.1 < 10 ^ most)
 
-both_low : (most : ℕ) (words : List (List ℕ)) (cut : (ℕ × ℕ) × List (List ℕ)) → first_two most words ≡ Some cut
-    → AreLow most cut.0
+both_low : (most : ℕ) (words : List (List ℕ)) (cut : (ℕ × ℕ) × List (List ℕ))
+    → first_two most words ≡ Some cut → AreLow most cut.0
 both_low most words cut e =
     let m = then_of _ (first_number most words) cut e in
     let n = map_of (λ (k : ℕ × List (List ℕ)). let c : (ℕ × ℕ) × List (List ℕ) = ((m.0.0, k.0), k.1) in c)
@@ -67,7 +67,8 @@ both_low most words cut e =
     subst (λ (c : (ℕ × ℕ) × List (List ℕ)). AreLow most c.0) n.2
     (first_low most words m.0 m.1, first_low most m.0.1 n.0 n.1)
 
-two_low : (most : ℕ) (words : List (List ℕ)) (two : ℕ × ℕ) → two_numbers most words ≡ Some two → AreLow most two
+two_low : (most : ℕ) (words : List (List ℕ)) (two : ℕ × ℕ) → two_numbers most words ≡ Some two
+    → AreLow most two
 two_low most words two e =
     let some = then_of _ (first_two most words) two e in
     let is = if_of (is_nothing some.0.1) some.0.0 two some.2 in
@@ -75,7 +76,8 @@ two_low most words two e =
 
 short_of : (place : ℕ × ℕ) → AreLow 4 place → is_short (cell_of place) ≡ true
 short_of place low = and_from (nat_lt place.0 10000) (nat_lt place.1 10000)
-    (lt_true place.0 10000 (let x = low.0 in omega arith)) (lt_true place.1 10000 (let y = low.1 in omega arith))
+    (lt_true place.0 10000 (let x = low.0 in omega arith))
+    (lt_true place.1 10000 (let y = low.1 in omega arith))
 
 small_of : (parts : ℕ × ℕ) → AreLow 9 parts → is_small (cost_of parts) ≡ true
 small_of parts low = and_from (nat_lt parts.0 (10 ^ 9)) (nat_lt parts.1 (10 ^ 9))
@@ -160,8 +162,8 @@ points_few line points short e = by_words (parts 32 line) (parts_room line) e
         (and_from (nat_le 1 (length points)) (nat_lt (length points) (2 ^ 30))
         (le-leb 1 (length points) (omega arith)) (lt_true (length points) (2 ^ 30) (omega arith))) all.1
 
-    by_test : (first : List ℕ) (words : List (List ℕ)) → room_of (first ∷ words) ≤ length line + 1 → (b : Bool)
-        → bytes_eq first (codes "points") ≡ b
+    by_test : (first : List ℕ) (words : List (List ℕ)) → room_of (first ∷ words) ≤ length line + 1
+        → (b : Bool) → bytes_eq first (codes "points") ≡ b
         → (if is_nothing (if b then words else []) then None else points_in (if b then words else []))
         ≡ Some points → are_points points ≡ true
     by_test first words room true same e =
@@ -171,7 +173,8 @@ points_few line points short e = by_words (parts 32 line) (parts_room line) e
     by_test first words room false other e = absurd (cc)
 
     by_words : (words : List (List ℕ)) → room_of words ≤ length line + 1
-        → (if is_nothing (behind (codes "points") words) then None else points_in (behind (codes "points") words))
+        → (if is_nothing (behind (codes "points") words) then None
+        else points_in (behind (codes "points") words))
         ≡ Some points → are_points points ≡ true
     by_words [] room e = absurd (cc)
     by_words (first ∷ words) room e = by_test first words room (bytes_eq first (codes "points")) refl e

@@ -1,17 +1,17 @@
 -- Walks back that keep abreast: one of them goes on or ends, and what they change adds up.
-use Rattle.std.proofs.lemmas.Bool.Decides.{nat_tests}
-use Rattle.std.proofs.Common.{◌≡◌, ℕ, zero, suc, ◌+◌, ◌≤◌, ◌⊎◌, inl, inr, arith, Bool, true, false, refl, sym, ◌∙◌}
+use Rattle.std.proofs.Common.{◌≡◌, ℕ, zero, suc, ◌+◌, ◌≤◌, ◌⊎◌, inl, inr, arith, Bool, true, false, refl}
+use Rattle.std.proofs.Common.{sym, ◌∙◌}
 use Rattle.std.proofs.Common.{◌||◌, List, [], ◌∷◌, ◌++◌, length}
 use Rattle.std.specs.Prelude.{Option, Some, None, option_and_then}
 use Rattle.std.specs.Option.{option_to_list}
 use Rattle.grid_moves.specs.declared.Cell.{Cell}
 use Rattle.grid_moves.specs.declared.Dir.{Dir}
-use Rattle.grid_moves.specs.Grid.{GridData, is_inside}
+use Rattle.grid_moves.specs.Grid.{GridData}
 use Rattle.grid_moves.specs.Move.{ahead, is_same}
 use Rattle.grid_moves.proofs.Legal.{is_same-cell, is_same-itself}
 use Rattle.plus_tables.specs.Tables.{TablesData}
 use Rattle.table_repair.specs.declared.walks.Walk.{Walk}
-use Rattle.table_repair.specs.Abreast.{is_at_one, no_cell, IsOnward, KeepAbreast}
+use Rattle.table_repair.specs.Abreast.{AreStanding, is_at_one, no_cell, IsOnward, KeepAbreast}
 use Rattle.table_repair.specs.Mending.{IsRight, AreReady, IsMended, Mends, FollowBut, Sweeps, either}
 use Rattle.table_repair.specs.Mending.{cell_after}
 use Rattle.table_repair.proofs.Lines.{after_before}
@@ -101,22 +101,18 @@ begins w right there = record {
 }
 
 -- before the first move
-pub standing : {h : GridData} {d : Dir} {t : TablesData} {walks : List Walk} → AreReady h t d
-    → ((w : Cell) → is_at_one walks w ≡ true → is_inside h w ≡ true)
-    → ((w : Cell) → is_at_one walks w ≡ true → IsRight h t w d)
+pub stand_still : {h : GridData} {d : Dir} {t : TablesData} {walks : List Walk} → AreStanding h t d walks
     → KeepAbreast h d (is_at_one walks) t t walks no_cell 0
-standing {h} {d} {t} {walks} ready inside right = record {
-  ready = ready;
-  inside = inside;
-  mended = λ w k. begins w (right w k) k;
+stand_still {h} {d} {t} {walks} standing = record {
+  standing = standing;
+  mended = λ w k. begins w (standing.right w k) k;
   mends = nothing_mended h d (is_at_one walks) t;
   follows = λ later f. f;
 }
 
 -- beside walks that stand one more goes one move on from a cell, or ends
 module _ {h : GridData} {d : Dir} (v : Cell) {old new : TablesData} (walks : List Walk) {on : Option Walk}
-    (ready : AreReady h old d) (inside : (w : Cell) → is_at_one walks w ≡ true → is_inside h w ≡ true)
-    (right : (w : Cell) → is_at_one walks w ≡ true → IsRight h old w d)
+    (standing : AreStanding h old d walks)
     (mends : Mends h d (λ w. is_same w v) old new (length (option_to_list on)))
     (follows : (later : Cell → Bool) → FollowBut h old d (λ w. is_same w v || later w)
     → FollowBut h new d (either (is_at_one (option_to_list on)) later))
@@ -136,17 +132,25 @@ module _ {h : GridData} {d : Dir} (v : Cell) {old new : TablesData} (walks : Lis
   some_length None w a = absurd (cc)
   some_length (Some next) w a = omega arith
 
+  stays_right : (w : Cell) → is_at_one walks w ≡ true → IsRight h new w d
+  stays_right w r = right_stays mends w d (standing.inside w r) (standing.right w r)
+
   stepped : KeepAbreast h d (either (is_at_one walks) (λ w. is_same w v)) old new (walks ++ option_to_list on)
       no_cell (length (option_to_list on))
   stepped = record {
-    ready = ready_stays mends ready;
-    inside = λ w k. elim (either_one w k) [
-      | inl r ↦ inside w r
-      | inr a ↦ (onward_at on onward w a).inside
-    ];
+    standing = record {
+      ready = ready_stays mends standing.ready;
+      inside = λ w k. elim (either_one w k) [
+        | inl r ↦ standing.inside w r
+        | inr a ↦ (onward_at on onward w a).inside
+      ];
+      right = λ w k. elim (either_one w k) [
+        | inl r ↦ stays_right w r
+        | inr a ↦ (onward_at on onward w a).right
+      ];
+    };
     mended = λ w k. elim (either_one w k) [
-      | inl r ↦ begins w (right_stays mends w d (inside w r) (right w r))
-          (or_left (is_at_one walks w) (is_same w v) r)
+      | inl r ↦ begins w (stays_right w r) (or_left (is_at_one walks w) (is_same w v) r)
       | inr a ↦ (let o = onward_at on onward w a in record {
         right = o.right;
         moves = 1;
@@ -167,14 +171,15 @@ module _ {h : GridData} {d : Dir} (v : Cell) {old new : TablesData} (walks : Lis
       regroup : (z a b c : Bool) → z ≡ (a || b) → (z || c) ≡ false → (b || (a || c)) ≡ false
       regroup z a b c e k = grind arith
 
-      narrower : (w : Cell) (later : Cell → Bool) → (is_at_one (walks ++ option_to_list on) w || later w) ≡ false
+      narrower : (w : Cell) (later : Cell → Bool)
+          → (is_at_one (walks ++ option_to_list on) w || later w) ≡ false
           → (is_at_one (option_to_list on) w || (is_at_one walks w || later w)) ≡ false
       narrower w later k =
           regroup (is_at_one (walks ++ option_to_list on) w) (is_at_one walks w)
           (is_at_one (option_to_list on) w) (later w) (at_both walks (option_to_list on) w) k
 
-  pub step_on : {more : List Walk} {m : ℕ} → more ≡ walks ++ option_to_list on → length (option_to_list on) ≡ m
-      → KeepAbreast h d (either (is_at_one walks) (λ w. is_same w v)) old new more no_cell m
+  pub step_on : {more : List Walk} {m : ℕ} → more ≡ walks ++ option_to_list on
+      → length (option_to_list on) ≡ m → KeepAbreast h d (either (is_at_one walks) (λ w. is_same w v)) old new more no_cell m
   step_on e f = rw (e, ← f) stepped
 
   -- where it stands then
@@ -204,8 +209,7 @@ pub abreast_then : {h : GridData} {d : Dir} {starts : Cell → Bool} {old now ne
     → ((w : Cell) → piece w ≡ false → rest w ≡ false → (is_at_one walks w || left w) ≡ false)
     → KeepAbreast h d piece now new onward no_cell m → KeepAbreast h d starts old new onward rest (n + m)
 abreast_then {walks = walks} {left = left} {piece = piece} {rest = rest} first reached split second = record {
-  ready = second.ready;
-  inside = second.inside;
+  standing = second.standing;
   mended = λ w k. mended_further reached w (second.mended w k);
   mends = mends_through first.mends reached second.mends;
   follows = λ later f. second.follows (either rest later)
@@ -226,8 +230,7 @@ pub abreast_beside : {h : GridData} {d : Dir} {starts : Cell → Bool} (row : Ce
     {walks : List Walk} {n : ℕ} → KeepAbreast h d starts old now walks no_cell n
     → KeepAbreast h d (either starts row) old now walks row n
 abreast_beside {starts = starts} row first = record {
-  ready = first.ready;
-  inside = first.inside;
+  standing = first.standing;
   mended = λ w k. let a = first.mended w k in
       still_mended (λ v j. or_left (starts v) (row v) j) a.right (omega arith) a;
   mends = mends_wider (λ w k. or_left (starts w) (row w) k) first.mends;
@@ -240,8 +243,7 @@ pub left_less : {h : GridData} {d : Dir} {starts left rest : Cell → Bool} {old
     {walks : List Walk} {n : ℕ} → KeepAbreast h d starts old now walks left n
     → ((w : Cell) → rest w ≡ false → left w ≡ false) → KeepAbreast h d starts old now walks rest n
 left_less {left = left} {rest = rest} {walks = walks} abreast less = record {
-  ready = abreast.ready;
-  inside = abreast.inside;
+  standing = abreast.standing;
   mended = abreast.mended;
   mends = abreast.mends;
   follows = λ later f. follow_more (λ w k.
@@ -258,7 +260,7 @@ pub enter_next : {h : GridData} {d : Dir} {all row left rest : Cell → Bool} {o
     → ((w : Cell) → row w ≡ false → rest w ≡ false → left w ≡ false)
     → KeepAbreast h d (either (is_at_one walks) row) now new onward no_cell m
     → KeepAbreast h d all old new onward rest (n + m)
-enter_next {h = h} {d = d} {all = all} {row = row} {left = left} {rest = rest} {now = now} {walks = walks} {n = n}
+enter_next {h} {d} {all} {row} {left} {rest} {old} {now} {new} {walks} {onward} {n}
     abreast right within split second =
     abreast_then abreast reached apart second
   where
@@ -277,7 +279,12 @@ enter_next {h = h} {d = d} {all = all} {row = row} {left = left} {rest = rest} {
 -- nothing has begun
 pub enter_none : {h : GridData} {d : Dir} {all : Cell → Bool} {t : TablesData} {walks : List Walk}
     → AreReady h t d → walks ≡ [] → KeepAbreast h d all t t walks all 0
-enter_none h i = grind (arith, nat_tests)
+enter_none {h} {d} {all} {t} ready e = rw e (record {
+  standing = record { ready = ready; inside = λ w k. absurd (cc); right = λ w k. absurd (cc) };
+  mended = λ w k. absurd (cc);
+  mends = nothing_mended h d all t;
+  follows = λ later f. f;
+})
 
 -- nothing is left, and the walks are led on
 pub enter_ends : {h : GridData} {d : Dir} {all left : Cell → Bool} {old now new : TablesData}

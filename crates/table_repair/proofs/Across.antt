@@ -75,7 +75,8 @@ module _ (d : Dir) (line place : ℕ) (places : Span) {v : Cell} (is : v ≡ cel
   -- the cell at a place
   pub cell_there : is_among places place ≡ true → is_on_line d line places v ≡ true
   cell_there i = rw is (and_true (nat_eq (line_of d (cell_on d line place)) line)
-      (is_among places (place_of d (cell_on d line place))) (rw line_there (same_number line)) (rw place_there i))
+      (is_among places (place_of d (cell_on d line place))) (rw line_there (same_number line))
+      (rw place_there i))
     where
       line_there : line_of d (cell_on d line place) ≡ line
       line_there = grind arith
@@ -92,7 +93,8 @@ module _ (d : Dir) (line place : ℕ) (places : Span) {v : Cell} (is : v ≡ cel
       by_way false e f = same_cell w (record { x = place; y = line }) f e
 
   -- what was left is that cell, or lies at the places after it
-  pub place_or_rest : (w : Cell) → is_same w v ≡ false → is_on_line d line (from_place (place + 1) places) w ≡ false
+  pub place_or_rest : (w : Cell) → is_same w v ≡ false
+      → is_on_line d line (from_place (place + 1) places) w ≡ false
       → is_on_line d line (from_place place places) w ≡ false
   place_or_rest w s r = not_true (is_on_line d line (from_place place places) w) (λ i.
       let p = on_parts d line (from_place place places) w i in

@@ -70,7 +70,8 @@ module _ (h : GridData) (rows columns : Span) {wide rear : Span} (by : ℕ) (d :
 
   -- how many cells that are
   pub cells_few : IsBlock h rows columns
-      → span_length rows * span_length wide + span_length rear * span_length columns ≤ 3 * (h.width + h.height)
+      → span_length rows * span_length wide + span_length rear * span_length columns
+      ≤ 3 * (h.width + h.height)
   cells_few b = grind (arith, wide_short, rear_short, mul-le-mul)
 
 pub steps_both : (start now new m n cells more limit : ℕ) → now ≤ start + m + cells → new ≤ now + n + more

@@ -5,23 +5,24 @@ use Rattle.std.proofs.Common.{◌||◌, List, []}
 use Rattle.std.specs.Prelude.{Some, ◌&&◌}
 use Rattle.grid_moves.specs.declared.Cell.{Cell}
 use Rattle.grid_moves.specs.declared.Dir.{Dir}
-use Rattle.grid_moves.specs.Grid.{GridData, is_inside}
-use Rattle.grid_moves.specs.Move.{ahead, is_same}
+use Rattle.grid_moves.specs.Grid.{GridData}
+use Rattle.grid_moves.specs.Move.{is_same}
 use Rattle.grid_moves.proofs.Legal.{and_both, is_same-cell}
 use Rattle.pruning.proofs.Running.{AreMoved}
 use Rattle.plus_tables.specs.Tables.{TablesData}
 use Rattle.table_repair.specs.declared.span.Span.{Span}
 use Rattle.table_repair.specs.declared.walks.Walk.{Walk}
 use Rattle.table_repair.specs.Abreast.{is_at_one, no_cell, IsBehindOne, KeepAbreast}
-use Rattle.table_repair.specs.Lines.{line_of, place_of, cell_on, lines_rise, is_on_line, is_across}
+use Rattle.table_repair.specs.Lines.{line_of, place_of, cell_on, lines_of, places_of, lines_rise}
+use Rattle.table_repair.specs.Lines.{is_on_line, is_across}
 use Rattle.table_repair.specs.Mending.{IsRight, CanSweep, either, is_among}
 use Rattle.table_repair.specs.Mending.{cell_after}
 use Rattle.table_repair.proofs.Abreast.{enter_next, or_either}
-use Rattle.table_repair.proofs.Across.{on_parts, line_of_block, line_or_rest, from_place, cell_there}
+use Rattle.table_repair.proofs.Across.{on_map, on_parts, line_of_block, line_or_rest, from_place, cell_there}
 use Rattle.table_repair.proofs.Across.{place_or_rest}
 use Rattle.table_repair.proofs.Lines.{after_moved, right_ahead}
 use Rattle.table_repair.proofs.Moving.{ahead_moved}
-use Rattle.table_repair.proofs.Sweeping.{IsTaken}
+use Rattle.table_repair.proofs.Sweeping.{IsTaken, among_parts}
 use Rattle.table_repair.proofs.Walking.{false_or, or_left, or_right, not_true}
 
 -- the line is one of those that are left, or lies behind them
@@ -51,7 +52,8 @@ pub enter_place : {h : GridData} {d : Dir} (starts : Cell → Bool) (line place 
     → is_among places place ≡ true
     → KeepAbreast h d (either starts (is_on_line d line places)) old now walks
     (is_on_line d line (from_place place places)) n
-    → IsRight h now v d → KeepAbreast h d (either (is_at_one walks) (λ w. is_same w v)) now new onward no_cell m
+    → IsRight h now v d
+    → KeepAbreast h d (either (is_at_one walks) (λ w. is_same w v)) now new onward no_cell m
     → KeepAbreast h d (either starts (is_on_line d line places)) old new onward
     (is_on_line d line (from_place (place + 1) places)) (n + m)
 enter_place {d = d} starts line place places {v = v} is among abreast right second = enter_next abreast
@@ -71,13 +73,16 @@ module _ {h : GridData} {d : Dir} (lines places : Span) {left rest : Span} {line
       → AreMoved d (suc k) v w → IsPast (lines_rise d) left (line_of d w) → ⊥
   ahead_past d k v w t e m p = grind arith
 
+  pub line_low : lines.end ≤ lines_of h d → line < lines_of h d
+  line_low low = let l = (among_parts lines line (within line taken.member)).1 in omega arith
+
   -- the line's entries are right, since no cell ahead waits
-  pub enter_right : CanSweep h old d (is_across d lines places)
-      → ((v : Cell) → is_on_line d line places v ≡ true → is_inside h v ≡ true) → (v : Cell)
-      → is_on_line d line places v ≡ true → IsRight h now v d
-  enter_right can inside v here =
+  pub enter_right : lines.end ≤ lines_of h d → places.end ≤ places_of h d
+      → CanSweep h old d (is_across d lines places) → (v : Cell) → is_on_line d line places v ≡ true
+      → IsRight h now v d
+  enter_right low narrow can v here =
       right_ahead h now d (either (is_at_one walks) (either (is_across d left places) can.later))
-      (abreast.follows can.later can.follow) v (inside v here)
+      (abreast.follows can.later can.follow) v (on_map h d line places v (line_low low) narrow here)
       (λ w k r. false_or (is_at_one walks w) (is_across d left places w || can.later w)
       (not_true (is_at_one walks w) (λ i. not_past w k r (past w i)))
       (false_or (is_across d left places w) (can.later w)
@@ -106,11 +111,11 @@ module _ {h : GridData} {d : Dir} (lines places : Span) {left rest : Span} {line
             rw e (among_past (lines_rise d) left line taken.member))
       ])
 
-  pub enter_line : {new : TablesData} {onward : List Walk} {m : ℕ}
-      → ((v : Cell) → is_on_line d line places v ≡ true → IsRight h now v d)
+  pub enter_line : {new : TablesData} {onward : List Walk} {m : ℕ} → lines.end ≤ lines_of h d
+      → places.end ≤ places_of h d → CanSweep h old d (is_across d lines places)
       → KeepAbreast h d (either (is_at_one walks) (is_on_line d line places)) now new onward no_cell m
       → KeepAbreast h d (is_across d lines places) old new onward (is_across d rest places) (n + m)
-  enter_line right second = enter_next abreast right
+  enter_line low narrow can second = enter_next abreast (enter_right low narrow can)
       (λ w i. line_of_block d lines places line (within line taken.member) w i)
       (λ w s r. line_or_rest taken d places w s r) second
 

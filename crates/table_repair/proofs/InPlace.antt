@@ -10,11 +10,11 @@ use Rattle.grid_moves.specs.Grid.{GridData, is_inside}
 use Rattle.grid_moves.specs.Move.{is_same}
 use Rattle.plus_tables.specs.Tables.{TablesData}
 use Rattle.table_repair.specs.declared.walks.Walk.{Walk}
-use Rattle.table_repair.specs.Abreast.{is_at_one, IsOnward, LedOn, room_of}
-use Rattle.table_repair.specs.Mending.{IsRight, AreReady, Mends, FollowBut, either}
+use Rattle.table_repair.specs.Abreast.{AreStanding, is_at_one, IsOnward, LedOn, room_of}
+use Rattle.table_repair.specs.Mending.{IsRight, Mends, FollowBut, either}
 use Rattle.table_repair.proofs.Rounds.{Round, round_begins, round_next, some_on, none_on, stood}
 use Rattle.table_repair.proofs.Rounds.{right_now}
-use Rattle.table_repair.proofs.Abreast.{left_less, standing}
+use Rattle.table_repair.proofs.Abreast.{left_less, stand_still}
 
 -- the first ones of the list are the walks that went on, and behind the first i it is as it was
 pub record InPlace (h : GridData) (d : Dir) (old now : TablesData) (first steps : ℕ) (here list : List Walk)
@@ -25,12 +25,9 @@ pub record InPlace (h : GridData) (d : Dir) (old now : TablesData) (first steps 
   pub size : length list ≡ length here
 
 pub place_begins : {h : GridData} {d : Dir} {t : TablesData} {steps : ℕ} {walks : List Walk}
-    → AreReady h t d
-    → ((w : Cell) → is_at_one walks w ≡ true → is_inside h w ≡ true)
-    → ((w : Cell) → is_at_one walks w ≡ true → IsRight h t w d)
-    → InPlace h d t t steps steps walks walks 0 0
-place_begins ready i r = record {
-  round = round_begins ready i r;
+    → AreStanding h t d walks → InPlace h d t t steps steps walks walks 0 0
+place_begins standing = record {
+  round = round_begins standing;
   rest = refl;
   few = omega arith;
   size = refl;
@@ -55,7 +52,7 @@ module _ {h : GridData} {d : Dir} {old now : TablesData} {first steps : ℕ} {he
 
   -- the walk that is led on
   pub its_inside : is_inside h (get_or shown i v).at ≡ true
-  its_inside = rw parts.0 (place.round.inside (get_or here i v).at (stood v place.round l))
+  its_inside = rw parts.0 (place.round.began.inside (get_or here i v).at (stood v place.round l))
 
   pub its_right : IsRight h now (get_or shown i v).at d
   its_right = rw parts.0 (right_now v place.round l)
@@ -112,11 +109,12 @@ module _ {h : GridData} {d : Dir} {old now : TablesData} {first steps : ℕ} {he
   }
 
 -- where no walk stands
-pub led_none : {h : GridData} {d : Dir} {t : TablesData} {walks : List Walk} {steps : ℕ} → AreReady h t d
-    → walks ≡ [] → LedOn h d t t walks walks steps steps
+pub led_none : {h : GridData} {d : Dir} {t : TablesData} {walks : List Walk} {steps : ℕ}
+    → AreStanding h t d walks → walks ≡ [] → LedOn h d t t walks walks steps steps
 unfolding room_of
-led_none ready e = rw e (record {
-  abreast = standing ready (λ w k. absurd (cc)) (λ w k. absurd (cc));
+led_none standing e = rw e (record {
+  abreast = stand_still
+      (record { ready = standing.ready; inside = λ w k. absurd (cc); right = λ w k. absurd (cc) });
   behind = λ w k. absurd (cc);
   room = omega arith;
   fewer = omega arith;

@@ -14,11 +14,13 @@ use Rattle.grid_moves.proofs.Legal.{is_same-cell}
 use Rattle.grid_moves.proofs.Places.{inside_is}
 use Rattle.plus_tables.specs.Tables.{TablesData}
 use Rattle.table_repair.specs.declared.walks.Walk.{Walk}
-use Rattle.table_repair.specs.Abreast.{is_at_one, no_cell, IsBehindOne, IsOnward, KeepAbreast, back_room}
+use Rattle.table_repair.specs.Abreast.{AreStanding, is_at_one, no_cell, IsBehindOne, IsOnward, KeepAbreast}
+use Rattle.table_repair.specs.Abreast.{back_room}
 use Rattle.table_repair.specs.Abreast.{room_of}
-use Rattle.table_repair.specs.Mending.{IsRight, AreReady, Mends, FollowBut, either}
+use Rattle.table_repair.specs.Mending.{IsRight, Mends, FollowBut, either}
 use Rattle.table_repair.specs.Lines.{lines_rise}
-use Rattle.table_repair.proofs.Abreast.{abreast_then, at_first, at_others, enter_next, enter_none, standing}
+use Rattle.table_repair.proofs.Abreast.{abreast_then, at_first, at_others, enter_next, enter_none}
+use Rattle.table_repair.proofs.Abreast.{stand_still}
 use Rattle.table_repair.proofs.Abreast.{step_on, step_behind}
 use Rattle.table_repair.proofs.Across.{line_inside, lines_few}
 use Rattle.table_repair.proofs.Mends.{right_stays}
@@ -58,7 +60,8 @@ unfolding room_of
 room_few h d [] grid inside = omega arith
 room_few h d (v ∷ vs) grid inside =
     let more = room_few h d vs grid (λ w k. inside w (at_others v vs w k)) in
-    let one = line_few (lines_rise d) (line_inside h d v.at (inside v.at (at_first v vs))) (lines_few h d grid) in
+    let there = line_inside h d v.at (inside v.at (at_first v vs)) in
+    let one = line_few (lines_rise d) there (lines_few h d grid) in
     omega arith
   where
     line_few : (rise : Bool) {line lines : ℕ} → line < lines → lines ≤ 4096
@@ -79,12 +82,11 @@ pub record Queued (h : GridData) (d : Dir) (starts : Cell → Bool) (old now : T
   pub counted : steps + length walks ≤ first + n + all
   pub later : first ≤ steps
 
-pub queued_none : {h : GridData} {d : Dir} {t : TablesData} {steps : ℕ} {walks : List Walk} → AreReady h t d
-    → ((w : Cell) → is_at_one walks w ≡ true → is_inside h w ≡ true)
-    → ((w : Cell) → is_at_one walks w ≡ true → IsRight h t w d)
+pub queued_none : {h : GridData} {d : Dir} {t : TablesData} {steps : ℕ} {walks : List Walk}
+    → AreStanding h t d walks
     → Queued h d (is_at_one walks) t t steps steps (length walks) (room_of h d walks) walks 0
-queued_none h i j = record {
-  abreast = standing h i j;
+queued_none standing = record {
+  abreast = stand_still standing;
   few = omega arith;
   counted = omega arith;
   later = omega arith;
@@ -93,8 +95,7 @@ queued_none h i j = record {
 -- in a round: the walks from one on wait, and those before went on or ended
 pub record Round (h : GridData) (d : Dir) (old now : TablesData) (first steps : ℕ) (here onward : List Walk)
     (i : ℕ) : Type 0 where
-  pub inside : (w : Cell) → is_at_one here w ≡ true → is_inside h w ≡ true
-  pub right : (w : Cell) → is_at_one here w ≡ true → IsRight h old w d
+  pub began : AreStanding h old d here
   pub abreast : KeepAbreast h d (is_at_one here) old now onward (is_at_one (drop i here)) (length onward)
   pub room : length onward + room_of h d onward + room_of h d (drop i here) ≤ room_of h d here
   pub counted : steps ≤ first + i
@@ -103,14 +104,12 @@ pub record Round (h : GridData) (d : Dir) (old now : TablesData) (first steps : 
   pub within : i ≤ length here
   pub behind : (w : Cell) → is_at_one onward w ≡ true → IsBehindOne d (is_at_one here) w
 
-pub round_begins : {h : GridData} {d : Dir} {t : TablesData} {steps : ℕ} {walks : List Walk} → AreReady h t d
-    → ((w : Cell) → is_at_one walks w ≡ true → is_inside h w ≡ true)
-    → ((w : Cell) → is_at_one walks w ≡ true → IsRight h t w d) → Round h d t t steps steps walks [] 0
+pub round_begins : {h : GridData} {d : Dir} {t : TablesData} {steps : ℕ} {walks : List Walk}
+    → AreStanding h t d walks → Round h d t t steps steps walks [] 0
 unfolding room_of
-round_begins ready inside right = record {
-  inside = inside;
-  right = right;
-  abreast = enter_none ready refl;
+round_begins standing = record {
+  began = standing;
+  abreast = enter_none standing.ready refl;
   room = omega arith;
   counted = omega arith;
   later = omega arith;
@@ -134,12 +133,13 @@ module _ {h : GridData} {d : Dir} {old now : TablesData} {first steps : ℕ} {he
   stood = at_index here i v l
 
   pub right_now : IsRight h now its_cell d
-  right_now = right_stays round.abreast.mends its_cell d (round.inside its_cell stood)
-      (round.right its_cell stood)
+  right_now = right_stays round.abreast.mends its_cell d (round.began.inside its_cell stood)
+      (round.began.right its_cell stood)
 
   split : (w : Cell) → is_same w its_cell ≡ false → is_at_one (drop (i + 1) here) w ≡ false
       → is_at_one (drop i here) w ≡ false
-  split w s r = rw (drop_more here i v l) (false_or (is_same w its_cell) (is_at_one (drop (i + 1) here) w) s r)
+  split w s r = rw (drop_more here i v l)
+      (false_or (is_same w its_cell) (is_at_one (drop (i + 1) here) w) s r)
 
   pub round_next : {new : TablesData} {counted : ℕ} {on : Option Walk}
       → Mends h d (λ w. is_same w (get_or here i v).at) now new (length (option_to_list on))
@@ -149,23 +149,20 @@ module _ {h : GridData} {d : Dir} {old now : TablesData} {first steps : ℕ} {he
       → counted ≤ steps + 1 → steps ≤ counted → {more : List Walk} → more ≡ onward ++ option_to_list on
       → Round h d old new first counted here more (i + 1)
   round_next {new = new} {on = on} mends follows onward_is c later {more = more} e = record {
-    inside = round.inside;
-    right = round.right;
+    began = round.began;
     abreast = rw longer (enter_next round.abreast (λ w k. rw (is_same-cell w its_cell k) right_now)
         (λ w k. rw (is_same-cell w its_cell k) stood) split
-        (step_on its_cell onward round.abreast.ready round.abreast.inside
-        (λ w k. (round.abreast.mended w k).right) mends follows onward_is e refl));
+        (step_on its_cell onward round.abreast.standing mends follows onward_is e refl));
     room = let a = round.room in let b = room_next h d its_cell new on onward_is in let f = room_more in
         let g = room_left_over in let n = longer in omega arith;
     counted = let a = round.counted in omega arith;
     later = let a = round.later in omega arith;
     fewer = let a = longer in let b = one_more on in let c = round.fewer in omega arith;
     within = omega arith;
-    behind = λ w a. elim (step_behind its_cell onward round.abreast.ready round.abreast.inside
-        (λ w k. (round.abreast.mended w k).right) mends follows onward_is e w a) [
-          | inl b ↦ round.behind w b
-          | inr b ↦ record { from = its_cell; stood = stood; behind = b }
-        ];
+    behind = λ w a. elim (step_behind its_cell onward round.abreast.standing mends follows onward_is e w a) [
+      | inl b ↦ round.behind w b
+      | inr b ↦ record { from = its_cell; stood = stood; behind = b }
+    ];
   }
     where
       longer : length more ≡ length onward + length (option_to_list on)

@@ -162,7 +162,8 @@ module _ {h : GridData} {d : Dir} (v : Cell) {t : TablesData} (ready : AreReady 
           let sized = ready.sized in
           let wide : t.width ≡ r.width = sized.width ∙ sym a.sized.width in
           let high : t.height ≡ r.height = sized.height ∙ sym a.sized.height in
-          let long : length t.entries ≡ length r.entries = ready.whole.whole ∙ rw (wide, high) (sym w.whole) in
+          let long : length t.entries ≡ length r.entries
+          = ready.whole.whole ∙ rw (wide, high) (sym w.whole) in
           let right : table_entry h u d ≡ get_or r.entries (entry_place t.width u d) (pos 0)
           = sym (a.right u d there.1)
           ∙ ap (λ (n : ℕ). get_or r.entries (entry_place n u d) (pos 0)) (sym wide) in

@@ -15,6 +15,12 @@ abbrev pub is_at_one : List Walk → Cell → Bool
 is_at_one [] w = false
 is_at_one (v ∷ vs) w = is_same w v.at || is_at_one vs w
 
+-- each of the walks stands at an entry that is right, and those for the direction can be refreshed
+pub record AreStanding (h : GridData) (t : TablesData) (d : Dir) (walks : List Walk) : Type 0 where
+  pub ready : AreReady h t d
+  pub inside : (w : Cell) → is_at_one walks w ≡ true → is_inside h w ≡ true
+  pub right : (w : Cell) → is_at_one walks w ≡ true → IsRight h t w d
+
 -- a walk came from the one cell to the other, at which the entry is right
 pub record IsOnward (h : GridData) (t : TablesData) (d : Dir) (from u : Cell) : Type 0 where
   pub inside : is_inside h u ≡ true
@@ -31,12 +37,11 @@ pub record IsBehindOne (d : Dir) (there : Cell → Bool) (u : Cell) : Type 0 whe
 abbrev pub no_cell : Cell → Bool
 no_cell v = false
 
--- The walks that stand, after n entries were made right behind the cells where they begin: each at an entry
--- that is right. Of what waited for those cells only what is left and what waits for the walks waits still.
+-- The walks that stand, after n entries were made right behind the cells where they begin. Of what waited
+-- for those cells only what is left and what waits for the walks waits still.
 pub record KeepAbreast (h : GridData) (d : Dir) (starts : Cell → Bool) (old now : TablesData)
     (walks : List Walk) (left : Cell → Bool) (n : ℕ) : Type 0 where
-  pub ready : AreReady h now d
-  pub inside : (w : Cell) → is_at_one walks w ≡ true → is_inside h w ≡ true
+  pub standing : AreStanding h now d walks
   pub mended : (w : Cell) → is_at_one walks w ≡ true → IsMended h now d starts n w
   pub mends : Mends h d starts old now n
   pub follows : (later : Cell → Bool) → FollowBut h old d (either starts later)

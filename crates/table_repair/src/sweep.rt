@@ -1,16 +1,16 @@
 //! Sweeps: all the cells of a block, line by line, from the far end.
 //!
-//! Lines lie across a direction, so that no cell of a line lies ahead of another. Walks begin in each line when
-//! those under way have come to it: then all stand in one line, and keep abreast.
+//! Lines lie across a direction, so that no cell of a line lies ahead of another. Walks begin in each line
+//! when those under way have come to it: then all stand in one line, and keep abreast.
 
 ghost use Rattle.std.specs.Prelude.{◌≡◌, ◌+◌, ◌*◌, ◌<◌, ◌≤◌, true, [], length};
 ghost use Rattle.grid_moves.specs.declared.Cell.{Cell};
-ghost use Rattle.grid_moves.specs.Grid.{is_inside};
 ghost use Rattle.table_repair.specs.Lines as spec;
 ghost use Rattle.table_repair.specs.Lines.{is_across, is_on_line, lines_of, places_of};
 ghost use Rattle.table_repair.specs.Mending as mending;
-ghost use Rattle.table_repair.specs.Mending.{IsRight, AreReady, CanSweep, Mends, Sweeps, either, is_in, span_length};
-ghost use Rattle.table_repair.specs.Abreast.{IsBehindOne, KeepAbreast, is_at_one, no_cell};
+ghost use Rattle.table_repair.specs.Mending.{IsRight, AreReady, CanSweep, Mends, Sweeps, either, is_in};
+ghost use Rattle.table_repair.specs.Mending.{span_length};
+ghost use Rattle.table_repair.specs.Abreast.{AreStanding, IsBehindOne, KeepAbreast, is_at_one, no_cell};
 
 use crate::span::{Span, take_far};
 use crate::walks::{Walks, begin, lead_on, lead_out};
@@ -74,10 +74,8 @@ fn enter_line<L: Ledger>(
     d: Dir,
     steps: &mut Steps<L>,
 ) -> u64
-    requires ready { AreReady grid.now tables.old d }
+    requires standing { AreStanding grid.now tables.old d walks.old.items }
     requires short { length walks.old.items ≤ 255 }
-    requires inside { (w : Cell) → is_at_one walks.old.items w ≡ true → is_inside grid.now w ≡ true }
-    requires right { (w : Cell) → is_at_one walks.old.items w ≡ true → IsRight grid.now tables.old w d }
     requires line { line < lines_of grid.now d }
     requires places { places.end ≤ places_of grid.now d }
     requires line_right { (w : Cell) → is_on_line d line places w ≡ true → IsRight grid.now tables.old w d }

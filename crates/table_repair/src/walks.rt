@@ -4,13 +4,14 @@
 //! memory. One walk alone takes another line of memory for each entry. Walks that keep abreast take each line
 //! once, and in order. No walk rests on another, so the same entries are refreshed whatever their order.
 
-ghost use Rattle.std.specs.Prelude.{◌≡◌, ◌+◌, ◌-◌, ◌*◌, ◌<◌, ◌≤◌, ◌⊎◌, Bool, true, ◌||◌, Some, [], length, slice_set};
+ghost use Rattle.std.specs.Prelude.{◌≡◌, ◌+◌, ◌-◌, ◌*◌, ◌<◌, ◌≤◌, ◌⊎◌, Bool, true, ◌||◌, Some, [], length};
+ghost use Rattle.std.specs.Prelude.{slice_set};
 ghost use Rattle.std.specs.Option.{option_to_list};
 ghost use Rattle.grid_moves.specs.declared.Cell.{Cell};
 ghost use Rattle.grid_moves.specs.Grid.{IsGrid, is_inside};
 ghost use Rattle.grid_moves.specs.Move.{ahead, column_ahead, is_same, opposite, row_ahead};
 ghost use Rattle.table_repair.specs.Mending.{IsRight, AreReady, FollowBut, Mends, behind_on, either};
-ghost use Rattle.table_repair.specs.Abreast.{IsOnward, KeepAbreast, LedOn, is_at_one, no_cell};
+ghost use Rattle.table_repair.specs.Abreast.{AreStanding, IsOnward, KeepAbreast, LedOn, is_at_one, no_cell};
 
 use arrayvec::ArrayVec;
 use grid_moves::{Cell, Dir, Grid, Terrain, before, dir_number};
@@ -35,8 +36,9 @@ impl Default for Walk {
 /// Walks that keep abreast, at most 256.
 pub type Walks = ArrayVec<Walk, 256>;
 
-// One more than the columns by which a move back along each direction leads to the east, and one more than the
-// rows by which it leads to the south. They are read from tables, so that there is no branch on the direction.
+// One more than the columns by which a move back along each direction leads to the east, and one more than
+// the rows by which it leads to the south. They are read from tables, so that there is no branch on the
+// direction.
 const COLUMNS_BACK_AND_ONE: [u16; 8] = [1, 0, 0, 0, 1, 2, 2, 2];
 
 const ROWS_BACK_AND_ONE: [u16; 8] = [2, 2, 1, 0, 0, 0, 1, 2];
@@ -111,8 +113,8 @@ fn set_walk(walks: &mut Walks, place: usize, walk: Walk)
     walks.as_mut_slice()[place] = walk;
 }
 
-// Leads each walk one move back; those whose entry changed go on, the others end. Those that go on move to the
-// front of the list, so a round touches no more of it than the walks that are left.
+// Leads each walk one move back; those whose entry changed go on, the others end. Those that go on move to
+// the front of the list, so a round touches no more of it than the walks that are left.
 fn lead_all<L: Ledger>(
     tables: &mut Tables,
     grid: &Grid,
@@ -120,9 +122,7 @@ fn lead_all<L: Ledger>(
     d: Dir,
     steps: &mut Steps<L>,
 )
-    requires ready { AreReady grid.now tables.old d }
-    requires inside { (w : Cell) → is_at_one walks.old.items w ≡ true → is_inside grid.now w ≡ true }
-    requires right { (w : Cell) → is_at_one walks.old.items w ≡ true → IsRight grid.now tables.old w d }
+    requires standing { AreStanding grid.now tables.old d walks.old.items }
     ensures { LedOn grid.now d tables.old tables.new walks.old.items walks.new.items steps.old steps.new }
 {
     let all = walks.len();
@@ -146,9 +146,7 @@ pub fn lead_on<L: Ledger>(
     d: Dir,
     steps: &mut Steps<L>,
 )
-    requires ready { AreReady grid.now tables.old d }
-    requires inside { (w : Cell) → is_at_one walks.old.items w ≡ true → is_inside grid.now w ≡ true }
-    requires right { (w : Cell) → is_at_one walks.old.items w ≡ true → IsRight grid.now tables.old w d }
+    requires standing { AreStanding grid.now tables.old d walks.old.items }
     ensures { LedOn grid.now d tables.old tables.new walks.old.items walks.new.items steps.old steps.new }
 {
     if !walks.is_empty() {
@@ -164,10 +162,8 @@ pub fn lead_out<L: Ledger>(
     d: Dir,
     steps: &mut Steps<L>,
 ) -> u64
-    requires ready { AreReady grid.now tables.old d }
+    requires standing { AreStanding grid.now tables.old d walks.old.items }
     requires short { length walks.old.items ≤ 256 }
-    requires inside { (w : Cell) → is_at_one walks.old.items w ≡ true → is_inside grid.now w ≡ true }
-    requires right { (w : Cell) → is_at_one walks.old.items w ≡ true → IsRight grid.now tables.old w d }
     ensures abreast { KeepAbreast grid.now d (is_at_one walks.old.items) tables.old tables.new
         walks.new.items no_cell result }
     ensures none { walks.new.items ≡ [] }
@@ -191,10 +187,8 @@ fn make_room<L: Ledger>(
     d: Dir,
     steps: &mut Steps<L>,
 ) -> u64
-    requires ready { AreReady grid.now tables.old d }
+    requires standing { AreStanding grid.now tables.old d walks.old.items }
     requires short { length walks.old.items ≤ 256 }
-    requires inside { (w : Cell) → is_at_one walks.old.items w ≡ true → is_inside grid.now w ≡ true }
-    requires right { (w : Cell) → is_at_one walks.old.items w ≡ true → IsRight grid.now tables.old w d }
     ensures abreast { KeepAbreast grid.now d (is_at_one walks.old.items) tables.old tables.new
         walks.new.items no_cell result }
     ensures same { (w : Cell) → is_at_one walks.new.items w ≡ true → is_at_one walks.old.items w ≡ true }
@@ -210,8 +204,8 @@ fn make_room<L: Ledger>(
     }
 }
 
-/// Lets one walk more begin, at a cell whose entry is right, and leads it one move back. Entries that it changed
-/// are counted besides those before.
+/// Lets one walk more begin, at a cell whose entry is right, and leads it one move back. Adds to the number of
+/// changed entries how many changed.
 #[inline(always)]
 pub fn begin<L: Ledger>(
     tables: &mut Tables,
@@ -222,10 +216,8 @@ pub fn begin<L: Ledger>(
     changed: u64,
     steps: &mut Steps<L>,
 ) -> u64
-    requires ready { AreReady grid.now tables.old d }
+    requires standing { AreStanding grid.now tables.old d walks.old.items }
     requires short { length walks.old.items ≤ 255 }
-    requires inside { (w : Cell) → is_at_one walks.old.items w ≡ true → is_inside grid.now w ≡ true }
-    requires right { (w : Cell) → is_at_one walks.old.items w ≡ true → IsRight grid.now tables.old w d }
     requires from_inside { is_inside grid.now from ≡ true }
     requires from_right { IsRight grid.now tables.old from d }
     requires few { changed ≤ 4294971648 }
@@ -236,7 +228,8 @@ pub fn begin<L: Ledger>(
     ensures short { length walks.new.items ≤ 255 }
     ensures more { changed ≤ result }
     ensures few { result ≤ changed + 1048577 }
-    ensures steps { steps.new + length walks.new.items + changed ≤ steps.old + result + length walks.old.items + 1 }
+    ensures steps { steps.new + length walks.new.items + changed
+        ≤ steps.old + result + length walks.old.items + 1 }
     ensures later { steps.old ≤ steps.new }
 {
     match walk_on(tables, grid, Walk { at: from }, d, steps) {

@@ -23,7 +23,7 @@ stop_of-requires g c =
 
 pub returns-then-is_some-clause-stops : goal.returns-then-is_some-clause-stops
 returns-then-is_some-clause-stops g c = λ free start.
-    on_same (λ (w : Way) (r : Corner). StopsAt r (begun r (trail_on free w c.args.line c.args.place))
+    on_same (λ (w : Way) (r : Corner). StopsAt r (begun r (trail_on free w c.args.line c.args.place)) 0
     c.args.steps.now c.read-block.new.steps c.stop_of.result) c.way_of.ensures c.rule_of_number-rule.ensures (
       c.halt_first-found.result,
       found_some _ _ c.halt_first-found.result (sym c.is_some.ensures ∙ c.if-is_some.true)

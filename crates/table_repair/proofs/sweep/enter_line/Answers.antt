@@ -28,14 +28,8 @@ loop-place-init g c =
       later = c.lead_on.ensures.later;
     }
 
-pub begin-changed-requires-clause-ready : goal.begin-changed-requires-clause-ready
-begin-changed-requires-clause-ready g c = c.loop-place.invariant.abreast.ready
-
-pub begin-changed-requires-clause-inside : goal.begin-changed-requires-clause-inside
-begin-changed-requires-clause-inside g c = c.loop-place.invariant.abreast.inside
-
-pub begin-changed-requires-clause-right : goal.begin-changed-requires-clause-right
-begin-changed-requires-clause-right g c = λ w k. (c.loop-place.invariant.abreast.mended w k).right
+pub begin-changed-requires-clause-standing : goal.begin-changed-requires-clause-standing
+begin-changed-requires-clause-standing g c = c.loop-place.invariant.abreast.standing
 
 pub begin-changed-requires-clause-from_inside : goal.begin-changed-requires-clause-from_inside
 begin-changed-requires-clause-from_inside g c =
@@ -62,7 +56,8 @@ loop-place-preserved g c =
     let there = cell_there a.d a.line place a.places c.cell_on.ensures among in
     let begun = i.begun in
     record {
-      abreast = rw (← more_begun c.begin-changed.ensures.more) (enter_place (is_at_one a.walks.now.items) a.line place a.places c.cell_on.ensures among i.abreast
+      abreast = rw (← more_begun c.begin-changed.ensures.more) (enter_place (is_at_one a.walks.now.items)
+          a.line place a.places c.cell_on.ensures among i.abreast
           (right_stays i.abreast.mends c.cell_on.result a.d
           (on_map a.grid.now a.d a.line a.places c.cell_on.result c.requires.line c.requires.places there)
           (c.requires.line_right c.cell_on.result there)) c.begin-changed.ensures.abreast);
@@ -94,7 +89,7 @@ pub returns-clause-few : goal.returns-clause-few
 returns-clause-few g c =
     let few = c.loop-place.invariant.few in
     let end = c.requires.places in
-    let all = places_few c.args.grid.now c.args.d c.requires.ready.grid in
+    let all = places_few c.args.grid.now c.args.d c.requires.standing.ready.grid in
     omega arith
 
 pub returns-clause-steps : goal.returns-clause-steps

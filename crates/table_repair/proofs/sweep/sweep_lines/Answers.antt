@@ -1,10 +1,9 @@
 -- Each line taken is one line more in which walks begin.
 use Rattle.std.proofs.Common.{arith, sym, ◌∙◌}
 use Rattle.table_repair.specs.Lines.{lines_rise}
-use Rattle.table_repair.proofs.Sweeping.{taken_told, none_taken, among_parts}
+use Rattle.table_repair.proofs.Sweeping.{taken_told, none_taken}
 use Rattle.table_repair.proofs.Abreast.{abreast_ends, enter_ends, enter_none}
-use Rattle.table_repair.proofs.Across.{on_map}
-use Rattle.table_repair.proofs.Entering.{past_none, enter_right, enter_past, enter_line}
+use Rattle.table_repair.proofs.Entering.{past_none, line_low, enter_right, enter_past, enter_line}
 use Rattle.table_repair.proofs.Entering.{none_left}
 use Rattle.table_repair.proofs.Totals.{later_on, few_entered, counted_entered}
 use Rattle.table_repair.proofs.sweep.sweep_lines.Goals as goal
@@ -20,50 +19,35 @@ loop-line-init g c = record {
   later = omega arith;
 }
 
-pub enter_line-changed-requires-clause-ready : goal.enter_line-changed-requires-clause-ready
-enter_line-changed-requires-clause-ready g c = c.loop-line.invariant.abreast.ready
+pub enter_line-changed-requires-clause-standing : goal.enter_line-changed-requires-clause-standing
+enter_line-changed-requires-clause-standing g c = c.loop-line.invariant.abreast.standing
 
 pub enter_line-changed-requires-clause-short : goal.enter_line-changed-requires-clause-short
 enter_line-changed-requires-clause-short g c = c.loop-line.invariant.short
 
-pub enter_line-changed-requires-clause-inside : goal.enter_line-changed-requires-clause-inside
-enter_line-changed-requires-clause-inside g c = c.loop-line.invariant.abreast.inside
-
-pub enter_line-changed-requires-clause-right : goal.enter_line-changed-requires-clause-right
-enter_line-changed-requires-clause-right g c = λ w k. (c.loop-line.invariant.abreast.mended w k).right
-
 pub enter_line-changed-requires-clause-line : goal.enter_line-changed-requires-clause-line
 enter_line-changed-requires-clause-line g c =
+    let i = c.loop-line.invariant in
     let taken = taken_told c.lines_rise.ensures c.loop-line.left c.in-Some.is c.take_far.ensures.taken
     c.take_far.ensures.rest in
-    let p = among_parts c.args.lines c.in-Some.line (c.loop-line.invariant.within c.in-Some.line taken.member) in
-    let l = p.1 in
-    let low = c.requires.lines in
-    omega arith
+    line_low c.args.lines c.args.places i.abreast i.past i.within taken c.requires.lines
 
 pub enter_line-changed-requires-clause-line_right : goal.enter_line-changed-requires-clause-line_right
 enter_line-changed-requires-clause-line_right g c =
     let i = c.loop-line.invariant in
     let taken = taken_told c.lines_rise.ensures c.loop-line.left c.in-Some.is c.take_far.ensures.taken
     c.take_far.ensures.rest in
-    let l = (among_parts c.args.lines c.in-Some.line (i.within c.in-Some.line taken.member)).1 in
-    let low = c.requires.lines in
-    enter_right c.args.lines c.args.places i.abreast i.past i.within taken c.requires.waits
-    (λ v k. on_map c.args.grid.now c.args.d c.in-Some.line c.args.places v (omega arith) c.requires.places k)
+    enter_right c.args.lines c.args.places i.abreast i.past i.within taken c.requires.lines c.requires.places
+    c.requires.waits
 
 pub loop-line-preserved : goal.loop-line-preserved
 loop-line-preserved g c =
     let i = c.loop-line.invariant in
     let taken = taken_told c.lines_rise.ensures c.loop-line.left c.in-Some.is c.take_far.ensures.taken
     c.take_far.ensures.rest in
-    let l = (among_parts c.args.lines c.in-Some.line (i.within c.in-Some.line taken.member)).1 in
-    let low = c.requires.lines in
     record {
-      abreast = enter_line c.args.lines c.args.places i.abreast i.past i.within taken
-          (enter_right c.args.lines c.args.places i.abreast i.past i.within taken c.requires.waits
-          (λ v k. on_map c.args.grid.now c.args.d c.in-Some.line c.args.places v (omega arith)
-          c.requires.places k))
-          c.enter_line-changed.ensures.abreast;
+      abreast = enter_line c.args.lines c.args.places i.abreast i.past i.within taken c.requires.lines
+          c.requires.places c.requires.waits c.enter_line-changed.ensures.abreast;
       past = λ w k. enter_past c.args.lines c.args.places i.abreast i.past i.within taken w
           (c.enter_line-changed.ensures.behind w k);
       within = λ k h. i.within k (taken.within k h);
@@ -74,28 +58,22 @@ loop-line-preserved g c =
       later = later_on i.later c.enter_line-changed.ensures.later;
     }
 
-pub lead_out-requires-clause-ready : goal.lead_out-requires-clause-ready
-lead_out-requires-clause-ready g c = c.loop-line.invariant.abreast.ready
+pub lead_out-requires-clause-standing : goal.lead_out-requires-clause-standing
+lead_out-requires-clause-standing g c = c.loop-line.invariant.abreast.standing
 
 pub lead_out-requires-clause-short : goal.lead_out-requires-clause-short
 lead_out-requires-clause-short g c = let short = c.loop-line.invariant.short in omega arith
 
-pub lead_out-requires-clause-inside : goal.lead_out-requires-clause-inside
-lead_out-requires-clause-inside g c = c.loop-line.invariant.abreast.inside
-
-pub lead_out-requires-clause-right : goal.lead_out-requires-clause-right
-lead_out-requires-clause-right g c = λ w k. (c.loop-line.invariant.abreast.mended w k).right
-
 pub returns-clause-mends : goal.returns-clause-mends
 returns-clause-mends g c =
-    let none = none_left c.args.d c.loop-line.left c.args.places (none_taken c.lines_rise.result c.loop-line.left
-    (sym c.take_far.ensures.taken ∙ c.in_default.is)) in
+    let none = none_left c.args.d c.loop-line.left c.args.places
+    (none_taken c.lines_rise.result c.loop-line.left (sym c.take_far.ensures.taken ∙ c.in_default.is)) in
     (enter_ends c.loop-line.invariant.abreast none c.lead_out.ensures.abreast).mends
 
 pub returns-clause-sweeps : goal.returns-clause-sweeps
 returns-clause-sweeps g c =
-    let none = none_left c.args.d c.loop-line.left c.args.places (none_taken c.lines_rise.result c.loop-line.left
-    (sym c.take_far.ensures.taken ∙ c.in_default.is)) in
+    let none = none_left c.args.d c.loop-line.left c.args.places
+    (none_taken c.lines_rise.result c.loop-line.left (sym c.take_far.ensures.taken ∙ c.in_default.is)) in
     abreast_ends (enter_ends c.loop-line.invariant.abreast none c.lead_out.ensures.abreast)
     c.lead_out.ensures.none
 

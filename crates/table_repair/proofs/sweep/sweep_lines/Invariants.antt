@@ -1,4 +1,4 @@
--- What is left of the lines waits, and what waits for the walks, which have come past the lines that are left.
+-- What is left of the lines waits, and what waits for the walks, which have come past those lines.
 use Rattle.std.proofs.Common.{◌≡◌, ◌+◌, ◌*◌, ◌≤◌, ℕ, true, length}
 use Rattle.grid_moves.specs.declared.Cell.{Cell}
 use Rattle.table_repair.specs.Abreast.{KeepAbreast, is_at_one}

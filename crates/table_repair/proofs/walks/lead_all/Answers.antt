@@ -11,7 +11,7 @@ abbrev nowhere : Walk
 nowhere = record { at = record { x = 0; y = 0 } }
 
 pub loop-i-init : goal.loop-i-init
-loop-i-init g c = place_begins c.requires.ready c.requires.inside c.requires.right
+loop-i-init g c = place_begins c.requires.standing
 
 pub walk_on-requires-clause-inside : goal.walk_on-requires-clause-inside
 walk_on-requires-clause-inside g c = its_inside nowhere c.loop-i.invariant c.as_slice.ensures.value

@@ -6,22 +6,16 @@ use Rattle.table_repair.proofs.Rounds.{queued_none, rounds_more, room_few, room_
 use Rattle.table_repair.proofs.walks.lead_out.Goals as goal
 
 pub round-init : goal.round-init
-round-init g c = queued_none c.requires.ready c.requires.inside c.requires.right
+round-init g c = queued_none c.requires.standing
 
-pub lead_all-requires-clause-ready : goal.lead_all-requires-clause-ready
-lead_all-requires-clause-ready g c = c.round.invariant.abreast.ready
-
-pub lead_all-requires-clause-inside : goal.lead_all-requires-clause-inside
-lead_all-requires-clause-inside g c = c.round.invariant.abreast.inside
-
-pub lead_all-requires-clause-right : goal.lead_all-requires-clause-right
-lead_all-requires-clause-right g c = λ w k. (c.round.invariant.abreast.mended w k).right
+pub lead_all-requires : goal.lead_all-requires
+lead_all-requires g c = record { standing = c.round.invariant.abreast.standing }
 
 pub overflow_add-changed : goal.overflow_add-changed
 overflow_add-changed g c =
     let few = c.round.invariant.few in
-    let room = room_few c.args.grid.now c.args.d c.args.walks.now.items c.requires.ready.grid
-    c.requires.inside in
+    let room = room_few c.args.grid.now c.args.d c.args.walks.now.items c.requires.standing.ready.grid
+    c.requires.standing.inside in
     let short = c.requires.short in
     let less = c.lead_all.ensures.room in
     let len = c.len.ensures.value in
@@ -44,8 +38,8 @@ returns-clause-none g c = nil_from_length c.round.walks.items
 pub returns-clause-few : goal.returns-clause-few
 returns-clause-few g c =
     let few = c.round.invariant.few in
-    let room = room_few c.args.grid.now c.args.d c.args.walks.now.items c.requires.ready.grid
-    c.requires.inside in
+    let room = room_few c.args.grid.now c.args.d c.args.walks.now.items c.requires.standing.ready.grid
+    c.requires.standing.inside in
     omega arith
 
 pub returns-clause-steps : goal.returns-clause-steps

@@ -6,9 +6,11 @@ use Rattle.jump_block.proofs.straight.Bits.start.Goals as goal
 pub returns-in-Row-clause-starts : goal.returns-in-Row-clause-starts
 returns-in-Row-clause-starts c =
     let s = c.requires.stands in
-    (by_line s.0 Row, rw (c.from.ensures, c.from-2.ensures) (start_on c.args.self.now s.0 c.args.at s.1 s.2 Row))
+    let start = start_on c.args.self.now s.0 c.args.at s.1 s.2 Row in
+    (by_line s.0 Row, rw (c.from.ensures, c.from-2.ensures) start)
 
 pub returns-in-Column-clause-starts : goal.returns-in-Column-clause-starts
 returns-in-Column-clause-starts c =
     let s = c.requires.stands in
-    (by_line s.0 Column, rw (c.from.ensures, c.from-2.ensures) (start_on c.args.self.now s.0 c.args.at s.1 s.2 Column))
+    let start = start_on c.args.self.now s.0 c.args.at s.1 s.2 Column in
+    (by_line s.0 Column, rw (c.from.ensures, c.from-2.ensures) start)

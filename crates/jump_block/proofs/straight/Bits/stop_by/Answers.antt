@@ -12,21 +12,24 @@ returns-in-N g c = rw c.in-N.is (record {
 pub returns-in-E : goal.returns-in-E
 returns-in-E g c = rw c.in-E.is (record {
   first = λ grid are free. (c.mark-in-E.ensures.stops grid are free c.args.goal (grind (arith, nat_tests))).0;
-  most = λ n grid are free. (c.mark-in-E.ensures.stops grid are free c.args.goal (grind (arith, nat_tests))).1;
+  most = λ n grid are free.
+      (c.mark-in-E.ensures.stops grid are free c.args.goal (grind (arith, nat_tests))).1;
   fewest = c.mark-in-E.ensures.fewest;
 })
 
 pub returns-in-S : goal.returns-in-S
 returns-in-S g c = rw c.in-S.is (record {
   first = λ grid are free. (c.mark-in-S.ensures.stops grid are free c.args.goal (grind (arith, nat_tests))).0;
-  most = λ n grid are free. (c.mark-in-S.ensures.stops grid are free c.args.goal (grind (arith, nat_tests))).1;
+  most = λ n grid are free.
+      (c.mark-in-S.ensures.stops grid are free c.args.goal (grind (arith, nat_tests))).1;
   fewest = c.mark-in-S.ensures.fewest;
 })
 
 pub returns-in-W : goal.returns-in-W
 returns-in-W g c = rw c.in-W.is (record {
   first = λ grid are free. (c.mark-in-W.ensures.stops grid are free c.args.goal (grind (arith, nat_tests))).0;
-  most = λ n grid are free. (c.mark-in-W.ensures.stops grid are free c.args.goal (grind (arith, nat_tests))).1;
+  most = λ n grid are free.
+      (c.mark-in-W.ensures.stops grid are free c.args.goal (grind (arith, nat_tests))).1;
   fewest = c.mark-in-W.ensures.fewest;
 })
 
