@@ -13,7 +13,6 @@ use Rattle.walk_judge.specs.declared.telling.Told.{Told}
 use Rattle.goal_boxes.specs.declared.around.CellBoxes.{CellBoxes}
 use Rattle.goal_boxes.specs.declared.area.Area.{Area}
 use Rattle.goal_boxes.specs.Box.{AreBoxes, IsBox}
-use Rattle.goal_boxes.proofs.Growing.{each_dir}
 use Rattle.goal_boxes.proofs.Existing.{all_boxes, all_told}
 use Rattle.edit_replay.specs.Session.{SessionData}
 use Rattle.edit_replay.specs.declared.reply.Reply.{Reply}
@@ -75,10 +74,14 @@ module _ (g : GridData) (u : Cell) (free : is_free g u ≡ true) where
   cell_boxes = record { areas = map (all_boxes g u) all_dirs }
 
   boxes_are : AreBoxes g u cell_boxes
-  boxes_are =
-      let told = (all_told g).boxes u free in
-      each_dir (λ (d : Dir) (found : Option Area). IsBox g u d found) (told dir.N) (told dir.NE) (told dir.E)
-      (told dir.SE) (told dir.S) (told dir.SW) (told dir.W) (told dir.NW)
+  boxes_are dir.N = (all_told g).boxes u free dir.N
+  boxes_are dir.NE = (all_told g).boxes u free dir.NE
+  boxes_are dir.E = (all_told g).boxes u free dir.E
+  boxes_are dir.SE = (all_told g).boxes u free dir.SE
+  boxes_are dir.S = (all_told g).boxes u free dir.S
+  boxes_are dir.SW = (all_told g).boxes u free dir.SW
+  boxes_are dir.W = (all_told g).boxes u free dir.W
+  boxes_are dir.NW = (all_told g).boxes u free dir.NW
 
 pub boxes_exist : (ls : Layers) (s : Cell) → (text : List ℕ) × IsBoxText ls s text
 boxes_exist ls s = told_exists ls s (λ line. line) (λ free.

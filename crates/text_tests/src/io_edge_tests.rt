@@ -118,11 +118,11 @@ fn a_real_file_is_read_to_its_end(rt: HostRuntime) -> Result<(), Fail> {
 }
 
 // Reads of two bytes from these places give these bytes.
-fn check_reads<F: Files>(rt: &impl Abort, files: &mut F, name: &str, reads: &[(u64, &[u8])]) {
+fn check_reads<F: Files>(rt: &impl Abort, files: &mut F, name: &str, reads: &[(u8, &[u8])]) {
     let mut buf = [0u8; 2];
     for (place, bytes) in reads {
         assert_eq!(rt;
-            files.read_at(name, *place, &mut buf).ok(),
+            files.read_at(name, u64::from(*place), &mut buf).ok(),
             Some(bytes.len())
         );
         assert_eq!(rt; buf.starts_with(bytes), true, "from byte {place}");
