@@ -16,12 +16,17 @@ use std::io::{Read, Seek, SeekFrom, Write};
 use std::marker::Model;
 use std::{fs, io, rt};
 
+// The system opens no file of a longer name.
+const LONGEST_NAME: usize = 4096;
+
 /// The files of the system, of which the one that was read last stays open until its end was read. One count of
 /// faults serves for every name.
 #[derive(Drop)]
 pub struct RealFiles<'a, R: rt::Files> {
     rt: &'a R,
-    open: Option<Opened<R::File>>,
+    /// The name of the open file.
+    name: ArrayVec<u8, LONGEST_NAME>,
+    open: Option<R::File>,
     faults: u64,
 }
 
@@ -40,54 +45,67 @@ impl<'a, R: rt::Files> RealFiles<'a, R> {
     {
         RealFiles {
             rt,
+            name: ArrayVec::new(),
             open: None,
             faults: 0,
         }
     }
 }
 
-// The system opens no file of a longer name.
-const LONGEST_NAME: usize = 4096;
-
-// An open file and its name.
-#[derive(Drop)]
-struct Opened<F> {
-    name: ArrayVec<u8, LONGEST_NAME>,
-    file: F,
-}
-
 // Opens a regular file. Another one is not opened, as a pipe would wait for whoever writes to it.
-fn open_regular<R: rt::Files>(rt: &R, name: &str) -> io::Result<Opened<R::File>> {
-    let mut kept = ArrayVec::new();
-    if kept.try_extend_from_slice(name.as_bytes()).is_ok() && fs::metadata(rt, name)?.is_file() {
+fn open_regular<R: rt::Files>(rt: &R, name: &str) -> io::Result<R::File> {
+    if fs::metadata(rt, name)?.is_file() {
         let file = fs::open(rt, name)?;
         // Another file may have come under this name since.
         if file.metadata()?.is_file() {
-            return Ok(Opened { name: kept, file });
+            return Ok(file);
         }
     }
     Err(io::Error::from(io::ErrorKind::Unsupported))
 }
 
-// Reads once. A file is opened where its first byte is asked for, and then read on from what was opened, though
-// another one may have taken its name.
+// Reads once, from a file that is open, or else from the one that has this name.
 fn read_once<R: rt::Files>(
     rt: &R,
-    open: Option<Opened<R::File>>,
+    open: Option<R::File>,
     name: &str,
     place: u64,
     buf: &mut [u8],
-) -> io::Result<(usize, Opened<R::File>)>
+) -> io::Result<(usize, R::File)>
     ensures { IfOk result (λ read. read.0 ≤ length buf.old) }
 {
-    let is_kept = |opened: &Opened<R::File>| place > 0 && opened.name.as_slice() == name.as_bytes();
-    let mut opened = match open.filter(is_kept) {
-        Some(opened) => opened,
+    let mut file = match open {
+        Some(file) => file,
         None => open_regular(rt, name)?,
     };
-    opened.file.seek(SeekFrom::Start(place))?;
-    let count = opened.file.read(buf)?;
-    Ok((count, opened))
+    file.seek(SeekFrom::Start(place))?;
+    let count = file.read(buf)?;
+    Ok((count, file))
+}
+
+impl<'a, R: rt::Files> RealFiles<'a, R> {
+    // The file that is open, where it is the one of this name and more than its first bytes are asked for. So a
+    // file is opened for its first byte, and then read on, though another one may have taken its name.
+    fn opened(&mut self, name: &str, place: u64) -> Option<R::File>
+        ensures { self.new ≡ self.old }
+    {
+        let open = self.open.take();
+        if place > 0 && self.name.as_slice() == name.as_bytes() {
+            open
+        } else {
+            None
+        }
+    }
+
+    // Keeps a file open.
+    fn keep(&mut self, name: &str, file: R::File)
+        ensures { self.new ≡ self.old }
+    {
+        self.name.clear();
+        if self.name.try_extend_from_slice(name.as_bytes()).is_ok() {
+            self.open = Some(file);
+        }
+    }
 }
 
 impl<'a, R: rt::Files> Files for RealFiles<'a, R> {
@@ -102,10 +120,11 @@ impl<'a, R: rt::Files> Files for RealFiles<'a, R> {
         ensures later { NoneFell (λ _. self.old) (λ _. self.new) }
         ensures counted { Counts self.old self.new result }
     {
-        match read_once(self.rt, self.open.take(), name, place, buf) {
-            Ok((count, opened)) => {
+        let open = self.opened(name, place);
+        match read_once(self.rt, open, name, place, buf) {
+            Ok((count, file)) => {
                 if count > 0 {
-                    self.open = Some(opened);
+                    self.keep(name, file);
                 }
                 Ok(count)
             }

@@ -1,20 +1,22 @@
 -- A text is read as a fault exactly where a line breaks the grammar first so.
-use Rattle.std.proofs.lemmas.Grind.{common_steps}
 use Rattle.std.proofs.lemmas.Bool.Decides.{nat_tests}
-use Rattle.std.proofs.Common.{◌≡◌, ◌≢◌, ℕ, zero, suc, ◌+◌, ◌<◌, inl, inr, arith, refl, ap, sym, ◌∙◌, List, []}
+use Rattle.std.proofs.Common.{◌≡◌, ℕ, zero, suc, ◌+◌, ◌<◌, inl, inr, arith, refl, ap, sym, ◌∙◌, List, []}
 use Rattle.std.proofs.Common.{◌∷◌, take, Option, Some, None, Result, Ok, Err}
 use Rattle.std.specs.Option.{option_and_then}
-use Rattle.std.specs.Prelude.{slice_get, IfErr}
+use Rattle.std.specs.Prelude.{slice_get}
 use Rattle.text_line.specs.Lines.{lines_of}
 use Rattle.text_line.specs.Reading.{fault_in}
 use Rattle.text_line.specs.Reading as reading
+use Rattle.text_line.proofs.Reading.{Reads}
+use Rattle.potential_check.specs.Spelling.{Spells}
 use Rattle.potential_check.specs.declared.certificate.Certificate.{Certificate}
 use Rattle.potential_check.specs.declared.fault.CertFault.{CertFault}
 use Rattle.potential_check.specs.declared.fault.CertFault.TheVariants.{Line, NoMemory}
 use Rattle.potential_check.specs.Text.{BreaksFirst, Plain, State, Step, Tells, absent_fault, after_step}
 use Rattle.potential_check.specs.Text.{at_version, certificate_of, closed, fault_after, fault_at, goes}
-use Rattle.potential_check.specs.Text.{if_goes, misspelt, next, read_from, state_after, step_fault, unordered}
+use Rattle.potential_check.specs.Text.{if_goes, misspelt, next, plain, read_from, state_after, step_fault, unordered}
 use Rattle.potential_check.proofs.LinesLeft.{needs}
+use Rattle.potential_check.proofs.Spelled.{certificate_of_ok, certificate_of_spelled}
 
 err_is : (read : Result Plain CertFault) (f : CertFault) → fault_in read ≡ Some f → read ≡ Err f
 err_is (Ok p) f e = absurd (cc)
@@ -125,7 +127,7 @@ only (line ∷ lines) s n f (suc place) breaks before =
 at_text : (lines : List (List ℕ)) (place : ℕ) → broken_at at_version 1 lines place ≡ fault_at lines place
 at_text lines place = grind (arith, nat_tests, broken_is)
 
-pub certificate_of_broken : (text : List ℕ) (f : CertFault) → BreaksFirst (lines_of text) f
+certificate_of_broken : (text : List ℕ) (f : CertFault) → BreaksFirst (lines_of text) f
     → certificate_of text ≡ Err f
 unfolding certificate_of
 certificate_of_broken text f first =
@@ -144,7 +146,18 @@ certificate_of_err text f read =
       before = λ k less. sym (at_text (lines_of text) k) ∙ first.before k less;
     }
 
-pub tells_broken : (text : List ℕ) (answer : Result Certificate CertFault)
-    → Tells answer (certificate_of text)
-    → IfErr answer (λ fault. fault ≢ NoMemory → BreaksFirst (lines_of text) fault)
-tells_broken text answer h1 = grind (arith, common_steps, certificate_of_err)
+-- so a text is read as the certificate that it spells, or as its first fault
+pub certificate_read : (text : List ℕ) → Reads (Spells text) (BreaksFirst (lines_of text)) (certificate_of text)
+certificate_read text = record {
+  found = certificate_of_ok text;
+  only = certificate_of_spelled text;
+  first = certificate_of_err text;
+  broken = certificate_of_broken text;
+}
+
+-- and an answer that tells it is told in the form of all readers
+pub as_reading : (answer : Result Certificate CertFault) (read : Result Plain CertFault) → Tells answer read
+    → reading.Tells NoMemory plain answer read
+as_reading (Ok c) read tells = tells
+as_reading (Err NoMemory) read tells = λ other. absurd (other refl)
+as_reading (Err fault) read tells = λ other. tells

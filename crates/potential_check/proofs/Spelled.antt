@@ -352,7 +352,7 @@ found_lines text (version ∷ size ∷ ends ∷ lines) p are e =
       nothing = claim.nothing;
     }
 
-certificate_of_ok : (text : List ℕ) (p : Plain) → certificate_of text ≡ Ok p → Spells text p
+pub certificate_of_ok : (text : List ℕ) (p : Plain) → certificate_of text ≡ Ok p → Spells text p
 unfolding certificate_of
 certificate_of_ok text p e = found_lines text (lines_of text) p refl e
 
@@ -372,9 +372,3 @@ certificate_of_spelled text p s =
     ∙ ap (λ (t : Step). after_step t 2 (λ after. read_from after 3 (s.ends ∷ s.claim ∷ rest))) second
     ∙ ap (λ (t : Step). after_step t 3 (λ after. read_from after 4 (s.claim ∷ rest))) third
     ∙ only_claim p.head p.claim s.claim s.body s.others 4 s.claim_is s.nothing
-
-pub tells_spelled : (text : List ℕ) (answer : Result Certificate CertFault)
-    → Tells answer (certificate_of text)
-    → IfOk answer (λ c. Spells text (plain c))
-tells_spelled text (Ok c) tells = certificate_of_ok text (plain c) tells
-tells_spelled text (Err fault) tells = tt

@@ -1,12 +1,12 @@
 //! Reading a certificate from its text.
 
-ghost use Rattle.std.specs.Prelude.{◌≡◌, ◌≢◌, ◌+◌, ◌≤◌, ◌<◌, ◌^◌, IsTrue, length, [], Ok, Err, IfOk, IfErr};
+ghost use Rattle.std.specs.Prelude.{◌≡◌, ◌+◌, ◌≤◌, ◌<◌, ◌^◌, IsTrue, length, []};
 ghost use Rattle.text_line.specs.Lines.{lines_of};
+ghost use Rattle.text_line.specs.Reading.{IsRightReading};
 ghost use Rattle.potential_check.specs.Certificate.{are_points, are_sides, is_claim, is_small};
 ghost use Rattle.potential_check.specs.Spelling.{Spells};
-ghost use Rattle.potential_check.specs.declared.fault.CertFault.{CertFault};
 ghost use Rattle.potential_check.specs.declared.fault.CertFault.TheVariants.{NoMemory};
-ghost use Rattle.potential_check.specs.Text.{AreShort, BreaksFirst, Places, Plain, Tells, at_claim, at_ends, at_points, at_size, certificate_of, ended, in_cells, in_values, is_head, plain, read_from, read_left};
+ghost use Rattle.potential_check.specs.Text.{AreShort, BreaksFirst, Places, Tells, at_claim, at_ends, at_points, at_size, certificate_of, ended, in_cells, in_values, is_head, plain, read_from, read_left};
 
 use crate::certificate::{Certificate, Claim};
 use crate::fault::CertFault;
@@ -31,16 +31,10 @@ pub(crate) struct Head {
 /// The text is passed over once, and memory is taken for the points and the list alone.
 pub fn read_certificate(alloc: Global, text: &[u8]) -> Result<Certificate, CertFault>
     requires { length text.now ≤ 2 ^ 30 }
-    // What is read is spelled so.
-    ensures found { IfOk result (λ read. Spells text.now (plain read)) }
-    // What is spelled so is read, unless memory runs out.
-    ensures only { (spelled : Plain) → Spells text.now spelled → Tells result (Ok spelled) }
-    // A fault is that of the first line that breaks the grammar.
-    ensures first { IfErr result (λ fault. fault ≢ NoMemory → BreaksFirst (lines_of text.now) fault) }
-    // Where a line breaks it first, its fault is answered, unless memory runs out.
-    ensures broken { (fault : CertFault) → BreaksFirst (lines_of text.now) fault → Tells result (Err fault) }
-    // All of this as one function of the text.
-    ensures exact { Tells result (certificate_of text.now) }
+    // What is read is spelled so, what is spelled so is read, and a fault is that of the first line that
+    // breaks the grammar.
+    ensures { IsRightReading NoMemory plain (Spells text.now) (BreaksFirst (lines_of text.now))
+        (certificate_of text.now) result }
 {
     read(alloc, text)
 }

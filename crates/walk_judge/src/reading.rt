@@ -1,8 +1,7 @@
 //! Reading told walks from their text.
 
-ghost use Rattle.std.specs.Prelude.{◌≡◌, ◌≢◌, ◌≤◌, ◌+◌, ◌^◌, ℕ, length, List, slice_get, Some, Ok, Err, IfOk, IfErr};
-ghost use Rattle.text_line.specs.Lines.{lines_of};
-ghost use Rattle.walk_judge.specs.declared.fault.WalkFault.{WalkFault};
+ghost use Rattle.std.specs.Prelude.{◌≡◌, ◌≤◌, ◌+◌, ◌^◌, ℕ, length, slice_get, Some, IfOk};
+ghost use Rattle.text_line.specs.Reading.{IsRightReading};
 ghost use Rattle.walk_judge.specs.declared.fault.WalkFault.TheVariants.{NoMemory};
 ghost use Rattle.walk_judge.specs.declared.telling.Told.{Told};
 ghost use Rattle.walk_judge.specs.Telling.{IsFit};
@@ -20,19 +19,13 @@ use text_line::{Fields, Lines};
 /// The text is passed over line by line and field by field, and each point is read from its field.
 pub fn read_walks(alloc: Global, text: &[u8], entries: u32) -> Result<Vec<Told>, WalkFault>
     requires { length text.now ≤ 2 ^ 30 }
-    // What is read is spelled so: one walk for each entry.
-    ensures found { IfOk result (λ read. Spells text.now entries read.items) }
+    // What is read is spelled so, one walk for each entry; what is spelled so is read, and a fault is that
+    // of the first line that breaks the form.
+    ensures reads { IsRightReading NoMemory (λ walks. walks.items) (Spells text.now entries)
+        (BreaksFirst text.now entries) (walks_of text.now entries) result }
     // Each walk has one point or more, and fewer than 2^30.
     ensures fit { IfOk result (λ read. (k : ℕ) (told : Told) → slice_get read.items k ≡ Some told
         → IsFit told) }
-    // What is spelled so is read, unless memory runs out.
-    ensures only { (spelled : List Told) → Spells text.now entries spelled → Tells result (Ok spelled) }
-    // A fault is that of the first line that breaks the form.
-    ensures first { IfErr result (λ fault. fault ≢ NoMemory → BreaksFirst text.now entries fault) }
-    // Where a line breaks it first, its fault is answered, unless memory runs out.
-    ensures broken { (fault : WalkFault) → BreaksFirst text.now entries fault → Tells result (Err fault) }
-    // All of this as one function of the text and the number of entries.
-    ensures exact { Tells result (walks_of text.now entries) }
 {
     read(alloc, text, entries)
 }
