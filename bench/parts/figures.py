@@ -113,6 +113,20 @@ def cell_gain(results):
     return told.table(["`states=cell` over `arrival`", *(f"`{it}`" for it in JUMPS)], lines)
 
 
+def cell_line(results):
+    """The same in one line: the medians over the maps, and the least and largest."""
+    rows = results["queries"]
+    found = []
+    for engine in JUMPS:
+        pairs = [[find(rows, map=name, engine=engine, states=it, program="jps") for it in ("cell", "arrival")]
+                 for name in maps_of(rows)]
+        ratios = [told.ratio(*(it["per_query"] for it in pair))[0] for pair in pairs if all(pair)]
+        if ratios:
+            found.append(f"`{engine}` {told.median(ratios):.2f} ({min(ratios):.2f} to {max(ratios):.2f})")
+    words = "With one state for each cell they take, in the middle of the maps, this part of the time: "
+    return f"{words}{', '.join(found)}; [FIGURES](../bench/FIGURES.md#with-one-state-for-each-cell) has each map."
+
+
 def heap_table(results):
     """Where an engine takes more than 1.15 of the reference's time: which part is the kind of open list."""
     rows = results["queries"]
@@ -147,7 +161,7 @@ def queries_text(results):
         "C++ reference of the same engine; `~` says that the turns do not tell it from 1."
     )
     if has_cell(results):
-        parts += ["With one state for each cell ([FIGURES](../bench/FIGURES.md) has the times):", cell_gain(results)]
+        parts.append(cell_line(results))
     if has_pairing(results):
         parts.append(f"Above {MOST} of the reference's time [FIGURES]({HEAPS}) tells how much is the kind of open list.")
     for other in dict.fromkeys(row["program"] for row in results["queries"]):
@@ -265,15 +279,15 @@ def libraries_text(results):
 # ---------------------------------------------------------------- starts, edits, pipe, growth, memory
 
 PROCESS_WORDS = {
-    "make": "`make` of {side} x {side}, a quarter blocked",
+    "make": "`make` of {side}x{side}, a quarter blocked",
     "draw": "`draw` of the city",
     "prove": "`prove` of the city's longest query",
     "check": "`check` of that certificate",
-    "costs": "`costs`: all least costs from a corner of an open map of {side} x {side}",
+    "costs": "`costs`: all least costs from a corner of an open map of {side}x{side}",
     "tables": "`tables` of that map",
     "problems": "`problems`: 1000 on the city",
     "judge": "`judge`: 300 walks of the city",
-    "boxes": "all goal boxes of 128 x 128, a quarter blocked",
+    "boxes": "all goal boxes of 128x128, a quarter blocked",
     "moves": "all first moves of that map",
 }
 
@@ -282,19 +296,24 @@ def process_words(name, side):
     if name in PROCESS_WORDS:
         return PROCESS_WORDS[name].format(side=side)
     if name.startswith("first answer"):
-        return f"first answer on a map of {side} x {side}, a quarter blocked, by `{name.split(', ')[1]}`"
+        return f"first answer on {side}x{side}, a quarter blocked, by `{name.split(', ')[1]}`"
     _, kind, engine = name.split(", ")
     scattered = kind == "scattered"
-    where = f"on {side} x {side}, a quarter blocked" if scattered else f"in the middle of {side} x {side} open cells"
+    where = f"on {side}x{side}, a quarter blocked" if scattered else f"in the middle of {side}x{side} open cells"
     return f"one edit {where}, by `{engine}`"
 
 
 def processes_text(results):
-    """The medians."""
+    """The medians; the engines of one kind of work stand in one row."""
     side = results["processes"]["side"]
-    lines = []
+    found = {}
     for name, row in results["processes"]["rows"].items():
-        lines.append([process_words(name, side), told.seconds(max(told.median(row["processor"]), 1e-9))])
+        words, _, engine = process_words(name, side).partition(", by ")
+        found.setdefault(words, []).append((engine, told.seconds(max(told.median(row["processor"]), 1e-9))))
+    lines = []
+    for words, told_of in found.items():
+        by = ", ".join(engine for engine, _ in told_of if engine)
+        lines.append([f"{words}, by {by}" if by else words, ", ".join(value for _, value in told_of)])
     return [told.table(["What, the whole process but for edits", "Time"], lines)]
 
 
@@ -386,6 +405,8 @@ DEAR_WORDS = {
     "scattered": "a quarter blocked, from corner to corner",
 }
 
+QUICK_FOR_JUMPS = ("spiral", "open")     # these have room in bench/FIGURES.md alone
+
 
 def open_land_text(results):
     """The medians, with a state for each arrival."""
@@ -413,7 +434,7 @@ def dear_time(row):
 
 
 def dear_words(row):
-    return f"{DEAR_WORDS[row['map']]}, {row['side']} x {row['side']}"
+    return f"{DEAR_WORDS[row['map']]}, {row['side']}x{row['side']}"
 
 
 def dearest_text(results):
@@ -422,13 +443,15 @@ def dearest_text(results):
     sides = {row["map"]: row["side"] for row in rows}        # the last of a kind is the largest
     lines = []
     for kind, side in sides.items():
+        if kind in QUICK_FOR_JUMPS:
+            continue
         line = [dear_words({"map": kind, "side": side})]
         for engine in ENGINES:
             pair = (find(rows, map=kind, side=side, engine=engine, states=it) for it in ("arrival", "cell"))
             line.append(", ".join(dear_time(row) for row in pair if row))
         lines.append(line)
     words = "The dearest queries that are known, by arrival and by cell (of the first three the goal is walled in); "
-    words += "on such maps `jps` by arrival is for study. [FIGURES](../bench/FIGURES.md#the-dearest-queries) has more."
+    words += "there `jps` by arrival is for study. [FIGURES](../bench/FIGURES.md#the-dearest-queries) has more."
     return [words, told.table(["Map", *(f"`{it}`" for it in ENGINES)], lines)]
 
 
@@ -502,7 +525,7 @@ def readme_text(results):
     last = f"A query takes from {mean_words(quick)} to {mean_words(slow)}"
     campus = find(mine, map="campus", engine="block", states="arrival")
     if campus:
-        last += f"; on a campus `block` takes {told.seconds(told.median(campus['per_query']))}"
+        last += f"; on a robot's campus `block` takes {told.seconds(told.median(campus['per_query']))}"
     last = f"{last}.".replace(" us", " µs")
     return [told.table(["Beside", head], [line for line in lines if line]), last]
 
@@ -513,9 +536,9 @@ def mean_words(row):
 
 
 def in_unit(seconds, unit):
-    """A number without its unit: three digits at most."""
+    """A number without its unit, in as few digits as tell it."""
     value = seconds * {"s": 1, "ms": 1e3, "µs": 1e6}[unit]
-    return f"{value:.0f}" if value >= 9.95 else f"{value:.1f}" if value >= 0.095 else f"{value:.2g}"
+    return f"{value:.0f}" if value >= 9.95 else f"{value:.1f}" if value >= 0.095 else f"{max(value, 0.01):.2f}"
 
 
 class Medians:
@@ -597,9 +620,10 @@ def speed_blocks(results, pictures):
     if has("growth"):
         blocks["growth"] = growth_text(pictures)
     if has("taken"):
-        words = "How many states `plain` and `block` take, by the length of the walk:"
+        words = "How many states `plain` and `block` take, by the length of the walk; those of all queries together: "
+        words += "[FIGURES](../bench/FIGURES.md#taken-states)."
         seen = picture("taken", pictures, "taken states against the length of the walk, a box for each map")
-        blocks["taken"] = ["## Taken states", taken_table(results), words, *seen]
+        blocks["taken"] = ["## Taken states", words, *seen]
     return blocks
 
 
@@ -609,11 +633,13 @@ def more_blocks(results):
     if has("queries"):
         blocks["spread"] = spread_text(results)
         if has_cell(results):
-            blocks["cell"] = [queries_table(results, "cell", JUMPS)]
+            blocks["cell"] = [queries_table(results, "cell", JUMPS), cell_gain(results)]
         if has_pairing(results):
             blocks["heaps"] = [heap_table(results)]
     if has("counts"):
         blocks["counts"] = counts_text(results)
+    if has("taken"):
+        blocks["taken"] = [taken_table(results)]
     numbers = {
         "processes": process_spread_text,
         "pipe": pipe_spread_text,
