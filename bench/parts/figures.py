@@ -400,7 +400,7 @@ DEAR_WORDS = {
     "combs": "combs beside all borders",
     "pillars": "pillars at every second cell of every second row",
     "checkers": "checkers, rule `both`",
-    "spiral": "spiral, from its begin to its end",
+    "spiral": "a spiral, from end to end",
     "open": "open land, from corner to corner",
     "scattered": "a quarter blocked, from corner to corner",
 }
@@ -525,13 +525,17 @@ def readme_text(results):
     last = f"A query takes from {mean_words(quick)} to {mean_words(slow)}"
     campus = find(mine, map="campus", engine="block", states="arrival")
     if campus:
-        last += f"; on a robot's campus `block` takes {told.seconds(told.median(campus['per_query']))}"
+        last += f"; on the campus `block` takes {told.seconds(told.median(campus['per_query']))}"
     last = f"{last}.".replace(" us", " µs")
     return [told.table(["Beside", head], [line for line in lines if line]), last]
 
 
+# How README, which may have few words, names a map out of a package.
+REAL_WORDS = {"campus": "campus", "windfury": "game map", "underworld": "game map", "continent": "game world"}
+
+
 def mean_words(row):
-    where = row["map"] if row["map"] in inputs.REAL else short(row["map"]).split(",")[0]
+    where = REAL_WORDS.get(row["map"]) or short(row["map"]).split(",")[0]
     return f"{told.seconds(told.median(row['per_query']))} (`{engine_words(row)}`, {where})"
 
 
