@@ -113,6 +113,20 @@ def cell_gain(results):
     return told.table(["`states=cell` over `arrival`", *(f"`{it}`" for it in JUMPS)], lines)
 
 
+def cell_line(results):
+    """The same in one line: the medians over the maps, and the least and largest."""
+    rows = results["queries"]
+    found = []
+    for engine in JUMPS:
+        pairs = [[find(rows, map=name, engine=engine, states=it, program="jps") for it in ("cell", "arrival")]
+                 for name in maps_of(rows)]
+        ratios = [told.ratio(*(it["per_query"] for it in pair))[0] for pair in pairs if all(pair)]
+        if ratios:
+            found.append(f"`{engine}` {told.median(ratios):.2f} ({min(ratios):.2f} to {max(ratios):.2f})")
+    words = "With one state for each cell they take, in the middle of the maps, this part of the time: "
+    return f"{words}{', '.join(found)}; [FIGURES](../bench/FIGURES.md#with-one-state-for-each-cell) has each map."
+
+
 def heap_table(results):
     """Where an engine takes more than 1.15 of the reference's time: which part is the kind of open list."""
     rows = results["queries"]
@@ -147,15 +161,16 @@ def queries_text(results):
         "C++ reference of the same engine; `~` says that the turns do not tell it from 1."
     )
     if has_cell(results):
-        parts += ["With one state for each cell ([FIGURES](../bench/FIGURES.md) has the times):", cell_gain(results)]
+        parts.append(cell_line(results))
     if has_pairing(results):
         parts.append(f"Above {MOST} of the reference's time [FIGURES]({HEAPS}) tells how much is the kind of open list.")
     for other in dict.fromkeys(row["program"] for row in results["queries"]):
-        if other in ("jps", "reference", "pairing"):
+        if other in ("jps", "reference"):
             continue
         middle = medians(results["queries"], other=other)
         found = ", ".join(f"`{engine}` {ratio:.2f}" for engine, ratio in middle.items())
-        parts.append(f"Beside the build {other}, the median of the ratios: {found}.")
+        words = "the reference with the program's kind of open list" if other == "pairing" else f"the build {other}"
+        parts.append(f"Beside {words}, the median of the ratios: {found}.")
     return parts
 
 
@@ -264,15 +279,15 @@ def libraries_text(results):
 # ---------------------------------------------------------------- starts, edits, pipe, growth, memory
 
 PROCESS_WORDS = {
-    "make": "`make` of {side} x {side}, a quarter blocked",
+    "make": "`make` of {side}x{side}, a quarter blocked",
     "draw": "`draw` of the city",
     "prove": "`prove` of the city's longest query",
     "check": "`check` of that certificate",
-    "costs": "`costs`: all least costs from a corner of an open map of {side} x {side}",
+    "costs": "`costs`: all least costs from a corner of an open map of {side}x{side}",
     "tables": "`tables` of that map",
     "problems": "`problems`: 1000 on the city",
     "judge": "`judge`: 300 walks of the city",
-    "boxes": "all goal boxes of 128 x 128, a quarter blocked",
+    "boxes": "all goal boxes of 128x128, a quarter blocked",
     "moves": "all first moves of that map",
 }
 
@@ -281,19 +296,24 @@ def process_words(name, side):
     if name in PROCESS_WORDS:
         return PROCESS_WORDS[name].format(side=side)
     if name.startswith("first answer"):
-        return f"first answer on a map of {side} x {side}, a quarter blocked, by `{name.split(', ')[1]}`"
+        return f"first answer on {side}x{side}, a quarter blocked, by `{name.split(', ')[1]}`"
     _, kind, engine = name.split(", ")
     scattered = kind == "scattered"
-    where = f"on {side} x {side}, a quarter blocked" if scattered else f"in the middle of {side} x {side} open cells"
+    where = f"on {side}x{side}, a quarter blocked" if scattered else f"in the middle of {side}x{side} open cells"
     return f"one edit {where}, by `{engine}`"
 
 
 def processes_text(results):
-    """The medians."""
+    """The medians; the engines of one kind of work stand in one row."""
     side = results["processes"]["side"]
-    lines = []
+    found = {}
     for name, row in results["processes"]["rows"].items():
-        lines.append([process_words(name, side), told.seconds(max(told.median(row["processor"]), 1e-9))])
+        words, _, engine = process_words(name, side).partition(", by ")
+        found.setdefault(words, []).append((engine, told.seconds(max(told.median(row["processor"]), 1e-9))))
+    lines = []
+    for words, told_of in found.items():
+        by = ", ".join(engine for engine, _ in told_of if engine)
+        lines.append([f"{words}, by {by}" if by else words, ", ".join(value for _, value in told_of)])
     return [told.table(["What, the whole process but for edits", "Time"], lines)]
 
 
@@ -369,6 +389,98 @@ def picture(part, pictures, words):
     return [f'<img src="../bench/results/{pictures[part]}" width="640" alt="{words}">'] if part in pictures else []
 
 
+# ---------------------------------------------------------------- open land, the dearest queries
+
+KIND_WORDS = {
+    "short": "a query to a cell at most 8 columns and rows away",
+    "walled in": "a query to a goal that is walled in",
+    "edit": "an edit of the middle cell",
+}
+DEAR_WORDS = {
+    "combs": "combs beside all borders",
+    "pillars": "pillars at every second cell of every second row",
+    "checkers": "checkers, rule `both`",
+    "spiral": "a spiral, from end to end",
+    "open": "open land, from corner to corner",
+    "scattered": "a quarter blocked, from corner to corner",
+}
+
+QUICK_FOR_JUMPS = ("spiral", "open")     # these have room in bench/FIGURES.md alone
+
+
+def open_land_text(results):
+    """The medians, with a state for each arrival."""
+    part = results["open_land"]
+    lines = []
+    for kind, words in KIND_WORDS.items():
+        found = [find(part["rows"], kind=kind, engine=engine, states="arrival") for engine in ENGINES]
+        lines.append([words, *(told.seconds(row["0.5"]) if row else "" for row in found)])
+    words = "The median by the clock, through `live`; more: [FIGURES](../bench/FIGURES.md#on-open-land)."
+    head = ["On {0} x {0} open cells".format(part["side"]), *(f"`{it}`" for it in ENGINES)]
+    return ["## On open land", words, told.table(head, lines)]
+
+
+def open_land_spread_text(results):
+    lines = []
+    for row in results["open_land"]["rows"]:
+        values = (told.seconds(row[it]) for it in ("0.5", "0.99"))
+        lines.append([KIND_WORDS[row["kind"]], f"`{engine_words(row)}`", row["questions"], *values])
+    return [told.table(["Question", "By", "How many", "median", "99 of 100 within"], lines)]
+
+
+def dear_time(row):
+    """A median of seconds; what is shorter than the start of a process can tell has no digits."""
+    return told.seconds(max(told.median(row["per_query"]), 1e-6)) if row else ""
+
+
+def dear_words(row):
+    return f"{DEAR_WORDS[row['map']]}, {row['side']}x{row['side']}"
+
+
+def dearest_text(results):
+    """The largest of each kind: by arrival, and by cell; the memory of the last."""
+    rows = results["dearest"]["rows"]
+    sides = {row["map"]: row["side"] for row in rows}        # the last of a kind is the largest
+    lines = []
+    for kind, side in sides.items():
+        if kind in QUICK_FOR_JUMPS:
+            continue
+        line = [dear_words({"map": kind, "side": side})]
+        for engine in ENGINES:
+            pair = (find(rows, map=kind, side=side, engine=engine, states=it) for it in ("arrival", "cell"))
+            line.append(", ".join(dear_time(row) for row in pair if row))
+        lines.append(line)
+    words = "The dearest queries that are known, by arrival and by cell (of the first three the goal is walled in); "
+    words += "there `jps` by arrival is for study. [FIGURES](../bench/FIGURES.md#the-dearest-queries) has more."
+    return [words, told.table(["Map", *(f"`{it}`" for it in ENGINES)], lines)]
+
+
+def dearest_numbers_text(results):
+    rows = results["dearest"]["rows"]
+    kinds = list(dict.fromkeys((row["engine"], row["states"]) for row in rows))
+    lines, memory = [], ["the most memory of a `live` that answered the last one"]
+    for name, side in dict.fromkeys((row["map"], row["side"]) for row in rows):
+        found = [find(rows, map=name, side=side, engine=engine, states=states) for engine, states in kinds]
+        lines.append([dear_words({"map": name, "side": side}), *map(dear_time, found)])
+        if all(row and row.get("peak") for row in found):
+            memory += [told.megabytes(row["peak"]) for row in found]
+    words = [f"`{engine_words({'engine': engine, 'states': states})}`" for engine, states in kinds]
+    turns = f"The median of {results['dearest']['turns']} turns:"
+    return [turns, told.table(["Map", *words], [*lines, memory] if len(memory) > 1 else lines)]
+
+
+def taken_table(results):
+    """How many states all entries of a map take together: the engines that jump take the same ones."""
+    rows = results["taken"]
+    kinds = {"`plain`": ("plain", "arrival"), "by arrival": ("block", "arrival"), "by cell": ("block", "cell")}
+    lines = []
+    for name in maps_of(rows):
+        found = [find(rows, map=name, engine=engine, states=states) for engine, states in kinds.values()]
+        sums = [sum(count for _, count in row["points"]) / 1e6 if row else None for row in found]
+        lines.append([short(name), *("" if it is None else told.three(it) for it in sums)])
+    return told.table(["Million states of all queries", *kinds], lines)
+
+
 # ---------------------------------------------------------------- README
 
 def reference_row(rows):
@@ -410,48 +522,145 @@ def readme_text(results):
     head = f"On {len(names)} maps, from {sizes[0]} to {sizes[1]} cells"
     mine = [row for row in rows if row["program"] == "jps"]
     quick, slow = (choose(mine, key=lambda row: told.median(row["per_query"])) for choose in (min, max))
-    last = f"A query takes from {mean_words(quick)} to {mean_words(slow)}.".replace(" us ", " µs ")
+    last = f"A query takes from {mean_words(quick)} to {mean_words(slow)}"
+    campus = find(mine, map="campus", engine="block", states="arrival")
+    if campus:
+        last += f"; on the campus `block` takes {told.seconds(told.median(campus['per_query']))}"
+    last = f"{last}.".replace(" us", " µs")
     return [told.table(["Beside", head], [line for line in lines if line]), last]
 
 
+# How README, which may have few words, names a map out of a package.
+REAL_WORDS = {"campus": "campus", "windfury": "game map", "underworld": "game map", "continent": "game world"}
+
+
 def mean_words(row):
-    where = short(row["map"]).split(",")[0]
+    where = REAL_WORDS.get(row["map"]) or short(row["map"]).split(",")[0]
     return f"{told.seconds(told.median(row['per_query']))} (`{engine_words(row)}`, {where})"
+
+
+def in_unit(seconds, unit):
+    """A number without its unit, in as few digits as tell it."""
+    value = seconds * {"s": 1, "ms": 1e3, "µs": 1e6}[unit]
+    return f"{value:.0f}" if value >= 9.95 else f"{value:.1f}" if value >= 0.095 else f"{max(value, 0.01):.2f}"
+
+
+class Medians:
+    """The medians that README's table of engines tells, each without its unit."""
+
+    def __init__(self, results):
+        self.results = results
+
+    def query(self, name, engine, unit="µs", states="arrival"):
+        row = find(self.results["queries"], map=name, engine=engine, states=states, program="jps")
+        return in_unit(told.median(row["per_query"]), unit)
+
+    def open_land(self, kind, engine, unit):
+        rows = self.results["open_land"]["rows"]
+        return in_unit(find(rows, kind=kind, engine=engine, states="arrival")["0.5"], unit)
+
+    def process(self, name, unit):
+        value = max(told.median(self.results["processes"]["rows"][name]["processor"]), 1e-9)
+        return f"{value:.2f}" if unit == "s" else in_unit(value, unit)
+
+
+def engines_text(results):
+    """README's table of engines: which one suits is typed here, so read it after a run; the figures are the run's."""
+    parts = ("queries", "open_land", "processes")
+    if not all(results.get(part) for part in parts) or not find(results["queries"], map="rooms32", states="cell"):
+        return None
+    of = Medians(results)
+    open_side, side = (f"{results[part]['side']} × {results[part]['side']}" for part in ("open_land", "processes"))
+    first = [of.process(f"first answer, {engine}", "s") for engine in ("plain", "block", "plus")]
+    rooms = [of.query("rooms32", *it) for it in ROOMS]
+    walls = [of.query("random25", *it) for it in WALLS]
+    short = [of.open_land("short", engine, "µs") for engine in ("plain", "plus", "block", "jps")]
+    far = [of.open_land("walled in", engine, "ms") for engine in ("plus", "block", "jps", "plain")]
+    edits = [of.process("edit, scattered, block", "µs"), of.process("edit, scattered, plus", "µs")]
+    edits.append(of.process("edit, open, plus", "ms"))
+    told_of = [
+        f"first on {side}: {first[0]}, {first[1]} s; `plus` makes tables, {first[2]} s",
+        "rooms, 512 × 512: {}, {} µs, with `states=cell` {}, {}; `plain` {}".format(*rooms),
+        f"open, {open_side}, through `live`: {{}}, {{}} µs; `block` {{}}, `jps` {{}}".format(*short),
+        "there: {}, {} ms; `jps` {}, `plain` {}".format(*far),
+        f"{{}} µs; `plus` {{}} µs, amid open land {{}} ms ({side})".format(*edits),
+        "{}, {} µs, `plain` {}; without it {}, {}".format(*walls),
+    ]
+    lines = [[*row, figures] for row, figures in zip(SUITED, told_of)]
+    return [told.table(["Your queries", "Engine", "Figures"], lines)]
+
+
+# Which engines suit which queries; the order of the figures is that of the engines.
+SUITED = (
+    ("one, or few", "`plain`, `block`"),
+    ("many, far, in rooms or mazes", "`plus`, `block`"),
+    ("short, on open land", "`plain`, `plus`"),
+    ("unreachable goals on open land", "`plus`, `block`"),
+    ("edits", "`block`"),
+    ("scattered walls", "with `states=cell`: `plus`, `block`"),
+)
+ROOMS = (("plus",), ("block",), ("plus", "µs", "cell"), ("block", "µs", "cell"), ("plain",))
+WALLS = (("plus", "µs", "cell"), ("block", "µs", "cell"), ("plain",), ("plus",), ("block",))
 
 
 # ---------------------------------------------------------------- pages
 
-def blocks_of(results, pictures):
-    """What stands between which marks of which page."""
-    has = results.__contains__
-    blocks = {"docs/SPEED.md": {}, "README.md": {}, "bench/FIGURES.md": {}}
-    speed, more = blocks["docs/SPEED.md"], blocks["bench/FIGURES.md"]
+def speed_blocks(results, pictures):
+    """What stands between which marks of docs/SPEED.md."""
+    has, blocks = results.get, {}
     if has("queries"):
         words = "time of a query by map, a dot for each engine"
-        speed["queries"] = [*queries_text(results), *picture("queries", pictures, words)]
-        more["spread"] = spread_text(results)
-        if has_cell(results):
-            more["cell"] = [queries_table(results, "cell", JUMPS)]
-        if has_pairing(results):
-            more["heaps"] = [heap_table(results)]
-        blocks["README.md"]["readme"] = readme_text(results)
-    if has("counts"):
-        more["counts"] = counts_text(results)
+        blocks["queries"] = [*queries_text(results), *picture("queries", pictures, words)]
     if has("libraries") and results["libraries"]["rows"]:
-        speed["libraries"] = libraries_text(results)
+        blocks["libraries"] = libraries_text(results)
     if has("processes"):
-        speed["processes"] = processes_text(results)
-        more["processes"] = process_spread_text(results)
+        blocks["processes"] = processes_text(results)
     if has("pipe"):
-        speed["pipe"] = pipe_text(results)
-        more["pipe"] = pipe_spread_text(results)
+        blocks["pipe"] = pipe_text(results)
+    if has("open_land"):
+        blocks["open_land"] = open_land_text(results)
+    if has("dearest"):
+        blocks["dearest"] = dearest_text(results)
     if has("growth"):
-        speed["growth"] = growth_text(pictures)
-        more["growth"] = growth_numbers_text(results)
+        blocks["growth"] = growth_text(pictures)
     if has("taken"):
-        words = "How many states `plain` and `block` take, by the length of the walk:"
+        words = "How many states `plain` and `block` take, by the length of the walk; those of all queries together: "
+        words += "[FIGURES](../bench/FIGURES.md#taken-states)."
         seen = picture("taken", pictures, "taken states against the length of the walk, a box for each map")
-        speed["taken"] = ["## Taken states", words, *seen]
+        blocks["taken"] = ["## Taken states", words, *seen]
+    return blocks
+
+
+def more_blocks(results):
+    """What stands between which marks of bench/FIGURES.md."""
+    has, blocks = results.get, {}
+    if has("queries"):
+        blocks["spread"] = spread_text(results)
+        if has_cell(results):
+            blocks["cell"] = [queries_table(results, "cell", JUMPS), cell_gain(results)]
+        if has_pairing(results):
+            blocks["heaps"] = [heap_table(results)]
+    if has("counts"):
+        blocks["counts"] = counts_text(results)
+    if has("taken"):
+        blocks["taken"] = [taken_table(results)]
+    numbers = {
+        "processes": process_spread_text,
+        "pipe": pipe_spread_text,
+        "open_land": open_land_spread_text,
+        "dearest": dearest_numbers_text,
+        "growth": growth_numbers_text,
+    }
+    return blocks | {name: write(results) for name, write in numbers.items() if has(name)}
+
+
+def blocks_of(results, pictures):
+    """What stands between which marks of which page."""
+    readme = {"engines": engines_text(results)}
+    if results.get("queries"):
+        readme["readme"] = readme_text(results)
+    blocks = {"docs/SPEED.md": speed_blocks(results, pictures), "README.md": readme}
+    blocks["bench/FIGURES.md"] = more_blocks(results)
     for found in blocks.values():
         for name in list(found):
             found[name] = "\n\n".join(found[name]) if found[name] else None

@@ -215,3 +215,54 @@ def caves(width, height, seed, rounds=5):
         if rows[y][x] == FREE:
             rows[y][x] = TREE
     return rows
+
+
+# ---------------------------------------------------------------- the dearest ones that are known
+
+def walled_in(rows):
+    """The map with walls around its middle cell, or the next free one to the right of it; and that cell."""
+    y = len(rows) // 2
+    x = rows[y].index(FREE, len(rows[0]) // 2)
+    for row in rows[y - 1 : y + 2]:
+        row[x - 1 : x + 2] = bytes([WALL]) * 3
+    rows[y][x] = FREE
+    return rows, (x, y)
+
+
+def combs(side):
+    """A wall at every second cell beside the borders: each gap sends jumps across the whole map."""
+    rows = blank(side, side)
+    for place in range(1, side - 1, 2):
+        rows[1][place] = rows[-2][place] = rows[place][1] = rows[place][-2] = WALL
+    return walled_in(rows)
+
+
+def pillars(side):
+    """A wall at every second cell of every second row."""
+    rows = blank(side, side)
+    for row in rows[1::2]:
+        row[1::2] = bytes([WALL]) * len(row[1::2])
+    return walled_in(rows)
+
+
+def checkers(side):
+    """Walls and free cells in turns, so that diagonal moves alone are left."""
+    return walled_in([bytearray((b".@", b"@.")[y % 2] * (side // 2)) for y in range(side)])
+
+
+def spiral(side, corridor=3):
+    """One corridor that winds from the upper left corner to the middle; and the middle cell."""
+    rows = blank(side, side)
+    pitch = corridor + 1
+    for low in range(corridor, side // 2 - pitch, pitch):
+        high = side - 1 - low
+        fill(rows, low - pitch if low > corridor else 0, low, high + 1, low + 1, WALL)
+        fill(rows, high, low, high + 1, high + 1, WALL)
+        fill(rows, low, high, high + 1, high + 1, WALL)
+        fill(rows, low, low + pitch, low + 1, high + 1, WALL)
+    return rows, (side // 2, side // 2)
+
+
+def open_land(side):
+    """No wall at all; and the lower right corner."""
+    return blank(side, side), (side - 1, side - 1)

@@ -140,15 +140,16 @@ class Pipe:
             raise Fault(f"{self.child.args} ended with {self.child.returncode}")
 
 
-def answer_times(words, questions, first):
-    """The seconds that each question takes through a pipe, after a first one by which the map is read."""
+def answer_times(words, questions, before):
+    """The seconds that each question takes through a pipe, after those lines, by the first of which the map is read."""
     pipe = Pipe(words)
-    pipe.ask(first)
+    for line in before:
+        pipe.ask(line)
     times = []
     for question in questions:
-        before = time.perf_counter_ns()
+        begun = time.perf_counter_ns()
         pipe.ask(question)
-        times.append((time.perf_counter_ns() - before) / 1e9)
+        times.append((time.perf_counter_ns() - begun) / 1e9)
     pipe.close()
     return times
 

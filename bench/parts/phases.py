@@ -285,7 +285,7 @@ def pipe(run):
     def call_of(row, live, questions):
         def call():
             asked = run.random.choices(questions, k=run.questions)
-            row["times"] += measure.answer_times(live, asked, questions[0])
+            row["times"] += measure.answer_times(live, asked, questions[:1])
         return call
 
     take_turns(run, [call_of(*job) for job in jobs], run.pipe_turns)
@@ -316,7 +316,7 @@ def memory(run):
 # ---------------------------------------------------------------- libraries
 
 def library_jobs(run):
-    """Each library on each map that is not too large for it, with the same entries as the program and the reference."""
+    """Each library on each map that is not too large for it, with the same entries as the program."""
     jobs = []
     for name in run.library_maps:
         told = run.results["maps"][name]
@@ -346,18 +346,17 @@ def ask_library(words, row, folder):
 
 
 def library_cases(run):
-    """The program and the reference on the entries that the libraries get: `plain` and `block`."""
+    """The program on the entries that the libraries get: `plain` and `block`."""
     cases = []
     for name in run.library_maps:
         head, lines = inputs.entry_lines(run.inputs.scenario_path(name))
         for count in sorted({it[1] for it in programs.LIBRARIES.values()}):
             few = (head, inputs.evenly(lines, count))
             for variant in (Variant("plain"), Variant("block")):
-                for contestant in run.contestants[:2]:
-                    repeats = repeats_for(run, name, variant, contestant, count)
-                    case = Case(run, name, variant, contestant, few, repeats)
-                    case.row["asked"] = count
-                    cases.append(case)
+                repeats = repeats_for(run, name, variant, run.contestants[0], count)
+                case = Case(run, name, variant, run.contestants[0], few, repeats)
+                case.row["asked"] = count
+                cases.append(case)
     return cases
 
 
