@@ -11,7 +11,7 @@ use Rattle.grid_moves.specs.Move.{row_ahead}
 use Rattle.grid_moves.specs.Ring.{leads_on}
 use Rattle.pruning.specs.declared.turns.Side.{Side}
 use Rattle.pruning.specs.declared.turns.Side.TheVariants.{Right, Left}
-use Rattle.pruning.specs.Turns.{turn, is_diagonal}
+use Rattle.pruning.specs.Turns.{turn}
 use Rattle.pruning.specs.Ring.{forced_beside, forced_on}
 use Rattle.pruning.proofs.Table.{other}
 use Rattle.plus_tables.specs.declared.heading.Heading.{Heading}
@@ -23,9 +23,6 @@ use Rattle.plus_tables.proofs.Rowing.{forced_if, told_row}
 
 turn_flipped : (s : Side) (d : Dir) → turn s (flipped d) ≡ flipped (turn (other s) d)
 turn_flipped s d = grind (arith, nat_tests)
-
-diagonal_flipped : (d : Dir) → is_diagonal (flipped d) ≡ is_diagonal d
-diagonal_flipped d = grind (arith, nat_tests)
 
 place_flipped : (d : Dir) (x : ℕ) → place_after d x ≡ place_after (flipped d) x
 place_flipped d x = grind (arith, nat_tests)
@@ -71,26 +68,22 @@ module _ (g : GridData) (whole : IsGrid g) where
 
   -- the entries of a row, told by those of the next
   pub told_seen : (h : Heading) (y m : ℕ) (d : Dir) → IsRowAt (row_ahead (seen h d) y) m → (corner : Corner)
-      → corner ≡ g.corner → (ahead here behind forced : List Bool) (next right left out : List ℤ) (e f : Dir)
+      → corner ≡ g.corner → (ahead here behind forced : List Bool) (next right left out : List ℤ)
       → AreRowsSeen g h y ahead here behind → IsForcedRow g m (seen h d) forced
-      → IsEntryRow g m (seen h d) next → IsEntryRow g m e right → IsEntryRow g m f left
-      → (is_diagonal d ≡ true → (e ≡ seen h (turn Right d)) × (f ≡ seen h (turn Left d)))
-      → length out ≡ g.width + 2
+      → IsEntryRow g m (seen h d) next → IsEntryRow g m (seen h (turn Right d)) right
+      → IsEntryRow g m (seen h (turn Left d)) left → length out ≡ g.width + 2
       → AreToldBelow corner ahead here behind forced next right left d out (length out - 2)
       → IsEntryRow g y (seen h d) out
-  told_seen Upwards y m d lies corner rule ahead here behind forced next right left out e f around forced_is
-      next_is right_is left_is parts long are =
-      told_row g whole y m d lies corner rule ahead here behind forced next right left out e f around
-      forced_is
-      next_is right_is left_is parts long are
-  told_seen Downwards y m d lies corner rule ahead here behind forced next right left out e f around forced_is
-      next_is right_is left_is parts long are =
-      told_row g whole y m (flipped d) lies corner rule behind here ahead forced next left right out
-      f e around
-      forced_is next_is left_is right_is
-      (λ k. let both = parts (sym (diagonal_flipped d) ∙ k) in
-      (both.1 ∙ sym (turn_flipped Right d), both.0 ∙ sym (turn_flipped Left d)))
-      long
+  told_seen Upwards y m d lies corner rule ahead here behind forced next right left out around forced_is
+      next_is right_is left_is long are =
+      told_row g whole y m d lies corner rule ahead here behind forced next right left out around forced_is
+      next_is right_is left_is long are
+  told_seen Downwards y m d lies corner rule ahead here behind forced next right left out around forced_is
+      next_is right_is left_is long are =
+      told_row g whole y m (flipped d) lies corner rule behind here ahead forced next left right out around
+      forced_is next_is
+      (subst (λ (e : Dir). IsEntryRow g m e left) (sym (turn_flipped Right d)) left_is)
+      (subst (λ (e : Dir). IsEntryRow g m e right) (sym (turn_flipped Left d)) right_is) long
       (λ x below. subst (λ (at : ℕ). (legal_by corner behind here ahead (flipped d) x ≡ true
       → AreShort (number next at) (number left at) (number right at))
       → number out (x + 1) ≡ told (legal_by corner behind here ahead (flipped d) x)

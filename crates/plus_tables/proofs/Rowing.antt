@@ -147,15 +147,14 @@ module _ (g : GridData) (whole : IsGrid g) (c : Cell) (d : Dir) where
       (can : legal ≡ can_move g c d)
       (lies : (w : Cell) → legal_ahead g c d ≡ Some w → w.y ≡ y) (forced_is : IsForcedRow g y d forced)
       (ahead_is : IsEntryRow g y d ahead)
-      (right_is : is_diagonal d ≡ true → IsEntryRow g y (turn Right d) right)
-      (left_is : is_diagonal d ≡ true → IsEntryRow g y (turn Left d) left) where
+      (right_is : IsEntryRow g y (turn Right d) right) (left_is : IsEntryRow g y (turn Left d) left) where
     mark_across : (w : Cell) → legal_ahead g c d ≡ Some w
         → mark_by forced right left d (place_after d c.x) ≡ is_mark_by g (table_entry g) d w
     mark_across w e = by_parity d
         (λ h. rw (
           next_flag y forced w e (lies w e) forced_is,
-          next_number y right (turn Right d) w e (lies w e) (right_is h),
-          next_number y left (turn Left d) w e (lies w e) (left_is h),
+          next_number y right (turn Right d) w e (lies w e) right_is,
+          next_number y left (turn Left d) w e (lies w e) left_is,
         ) refl)
         (λ h. nothing_more (flag forced (place_after d c.x)) (is_diagonal d) _ h
         ∙ next_flag y forced w e (lies w e) forced_is
@@ -171,16 +170,15 @@ module _ (g : GridData) (whole : IsGrid g) (c : Cell) (d : Dir) where
     short_at row e is w legal = subst (λ (z : ℤ). IsShort z)
         (sym (next_number y row e w legal (lies w legal) is)) (table_entry-short g whole w e)
 
-    pub short_entries : (e f : Dir) → IsEntryRow g y e right → IsEntryRow g y f left → legal ≡ true
-        → AreShort (number ahead (place_after d c.x)) (number right (place_after d c.x))
-        (number left (place_after d c.x))
-    short_entries e f is too h =
+    pub short_entries : legal ≡ true → AreShort (number ahead (place_after d c.x))
+        (number right (place_after d c.x)) (number left (place_after d c.x))
+    short_entries h =
         let l = leads_from g c d (sym can ∙ h) in
         let legal_is_it = leads_legal g c l.0 d l.1 in
         record {
           ahead_is = short_at ahead d ahead_is l.0 legal_is_it;
-          right_is = short_at right e is l.0 legal_is_it;
-          left_is = short_at left f too l.0 legal_is_it;
+          right_is = short_at right (turn Right d) right_is l.0 legal_is_it;
+          left_is = short_at left (turn Left d) left_is l.0 legal_is_it;
         }
 
 -- in a row, the next cell lies in the row ahead
@@ -191,30 +189,21 @@ module _ (g : GridData) (whole : IsGrid g) (y m : ℕ) (d : Dir) (lies : IsRowAt
 
   -- a row that is told by the next is the row of entries
   pub told_row : (corner : Corner) → corner ≡ g.corner → (above here below forced : List Bool)
-      (ahead right left out : List ℤ) (e f : Dir) → AreRowsAround g y above here below
-      → IsForcedRow g m d forced
-      → IsEntryRow g m d ahead → IsEntryRow g m e right → IsEntryRow g m f left
-      → (is_diagonal d ≡ true → (e ≡ turn Right d) × (f ≡ turn Left d)) → length out ≡ g.width + 2
+      (ahead right left out : List ℤ) → AreRowsAround g y above here below → IsForcedRow g m d forced
+      → IsEntryRow g m d ahead → IsEntryRow g m (turn Right d) right → IsEntryRow g m (turn Left d) left
+      → length out ≡ g.width + 2
       → AreToldBelow corner above here below forced ahead right left d out (length out - 2)
       → IsEntryRow g y d out
-  told_row corner rule above here below forced ahead right left out e f around forced_is ahead_is right_is
-      left_is
-      parts long are_told v row inside =
+  told_row corner rule above here below forced ahead right left out around forced_is ahead_is right_is left_is
+      long are_told v row inside =
       let below_last : v.x < length out - 2 = grind (arith, nat_tests) in
+      let can = row_legal g whole y above here below around d corner rule v row in
+      let legal = legal_by corner above here below d v.x in
       are_told v.x below_last
-      (short_entries g whole v d m forced ahead right left (legal_by corner above here below d v.x) can
-      (λ w k. in_row v w row k) forced_is ahead_is right_at left_at e f right_is left_is)
-      ∙ told_entry g whole v d m forced ahead right left (legal_by corner above here below d v.x) can
-      (λ w k. in_row v w row k) forced_is ahead_is right_at left_at
-    where
-      can : legal_by corner above here below d v.x ≡ can_move g v d
-      can = row_legal g whole y above here below around d corner rule v row
-
-      right_at : is_diagonal d ≡ true → IsEntryRow g m (turn Right d) right
-      right_at h = subst (λ (k : Dir). IsEntryRow g m k right) (parts h).0 right_is
-
-      left_at : is_diagonal d ≡ true → IsEntryRow g m (turn Left d) left
-      left_at h = subst (λ (k : Dir). IsEntryRow g m k left) (parts h).1 left_is
+      (short_entries g whole v d m forced ahead right left legal can (λ w k. in_row v w row k) forced_is
+      ahead_is right_is left_is)
+      ∙ told_entry g whole v d m forced ahead right left legal can (λ w k. in_row v w row k) forced_is
+      ahead_is right_is left_is
 
 -- along a row all columns have what each has where the next one has it
 pub along_each : (d : Dir) → is_along d ≡ true → (n : ℕ) (P : ℕ → Type 0)

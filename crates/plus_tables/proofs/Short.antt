@@ -37,5 +37,10 @@ table_entry-short g h c d = grind (arith, nat_tests, short_run, run_length-few, 
 pub same_value : (entry value : ℤ) → IsShort entry → value ≡ entry → to_z w16 (of_z w16 value) ≡ entry
 same_value entry value short is = grind (arith, nat_tests)
 
+-- so an entry is the same as it is stored
+pub entry_stored : (g : GridData) (c : Cell) (d : Dir) → IsGrid g
+    → to_z w16 (of_z w16 (table_entry g c d)) ≡ table_entry g c d
+entry_stored g c d h = grind (arith, nat_tests, same_value, table_entry-short)
+
 pub short_value : (entry value : ℤ) → IsShort entry → value ≡ entry → IsShort (to_z w16 (of_z w16 value))
 short_value entry value short is = rw (same_value entry value short is) short

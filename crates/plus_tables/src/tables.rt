@@ -190,6 +190,7 @@ impl Tables {
 
     // The same; each direction has code of its own, in which it is a constant.
     #[inline(always)]
+    #[tactic(auto, using(crate::proofs::Short::entry_stored))]
     fn told<T: Terrain>(&self, t: &T, c: Cell, d: Dir) -> i16
         requires whole { IsGrid (T.grid t.now) }
         requires sized { AreSized self.now (T.grid t.now) }
