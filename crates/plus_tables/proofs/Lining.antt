@@ -157,15 +157,7 @@ module _ {g : GridData} {h : Heading} {y n : ℕ} {band : Band} {last : Line} {r
     line = lines_told g h y this east west told east_is west_is east_fits west_fits
 
     long_on : IsLong g (with_along this east west)
-    long_on = record {
-      ahead = long.ahead;
-      ahead_east = long.ahead_east;
-      ahead_west = long.ahead_west;
-      east = ap (λ (r : List ℤ). length r) (with_items_is this.east east east_fits)
-          ∙ omega (arith, long.east, this.east.ok.0);
-      west = ap (λ (r : List ℤ). length r) (with_items_is this.west west west_fits)
-          ∙ omega (arith, long.west, this.west.ok.0);
-    }
+    long_on = grind (arith, nat_tests, with_items_is)
 
     pub kept_on : IsKept g h n rows
     kept_on = record {
@@ -244,11 +236,11 @@ module _ (g : GridData) (whole : IsGrid g) (rows begun : Rows) (blank : IsBlank 
           → IsKept g Downwards y begun
       begun_down y e is = begun_at Downwards y g.height (g.height + 1) (omega arith) (omega arith)
           (row_under y g.height (sym e)) is (λ on. record {
-            upper = y;
-            lower = g.height + 1;
-            upper_is = row_over g.height y (omega arith);
-            lower_is = row_itself (g.height + 1);
-            above_is = is;
+            front = g.height + 1;
+            rear = y;
+            front_is = row_itself (g.height + 1);
+            rear_is = row_over g.height y (omega arith);
+            ahead_is = blank_row g (g.height + 1) begun.band.far.items (far ∙ blank.far) (omega arith);
             here_is = blank_row g g.height begun.band.next.items (next ∙ blank.next) (omega arith);
-            below_is = blank_row g (g.height + 1) begun.band.far.items (far ∙ blank.far) (omega arith);
+            behind_is = is;
           })

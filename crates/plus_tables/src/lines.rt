@@ -247,6 +247,7 @@ impl Rows {
 // The entries of a row for one direction that leads ahead, told by those of the row that was swept last: the
 // entries for that direction and for those beside it.
 #[inline(always)]
+#[tactic(auto, using(crate::proofs::Fitting::long_as))]
 fn tell_ahead<T: Terrain>(
     t: &T,
     band: &Band,
@@ -287,7 +288,7 @@ fn tell_one_along<T: Terrain>(t: &T, rows: Three, d: Dir, forced: &mut [bool], o
     requires forced { length forced.old ≡ (T.grid t.now).width + 2 }
     requires out { length out.old ≡ (T.grid t.now).width + 2 }
     requires rows { AreLong ((T.grid t.now).width + 2) rows.ahead.now rows.here.now rows.behind.now }
-    ensures { (y : ℕ) → spec.AreRowsAround (T.grid t.now) y rows.entry.ahead.now rows.entry.here.now
+    ensures { (h : Heading) (y : ℕ) → spec.AreRowsSeen (T.grid t.now) h y rows.entry.ahead.now rows.entry.here.now
         rows.entry.behind.now → spec.IsEntryRow (T.grid t.now) y d out.new }
 {
     force(t.corner(), rows.ahead, rows.here, rows.behind, d, forced);

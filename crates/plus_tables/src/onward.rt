@@ -14,6 +14,7 @@ use pruning::{forced, is_diagonal};
 
 // The cell ahead, exactly where the diagonal move to it is legal.
 #[inline(always)]
+#[tactic(auto, using(std::proofs::lemmas::Bool::Decides::nat_tests))]
 fn next_aslant<T: Terrain>(t: &T, at: Cell, d: Dir) -> Option<Cell>
     requires diagonal { turns.is_diagonal d ≡ true }
     requires free { is_free (T.grid t.now) at ≡ true }

@@ -1,4 +1,4 @@
-use Rattle.std.proofs.Common.{◌≡◌, ℕ, List, refl, arith, length, ap, ◌∙◌}
+use Rattle.std.proofs.Common.{◌≡◌, ℕ, List, arith, length, ap, ◌∙◌}
 use Rattle.std.specs.Global.{Vec}
 use Rattle.std.specs.Prelude.{ℤ}
 use Rattle.std.specs.Vec.{with_items}
@@ -20,33 +20,6 @@ row_long : (row : Vec ℤ) (out : List ℤ) {lent : List ℤ} {n : ℕ} → leng
     → length row.items ≡ n → length (with_items row out).items ≡ n
 row_long row out same is long = ap (λ (l : List ℤ). length l) (row_set row out same is) ∙ same
     ∙ ap (λ (l : List ℤ). length l) is ∙ long
-
-pub tell_ahead-requires : goal.tell_ahead-requires
-tell_ahead-requires g c = record {
-  whole = c.requires.whole;
-  ahead = refl;
-  ready = c.requires.ready;
-  forced = c.requires.forced;
-  out = ap length c.deref_mut.ensures.value ∙ c.requires.long.ahead;
-}
-
-pub tell_ahead-requires-2 : goal.tell_ahead-requires-2
-tell_ahead-requires-2 g c = record {
-  whole = c.requires.whole;
-  ahead = refl;
-  ready = c.requires.ready;
-  forced = c.tell_ahead.auto.forced ∙ c.requires.forced;
-  out = ap length c.deref_mut-2.ensures.value ∙ c.requires.long.ahead_east;
-}
-
-pub tell_ahead-requires-3 : goal.tell_ahead-requires-3
-tell_ahead-requires-3 g c = record {
-  whole = c.requires.whole;
-  ahead = refl;
-  ready = c.requires.ready;
-  forced = c.tell_ahead-2.auto.forced ∙ c.tell_ahead.auto.forced ∙ c.requires.forced;
-  out = ap length c.deref_mut-3.ensures.value ∙ c.requires.long.ahead_west;
-}
 
 pub returns-clause-told : goal.returns-clause-told
 returns-clause-told g c = λ h y ready around.

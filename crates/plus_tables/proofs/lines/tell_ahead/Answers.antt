@@ -1,27 +1,18 @@
-use Rattle.std.proofs.Common.{◌≡◌, ◌<◌, ℕ, ◌+◌, List, arith, length, ap, sym, ◌∙◌, subst}
+use Rattle.std.proofs.Common.{◌≡◌, ◌+◌, List, arith, ap, ◌∙◌, subst}
 use Rattle.std.specs.Prelude.{ℤ}
 use Rattle.grid_moves.specs.declared.Dir.{Dir}
 use Rattle.grid_moves.specs.Grid.{GridData}
 use Rattle.pruning.specs.declared.turns.Side.{Side}
 use Rattle.pruning.specs.declared.turns.Side.TheVariants.{Right, Left}
 use Rattle.pruning.specs.Turns.{turn}
-use Rattle.plus_tables.specs.Fit.{AreLong}
 use Rattle.plus_tables.specs.Laid.{seen_part}
 use Rattle.plus_tables.specs.Rows.{IsEntryRow, seen}
 use Rattle.plus_tables.specs.Sweep.{is_upward}
 use Rattle.plus_tables.proofs.Fitting.{bordered, fits_across, long_as}
 use Rattle.plus_tables.proofs.Lining.{entries_as, leads_ahead, part_long, part_seen, seen_as, upward_ahead}
 use Rattle.plus_tables.proofs.Lining.{upward_beside}
-use Rattle.plus_tables.proofs.Mirror.{forced_seen, told_seen}
+use Rattle.plus_tables.proofs.Rowing.{forced_if, told_row}
 use Rattle.plus_tables.proofs.lines.tell_ahead.Goals as goal
-
-pub force-requires-clause-rows : goal.force-requires-clause-rows
-force-requires-clause-rows g c =
-    let rows = c.requires.ready.2.rows in
-    subst (λ (n : ℕ). AreLong n c.deref.result.now c.deref-2.result.now c.deref-3.result.now)
-    (sym c.requires.forced)
-    (long_as c.deref.ensures.value c.deref-2.ensures.value c.deref-3.ensures.value
-    rows.far_is.long rows.next_is.long rows.here_is.long)
 
 pub across-requires : goal.across-requires
 across-requires g c =
@@ -45,11 +36,11 @@ returns g c = λ h y ready around.
     subst (λ (k : Dir). IsEntryRow grid m (seen h k) row) is
     (entries_as grid m (seen h e) _ row same
     (part e (ap is_upward is ∙ upward_beside s c.args.d c.requires.ahead))) in
-    told_seen grid c.requires.whole h y m c.args.d (leads_ahead h c.args.d y m c.requires.ahead ready.rows.ahead_is)
+    told_row grid c.requires.whole h y m c.args.d (leads_ahead h c.args.d y m c.requires.ahead ready.rows.ahead_is)
     c.corner-corner.result c.corner-corner.ensures _ _ _ c.force.new.forced _ _ _ c.across.new.out
     (seen_as grid h y band.next.items band.here.items band.back.items _ _ _ c.deref-4.ensures.value
     c.deref-5.ensures.value c.deref-6.ensures.value around)
-    (forced_seen grid c.requires.whole h m _ _ _
+    (forced_if grid c.requires.whole h m _ _ _
     (λ on. seen_as grid h m band.far.items band.next.items band.here.items _ _ _ c.deref.ensures.value
     c.deref-2.ensures.value c.deref-3.ensures.value (ready.rows.around_next on))
     c.args.d c.corner-corner.result c.force.new.forced c.corner-corner.ensures
