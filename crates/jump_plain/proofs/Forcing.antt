@@ -22,9 +22,8 @@ use Rattle.pruning.proofs.Table.{turn_back}
 use Rattle.pruning.proofs.Moves.{can_move-straight, can_move-diagonal}
 use Rattle.pruning.proofs.Bridging.{place_of, free_place, open_there, Leads, leads_there, legal_leads}
 use Rattle.jump_plain.specs.declared.beside.Sides.{Sides}
-use Rattle.jump_plain.specs.declared.jump.Components.{Components}
 use Rattle.jump_plain.specs.Beside.{sides_of, sides_ahead, opens}
-use Rattle.jump_plain.specs.Reach.{components_of, first_sides, sides_after, sides_passed}
+use Rattle.jump_plain.specs.Reach.{first_sides, sides_after, sides_passed}
 
 abbrev free_sides : Sides
 free_sides = record { right = true; left = true }
@@ -164,22 +163,22 @@ same_sides a b c e h k = rw (h, k) refl
 
 -- a scan begins at the end of a diagonal move with the sides that are known there
 pub sides_known : (g : GridData) (u v : Cell) (d : Dir) → legal_ahead g u d ≡ Some v → is_diagonal d ≡ true
-    → (beside : Components) → beside ≡ components_of g v d → (s : Side)
+    → (beside : Sides) → beside ≡ sides_ahead g v d → (s : Side)
     → sides_after g.corner beside s ≡ first_sides g.corner g v (turn s d)
 sides_known g u v d legal h beside is s =
-    ap (λ (c : Components). sides_after g.corner c s) is ∙ by_rule s
+    ap (λ (c : Sides). sides_after g.corner c s) is ∙ by_rule s
   where
     rear : may_cut g.corner ≡ false → (s : Side) → is_open g v (turn s (quarter s d)) ≡ true
     rear r s = free_rear g u v d (legal_leads g u v d legal) r h (ap (λ (o : Option Cell). is_some o) legal) s
 
     known : may_cut g.corner ≡ false → (s : Side)
-        → sides_after g.corner (components_of g v d) s ≡ sides_passed (components_of g v d) s
-    known r s = cond-false (may_cut g.corner) free_sides (sides_passed (components_of g v d) s) r
+        → sides_after g.corner (sides_ahead g v d) s ≡ sides_passed (sides_ahead g v d) s
+    known r s = cond-false (may_cut g.corner) free_sides (sides_passed (sides_ahead g v d) s) r
 
     uncut : may_cut g.corner ≡ false → (s : Side)
-        → sides_after g.corner (components_of g v d) s ≡ sides_of g v (turn s d)
+        → sides_after g.corner (sides_ahead g v d) s ≡ sides_of g v (turn s d)
     uncut h1 s = grind (arith, nat_tests, common_steps, known, same_sides, rear, turn_back)
 
     by_rule : (s : Side)
-        → sides_after g.corner (components_of g v d) s ≡ first_sides g.corner g v (turn s d)
+        → sides_after g.corner (sides_ahead g v d) s ≡ first_sides g.corner g v (turn s d)
     by_rule s = grind (arith, nat_tests, common_steps, by_cut, uncut, cond-false, cond-true)

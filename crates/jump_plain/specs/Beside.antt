@@ -1,4 +1,4 @@
--- The two cells at right angles to a run.
+-- The two cells at right angles to a run, and the two half ahead of it.
 use Rattle.std.specs.Prelude.{Bool, not, ◌&&◌, ◌||◌}
 use Rattle.grid_moves.specs.declared.Cell.{Cell}
 use Rattle.grid_moves.specs.declared.Dir.{Dir}
@@ -12,7 +12,8 @@ use Rattle.jump_plain.specs.declared.beside.Sides.{Sides}
 abbrev pub sides_of : GridData → Cell → Dir → Sides
 sides_of g c d = record { right = is_open g c (quarter Right d); left = is_open g c (quarter Left d) }
 
--- which of the two cells half ahead are free: the sides of the next cell, be it free or blocked
+-- which of the two cells half ahead are free: for a straight d the sides of the next cell, be it free or
+-- blocked; for a diagonal one the cells beside the move
 abbrev pub sides_ahead : GridData → Cell → Dir → Sides
 sides_ahead g c d = record { right = is_open g c (turn Right d); left = is_open g c (turn Left d) }
 

@@ -8,15 +8,13 @@ use Rattle.grid_moves.specs.declared.Dir.{Dir}
 use Rattle.grid_moves.specs.declared.Dir.TheVariants.{N, NE, E, SE, S, SW, W, NW}
 use Rattle.grid_moves.specs.Grid.{GridData, grid_of}
 use Rattle.grid_moves.specs.Examples.{notch}
-use Rattle.grid_moves.specs.Move.{is_open, may_cut}
+use Rattle.grid_moves.specs.Move.{may_cut}
 use Rattle.pruning.specs.declared.turns.Side.{Side}
 use Rattle.pruning.specs.declared.turns.Side.TheVariants.{Right, Left}
-use Rattle.pruning.specs.Turns.{turn}
 use Rattle.pruning.specs.Marked.{is_forced}
 use Rattle.pruning.specs.First.{first_on_run, run_length}
 use Rattle.jump_plain.specs.declared.beside.Sides.{Sides}
 use Rattle.jump_plain.specs.declared.scan.Reach.{Reach}
-use Rattle.jump_plain.specs.declared.jump.Components.{Components}
 use Rattle.jump_plain.specs.Beside.{sides_of}
 
 -- to the first mark, if there is one, else to the end of a run of so many moves
@@ -58,18 +56,14 @@ free_bits s = if s.right then (if s.left then 3 else 1) else if s.left then 2 el
 abbrev pub shut_bits : Sides → ℕ
 shut_bits s = 255 - free_bits s
 
--- which of the two cells beside a diagonal move from c are free
-abbrev pub components_of : GridData → Cell → Dir → Components
-components_of g c d = record { right = is_open g c (turn Right d); left = is_open g c (turn Left d) }
-
 -- the sides at the end of a diagonal move, in its component to that side, told which cells beside the next
 -- move are free, where the cell passed by the move is free
-abbrev pub sides_passed : Components → Side → Sides
+abbrev pub sides_passed : Sides → Side → Sides
 sides_passed c Right = record { right = true; left = c.left }
 sides_passed c Left = record { right = c.right; left = true }
 
 -- the sides with which a scan begins there: the cell passed by the move is free where no corner is cut
-abbrev pub sides_after : Corner → Components → Side → Sides
+abbrev pub sides_after : Corner → Sides → Side → Sides
 sides_after rule c s = if may_cut rule then record { right = true; left = true } else sides_passed c s
 
 -- the number of moves in a straight d that lead from u to v, or 0 where none do

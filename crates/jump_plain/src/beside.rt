@@ -9,7 +9,7 @@ ghost use Rattle.jump_plain.specs.Beside as spec;
 use grid_moves::{Cell, Dir, Terrain, beyond};
 use pruning::{Side, quarter, turn};
 
-/// Which of the two cells at right angles to a direction are free.
+/// Which of two cells beside a direction are free: those at right angles to it, or those half ahead.
 #[derive(Clone, Copy)]
 pub struct Sides {
     pub right: bool,
@@ -67,16 +67,27 @@ impl Sides {
         }
     }
 
-    /// Reads the cells half ahead of a free cell: the sides of the next one, be it free or blocked.
+    /// Reads the cells half ahead of a free cell: after a straight move the sides of the next one, be it free
+    /// or blocked; beside a diagonal move the ends of the moves in its components.
     #[inline(always)]
     pub fn ahead<T: Terrain>(t: &T, c: Cell, d: Dir) -> Sides
         requires free { is_free (T.grid t.now) c ≡ true }
         requires whole { IsGrid (T.grid t.now) }
         ensures { result ≡ spec.sides_ahead (T.grid t.now) c d }
     {
+        Sides::ahead_by(t, t.place(c), c, d)
+    }
+
+    // The same, told the cell's place.
+    #[inline(always)]
+    pub(crate) fn ahead_by<T: Terrain>(t: &T, place: usize, c: Cell, d: Dir) -> Sides
+        requires told { place ≡ T.place_of t.now c }
+        requires free { is_free (T.grid t.now) c ≡ true }
+        ensures { result ≡ spec.sides_ahead (T.grid t.now) c d }
+    {
         Sides {
-            right: t.open(c, turn(Side::Right, d)),
-            left: t.open(c, turn(Side::Left, d)),
+            right: t.open_by(place, c, turn(Side::Right, d)),
+            left: t.open_by(place, c, turn(Side::Left, d)),
         }
     }
 

@@ -8,6 +8,7 @@ ghost use Rattle.pruning.specs.Turns.{is_diagonal};
 ghost use Rattle.pruning.specs.Marked.{is_forced};
 ghost use Rattle.pruning.specs.First as first;
 ghost use Rattle.grid_moves.specs.Ruled as ruled;
+ghost use Rattle.jump_plain.specs.Beside as besides;
 ghost use Rattle.jump_plain.specs.Reach as spec;
 
 use crate::beside::Sides;
@@ -57,43 +58,11 @@ fn straight_stop<T: Terrain>(t: &T, at: Cell, d: Dir, goal: Cell) -> Option<u16>
     stop_of(reach, to_goal)
 }
 
-/// Which of the two cells beside a diagonal move are free: the ends of the moves in its components.
-#[derive(Clone, Copy)]
-pub struct Components {
-    pub right: bool,
-    pub left: bool,
-}
-
-impl Components {
-    /// Reads the cells beside the move from a free cell.
-    #[inline(always)]
-    pub fn of<T: Terrain>(t: &T, c: Cell, d: Dir) -> Components
-        requires free { is_free (T.grid t.now) c ≡ true }
-        requires whole { IsGrid (T.grid t.now) }
-        ensures { result ≡ spec.components_of (T.grid t.now) c d }
-    {
-        Components::by(t, t.place(c), c, d)
-    }
-
-    // The same, told the cell's place.
-    #[inline(always)]
-    fn by<T: Terrain>(t: &T, place: usize, c: Cell, d: Dir) -> Components
-        requires told { place ≡ T.place_of t.now c }
-        requires free { is_free (T.grid t.now) c ≡ true }
-        ensures { result ≡ spec.components_of (T.grid t.now) c d }
-    {
-        Components {
-            right: t.open_by(place, c, turn(Side::Right, d)),
-            left: t.open_by(place, c, turn(Side::Left, d)),
-        }
-    }
-}
-
 // The sides with which a scan begins at the end of a diagonal move, in the component to this side, told the
 // cells ahead of that end. The other component's is a side of the run. Where no corner is cut, the
 // side half behind was passed by the move, and is free.
 #[inline(always)]
-fn sides_after(rule: Corner, beside: Components, side: Side) -> Sides
+fn sides_after(rule: Corner, beside: Sides, side: Side) -> Sides
     ensures { result ≡ spec.sides_after rule beside side }
 {
     match side {
@@ -140,11 +109,11 @@ fn both(one: bool, other: bool) -> bool
 
 /// The next cell of a diagonal run, exactly where the move to it is legal.
 #[inline(always)]
-pub fn diagonal_ahead<T: Terrain>(t: &T, at: Cell, d: Dir, beside: Components) -> Option<Next>
+pub fn diagonal_ahead<T: Terrain>(t: &T, at: Cell, d: Dir, beside: Sides) -> Option<Next>
     requires diagonal { is_diagonal d ≡ true }
     requires free { is_free (T.grid t.now) at ≡ true }
     requires whole { IsGrid (T.grid t.now) }
-    requires beside { beside ≡ spec.components_of (T.grid t.now) at d }
+    requires beside { beside ≡ besides.sides_ahead (T.grid t.now) at d }
     ensures legal { option_map (λ n. n.cell) result ≡ legal_ahead (T.grid t.now) at d }
     ensures clear { IfSome result (λ n. n.clear ≡ true → is_forced (T.grid t.now) n.cell d ≡ false) }
 {
@@ -153,18 +122,12 @@ pub fn diagonal_ahead<T: Terrain>(t: &T, at: Cell, d: Dir, beside: Components) -
 
 // The same, told the cell's place.
 #[inline(always)]
-fn diagonal_by<T: Terrain>(
-    t: &T,
-    place: usize,
-    at: Cell,
-    d: Dir,
-    beside: Components,
-) -> Option<Next>
+fn diagonal_by<T: Terrain>(t: &T, place: usize, at: Cell, d: Dir, beside: Sides) -> Option<Next>
     requires told { place ≡ T.place_of t.now at }
     requires diagonal { is_diagonal d ≡ true }
     requires free { is_free (T.grid t.now) at ≡ true }
     requires whole { IsGrid (T.grid t.now) }
-    requires beside { beside ≡ spec.components_of (T.grid t.now) at d }
+    requires beside { beside ≡ besides.sides_ahead (T.grid t.now) at d }
     ensures legal { option_map (λ n. n.cell) result ≡ legal_ahead (T.grid t.now) at d }
     ensures clear { IfSome result (λ n. n.clear ≡ true → is_forced (T.grid t.now) n.cell d ≡ false) }
 {
@@ -239,14 +202,7 @@ fn finds_stop<T: Terrain>(t: &T, place: usize, at: Cell, d: Dir, goal: Cell, sid
 // Whether a diagonal jump stops at a cell, told its place and which cells ahead of it are free: it is the goal,
 // or a neighbour is forced there, or a straight jump in a component finds a stop.
 #[inline(always)]
-fn stops_at<T: Terrain>(
-    t: &T,
-    place: usize,
-    next: Next,
-    d: Dir,
-    goal: Cell,
-    beside: Components,
-) -> bool
+fn stops_at<T: Terrain>(t: &T, place: usize, next: Next, d: Dir, goal: Cell, beside: Sides) -> bool
     requires told { place ≡ T.place_of t.now next.cell }
     requires diagonal { is_diagonal d ≡ true }
     requires free { is_free (T.grid t.now) next.cell ≡ true }
@@ -276,12 +232,12 @@ fn diagonal_stop<T: Terrain>(t: &T, at: Cell, d: Dir, goal: Cell) -> Option<u16>
 {
     let mut cell = at;
     let mut place = t.place(at);
-    let mut beside = Components::by(t, place, at, d);
+    let mut beside = Sides::ahead_by(t, place, at, d);
     let mut moves = 0;
     'run: while let Some(next) = diagonal_by(t, place, cell, d, beside) {
         moves += 1;
         place = t.place_ahead(place, cell, d);
-        beside = Components::by(t, place, next.cell, d);
+        beside = Sides::ahead_by(t, place, next.cell, d);
         if stops_at(t, place, next, d, goal, beside) {
             return Some(moves);
         }

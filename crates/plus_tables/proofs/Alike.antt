@@ -1,6 +1,6 @@
 -- Rows that lie between the same rows have the same entries along them.
 use Rattle.std.proofs.Common.{◌≡◌, ℕ, ◌+◌, ◌<◌, arith, Bool, true, false, List, length, refl, ap, sym}
-use Rattle.std.proofs.Common.{◌∙◌}
+use Rattle.std.proofs.Common.{◌∙◌, subst}
 use Rattle.std.specs.Prelude.{ℤ, Option, Some, unwrap_or}
 use Rattle.std.proofs.lemmas.Bool.Decides.{nat_tests}
 use Rattle.grid_moves.specs.declared.Cell.{Cell}
@@ -18,34 +18,37 @@ use Rattle.plus_tables.specs.declared.lines.Line.{Line}
 use Rattle.plus_tables.specs.Entry.{table_entry}
 use Rattle.plus_tables.specs.Local.{is_mark_by}
 use Rattle.plus_tables.specs.declared.heading.Heading.{Heading}
-use Rattle.plus_tables.specs.declared.heading.Heading.TheVariants.{Upwards, Downwards}
-use Rattle.plus_tables.specs.Rows.{is_along, AreSame, IsEntryRow, AreRowsAround, AreRowsSeen}
+use Rattle.plus_tables.specs.Rows.{is_along, AreSame, IsEntryRow, AreRowsSeen}
 use Rattle.plus_tables.specs.Lines.{AreAlike, AreAlong, IsReady}
 use Rattle.plus_tables.proofs.Following.{is_mark_by-straight}
+use Rattle.plus_tables.proofs.Mirror.{along_seen}
 use Rattle.plus_tables.proofs.Rowing.{row_legal, ring_forced, told_is, along_each, next_along}
 
-around_same : (g : GridData) (n : ℕ) (a b c p q r : List Bool) → AreSame a p → AreSame b q → AreSame c r
-    → length p ≡ g.width + 2 → length q ≡ g.width + 2 → length r ≡ g.width + 2 → AreRowsAround g n a b c
-    → AreRowsAround g n p q r
-around_same g n a b c p q r h i j k l m o = grind (arith, nat_tests)
+around_same : (g : GridData) (h : Heading) (n : ℕ) (a b c p q r : List Bool) → AreSame a p → AreSame b q
+    → AreSame c r → length p ≡ g.width + 2 → length q ≡ g.width + 2 → length r ≡ g.width + 2
+    → AreRowsSeen g h n a b c → AreRowsSeen g h n p q r
+around_same g h n a b c p q r i j k l m o s = grind (arith, nat_tests)
 
-module _ (g : GridData) (whole : IsGrid g) (y m : ℕ) (above here below : List Bool)
-    (one : AreRowsAround g y above here below) (other : AreRowsAround g m above here below) where
+module _ (g : GridData) (whole : IsGrid g) (h : Heading) (y m : ℕ) (above here below : List Bool)
+    (one : AreRowsSeen g h y above here below) (other : AreRowsSeen g h m above here below) where
   same_free : (x : ℕ) → is_free g (record { x = x; y = y }) ≡ is_free g (record { x = x; y = m })
   same_free x = sym (one.here_is.cells x) ∙ other.here_is.cells x
 
-  same_move : (x : ℕ) (d : Dir)
+  same_move : (x : ℕ) (d : Dir) → is_along d ≡ true
       → can_move g (record { x = x; y = y }) d ≡ can_move g (record { x = x; y = m }) d
-  same_move x d =
-      sym (row_legal g whole y above here below one d g.corner refl (record { x = x; y = y }) refl)
-      ∙ row_legal g whole m above here below other d g.corner refl (record { x = x; y = m }) refl
+  same_move x d along = subst
+      (λ (e : Dir). can_move g (record { x = x; y = y }) e ≡ can_move g (record { x = x; y = m }) e)
+      (along_seen h d along)
+      (sym (row_legal g whole h y above here below one d g.corner refl (record { x = x; y = y }) refl)
+      ∙ row_legal g whole h m above here below other d g.corner refl (record { x = x; y = m }) refl)
 
-  same_forced : (x : ℕ) (d : Dir) → is_free g (record { x = x; y = m }) ≡ true
+  same_forced : (x : ℕ) (d : Dir) → is_along d ≡ true → is_free g (record { x = x; y = m }) ≡ true
       → is_forced g (record { x = x; y = y }) d ≡ is_forced g (record { x = x; y = m }) d
-  same_forced x d f =
-      let here_free = same_free x ∙ f in
-      sym (ring_forced g whole y above here below one x d here_free)
-      ∙ ring_forced g whole m above here below other x d f
+  same_forced x d along f = subst
+      (λ (e : Dir). is_forced g (record { x = x; y = y }) e ≡ is_forced g (record { x = x; y = m }) e)
+      (along_seen h d along)
+      (sym (ring_forced g whole h y above here below one x d (same_free x ∙ f))
+      ∙ ring_forced g whole h m above here below other x d f)
 
   -- an entry is the same where that of the next cell is
   module _ (d : Dir) (along : is_along d ≡ true) (straight : is_diagonal d ≡ false) where
@@ -67,8 +70,8 @@ module _ (g : GridData) (whole : IsGrid g) (y m : ℕ) (above here below : List 
         (λ w e. ap (λ (v : Cell). table_entry g v d) (leads y w e)))
         ∙ told_is g (record { x = x; y = m }) d (can_move g (record { x = x; y = y }) d)
         (is_forced g (record { x = column_next x; y = y }) d)
-        (table_entry g (record { x = column_next x; y = y }) d) (same_move x d)
-        (λ w e. same_forced (column_next x) d (free_next w e)
+        (table_entry g (record { x = column_next x; y = y }) d) (same_move x d along)
+        (λ w e. same_forced (column_next x) d along (free_next w e)
         ∙ ap (λ (v : Cell). is_forced g v d) (leads m w e)
         ∙ marked w)
         (λ w e. let n = next_along g d along x m w e in
@@ -100,26 +103,17 @@ module _ (g : GridData) (whole : IsGrid g) (y m : ℕ) (above here below : List 
 -- the row that was swept last lies between the same rows as this one, so that it has the same entries along
 -- it
 module _ (g : GridData) (whole : IsGrid g) (y : ℕ) (band : Band) (last : Line) (alike : AreAlike band) where
-  along_again : (m : ℕ) (above here below : List Bool) → AreRowsAround g y above here below
-      → AreRowsAround g m above here below → m < g.height → AreAlong g m last → AreAlong g y last
-  along_again m above here below one same on along = record {
-    east = row_again g whole y m above here below one same E refl refl on last.east.items along.east;
-    west = row_again g whole y m above here below one same W refl refl on last.west.items along.west;
-  }
-
   pub alike_along : (h : Heading) (ready : IsReady g h y band last)
       → AreRowsSeen g h y band.next.items band.here.items band.back.items → ready.rows.ahead < g.height
       → AreAlong g y last
-  alike_along Upwards ready around on =
+  alike_along h ready around on =
       let m = ready.rows.ahead in
-      along_again m band.next.items band.here.items band.back.items around
-      (around_same g m band.far.items band.next.items band.here.items band.next.items band.here.items
-      band.back.items alike.far alike.next alike.here ready.rows.next_is.long ready.rows.here_is.long
-      ready.rows.back_is.long (ready.rows.around_next (omega (arith, whole.sides.low)))) on ready.along
-  alike_along Downwards ready around on =
-      let m = ready.rows.ahead in
-      along_again m band.back.items band.here.items band.next.items around
-      (around_same g m band.here.items band.next.items band.far.items band.back.items band.here.items
-      band.next.items alike.here (λ k. alike.next k) (λ k. alike.far k) ready.rows.back_is.long
-      ready.rows.here_is.long ready.rows.next_is.long
-      (ready.rows.around_next (omega (arith, whole.sides.low)))) on ready.along
+      let rows = ready.rows in
+      let same = around_same g h m band.far.items band.next.items band.here.items band.next.items
+      band.here.items band.back.items alike.far alike.next alike.here rows.next_is.long rows.here_is.long
+      rows.back_is.long (rows.around_next (omega (arith, whole.sides.low))) in
+      let again = row_again g whole h y m band.next.items band.here.items band.back.items around same in
+      record {
+        east = again E refl refl on last.east.items ready.along.east;
+        west = again W refl refl on last.west.items ready.along.west;
+      }

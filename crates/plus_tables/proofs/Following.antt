@@ -1,12 +1,12 @@
 -- The local law: an entry follows from the entries at the next cell.
 use Rattle.std.proofs.lemmas.Bool.Decides.{nat_tests}
 use Rattle.std.proofs.Common.{◌≡◌, ℕ, suc, ◌≤◌, arith, Bool, true, false, ◌&&◌, ◌||◌, refl}
-use Rattle.std.proofs.Common.{ap, sym, ◌∙◌}
+use Rattle.std.proofs.Common.{sym, ◌∙◌, subst}
 use Rattle.std.specs.Prelude.{ℤ, pos, Option, Some, None, is_some, option_map, unwrap_or}
 use Rattle.std.specs.Prelude.{if◌then◌else◌}
 use Rattle.grid_moves.specs.declared.Cell.{Cell}
 use Rattle.grid_moves.specs.declared.Dir.{Dir}
-use Rattle.grid_moves.specs.Least.{FindsLeast}
+use Rattle.grid_moves.specs.Least.{FindsLeast, IsLeast}
 use Rattle.grid_moves.specs.Grid.{GridData, is_free}
 use Rattle.grid_moves.specs.Move.{legal_ahead}
 use Rattle.grid_moves.proofs.Legal.{legal_is}
@@ -42,17 +42,14 @@ pub first_mark-straight : (g : GridData) (x : Cell) (d : Dir) → is_diagonal d 
     → first_mark g x d ≡ first_on_run g d (λ v. is_forced g v d) x
 first_mark-straight g x d h = grind (arith, nat_tests, first_within-same, is_marked-straight)
 
--- a first mark is at least one move away
-pub first_mark-some : (g : GridData) (x : Cell) (d : Dir) (k : ℕ) → first_mark g x d ≡ Some k → 1 ≤ k
-first_mark-some g x d k e = by_answer (first_mark g x d) (first_on_run-finds g d (λ v. is_marked g v d) x) e
-  where
-    by_answer : (o : Option ℕ) → FindsLeast (HoldsAfter g d (λ v. is_marked g v d) x) 1 o → o ≡ Some k
-        → 1 ≤ k
-    by_answer None f h = absurd (cc)
-    by_answer (Some m) f h =
-        let same : m ≡ k = ap (λ (o : Option ℕ). unwrap_or o 0) h in
-        let least = f.in_range in
-        omega arith
+-- a first mark is the least from one move on
+pub first_mark-least : (g : GridData) (x : Cell) (d : Dir) (k : ℕ) → first_mark g x d ≡ Some k
+    → IsLeast (HoldsAfter g d (λ v. is_marked g v d) x) 1 k
+first_mark-least g x d k e = subst (λ (o : Option ℕ). FindsLeast (HoldsAfter g d (λ v. is_marked g v d) x) 1 o) e
+    (first_on_run-finds g d (λ v. is_marked g v d) x)
+
+first_mark-some : (g : GridData) (x : Cell) (d : Dir) (k : ℕ) → first_mark g x d ≡ Some k → 1 ≤ k
+first_mark-some g x d k e = (first_mark-least g x d k e).in_range
 
 -- the entry of a free cell
 pub table_entry-free : (g : GridData) (c : Cell) (d : Dir) → is_free g c ≡ true

@@ -174,9 +174,7 @@ module _ (g : GridData) (goal x : Cell) (d : Dir) (f : is_free g x ≡ true) (h 
           else is_clear (table_entry g v (column_part d)) (rows - columns)) ≡ true
           → StopsAfter g goal x d near
       by_rows v r m i true e other c =
-          let split = more_columns columns rows e in
-          on_run v near r (row_part d) (row_part-side d h) (columns - rows) split.2 c
-          (λ w n. row_leads d near (columns - rows) x v w goal h i split.2 split.0 split.1 m n)
+          grind (arith, nat_tests, more_columns, on_run, near, row_part-side, row_leads)
       by_rows v r m i false e other c =
           grind (arith, nat_tests, more_rows, on_run, near, column_part-side, column_leads)
 

@@ -10,11 +10,13 @@ use Rattle.grid_moves.specs.declared.Dir.TheVariants.{N, NE, E, S, W, NW}
 use Rattle.grid_moves.specs.Grid.{GridData, IsGrid}
 use Rattle.grid_moves.specs.Move.{dir_number, row_ahead}
 use Rattle.grid_moves.proofs.Legal.{free_inside}
+use Rattle.pruning.specs.declared.turns.Side.{Side}
+use Rattle.pruning.specs.Turns.{turn}
 use Rattle.plus_tables.specs.declared.lines.Line.{Line}
 use Rattle.plus_tables.specs.declared.lines.Band.{Band}
 use Rattle.plus_tables.specs.declared.lines.Rows.{Rows}
-use Rattle.plus_tables.specs.Sweep.{is_swept, nth_row, IsNext}
-use Rattle.plus_tables.specs.Laid.{IsAlongRight}
+use Rattle.plus_tables.specs.Sweep.{is_ahead, is_swept, is_upward, nth_row, IsNext}
+use Rattle.plus_tables.specs.Laid.{IsAlongRight, seen_part}
 use Rattle.plus_tables.specs.declared.heading.Heading.{Heading}
 use Rattle.plus_tables.specs.declared.heading.Heading.TheVariants.{Upwards, Downwards}
 use Rattle.plus_tables.specs.Rows.{number, IsEntryRow, IsFlagRow, IsRowAt, is_along, seen, AreRowsSeen}
@@ -58,14 +60,25 @@ pub next_row : (h : Heading) (height n y : ℕ) → n + 1 < height → y ≡ nth
 next_row h height n y i j = grind (arith, nat_tests)
 
 -- all that leads ahead leads to one row
-pub leads_ahead : (h : Heading) (y m : ℕ) → IsRowAt (row_ahead (seen h N) y) m
-    → IsRowAt (row_ahead (seen h NE) y) m × IsRowAt (row_ahead (seen h NW) y) m
-leads_ahead h y m i = grind (arith, nat_tests)
+pub leads_ahead : (h : Heading) (d : Dir) (y m : ℕ) → is_ahead d ≡ true → IsRowAt (row_ahead (seen h N) y) m
+    → IsRowAt (row_ahead (seen h d) y) m
+leads_ahead h d y m i j = grind (arith, nat_tests)
 
--- E and W are E and W on both maps
-pub along_seen : (g : GridData) (h : Heading) (m : ℕ) {line : Line} → AreAlong g m line
-    → IsEntryRow g m (seen h E) line.east.items × IsEntryRow g m (seen h W) line.west.items
-along_seen g h m i = grind (arith, nat_tests)
+-- beside it all leads ahead or along a row
+pub upward_beside : (s : Side) (d : Dir) → is_ahead d ≡ true → is_upward (turn s d) ≡ true
+upward_beside s d h = grind (arith, nat_tests)
+
+pub upward_ahead : (d : Dir) → is_ahead d ≡ true → is_upward d ≡ true
+upward_ahead d h = grind (arith, nat_tests)
+
+-- the rows of a line, by their directions
+pub part_long : (g : GridData) (line : Line) → IsLong g line → (d : Dir)
+    → length (seen_part line d) ≡ g.width + 2
+part_long g line h d = grind (arith, nat_tests)
+
+pub part_seen : (g : GridData) (h : Heading) (m : ℕ) (line : Line) → AreAhead g h m line → AreAlong g m line
+    → (d : Dir) → is_upward d ≡ true → IsEntryRow g m (seen h d) (seen_part line d)
+part_seen g h m line i j d k = grind (arith, nat_tests)
 
 -- the entries along a row, as they are read back
 pub taken : (g : GridData) (h : Heading) (y : ℕ) (row out : List ℤ) (d : Dir) → is_along d ≡ true
@@ -144,15 +157,7 @@ module _ {g : GridData} {h : Heading} {y n : ℕ} {band : Band} {last : Line} {r
     line = lines_told g h y this east west told east_is west_is east_fits west_fits
 
     long_on : IsLong g (with_along this east west)
-    long_on = record {
-      ahead = long.ahead;
-      ahead_east = long.ahead_east;
-      ahead_west = long.ahead_west;
-      east = ap (λ (r : List ℤ). length r) (with_items_is this.east east east_fits)
-          ∙ omega (arith, long.east, this.east.ok.0);
-      west = ap (λ (r : List ℤ). length r) (with_items_is this.west west west_fits)
-          ∙ omega (arith, long.west, this.west.ok.0);
-    }
+    long_on = grind (arith, nat_tests, with_items_is)
 
     pub kept_on : IsKept g h n rows
     kept_on = record {
@@ -231,11 +236,11 @@ module _ (g : GridData) (whole : IsGrid g) (rows begun : Rows) (blank : IsBlank 
           → IsKept g Downwards y begun
       begun_down y e is = begun_at Downwards y g.height (g.height + 1) (omega arith) (omega arith)
           (row_under y g.height (sym e)) is (λ on. record {
-            upper = y;
-            lower = g.height + 1;
-            upper_is = row_over g.height y (omega arith);
-            lower_is = row_itself (g.height + 1);
-            above_is = is;
+            front = g.height + 1;
+            rear = y;
+            front_is = row_itself (g.height + 1);
+            rear_is = row_over g.height y (omega arith);
+            ahead_is = blank_row g (g.height + 1) begun.band.far.items (far ∙ blank.far) (omega arith);
             here_is = blank_row g g.height begun.band.next.items (next ∙ blank.next) (omega arith);
-            below_is = blank_row g (g.height + 1) begun.band.far.items (far ∙ blank.far) (omega arith);
+            behind_is = is;
           })

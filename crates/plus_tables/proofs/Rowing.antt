@@ -1,5 +1,4 @@
 -- Rows of flags and of entries are those of the grid.
-use Rattle.std.proofs.Common.{rules}
 use Rattle.std.proofs.Common.{◌≡◌, ℕ, zero, suc, ◌+◌, ◌-◌, ◌<◌, arith, Bool, true, false, ◌&&◌}
 use Rattle.std.proofs.Common.{List, length, refl, ap, sym, ◌∙◌, subst}
 use Rattle.std.specs.Prelude.{ℤ, Option, Some, option_and_then, nat_lt}
@@ -18,16 +17,18 @@ use Rattle.pruning.specs.Turns.{turn, is_diagonal}
 use Rattle.pruning.specs.Allowed.{can_move}
 use Rattle.pruning.specs.Marked.{is_forced}
 use Rattle.pruning.specs.Ring.{forced_on}
-use Rattle.pruning.proofs.Table.{by_parity}
 use Rattle.pruning.proofs.Ringing.{forced_of_ring}
 use Rattle.pruning.proofs.Bridging.{legal_leads, leads_from, leads_legal}
+use Rattle.plus_tables.specs.declared.heading.Heading.{Heading}
+use Rattle.plus_tables.specs.declared.heading.Heading.TheVariants.{Upwards, Downwards}
 use Rattle.plus_tables.specs.Entry.{table_entry}
 use Rattle.plus_tables.specs.Local.{is_mark_by}
 use Rattle.plus_tables.specs.Tables.{IsShort}
 use Rattle.plus_tables.specs.Rows.{flag, number, ring_of, place_after, told, legal_by, mark_by, is_along}
-use Rattle.plus_tables.specs.Rows.{IsFlagRow, IsForcedRow, IsEntryRow, IsRowAt, AreRowsAround, AreForced}
+use Rattle.plus_tables.specs.Rows.{IsFlagRow, IsForcedRow, IsEntryRow, IsRowAt, AreRowsSeen, AreForced, seen}
 use Rattle.plus_tables.specs.Rows.{AreShort, AreToldBelow, IsToldAlong}
-use Rattle.plus_tables.proofs.Following.{entries_follow, is_mark_by-straight, nothing_more}
+use Rattle.plus_tables.proofs.Following.{entries_follow, is_mark_by-straight}
+use Rattle.plus_tables.proofs.Mirror.{upright, along_seen, can_seen, forced_seen, mark_seen, place_seen}
 use Rattle.plus_tables.proofs.Short.{table_entry-short}
 
 -- the cell of a column in a row, if there is one
@@ -49,20 +50,26 @@ module _ (g : GridData) (whole : IsGrid g) where
   itself : (y : ℕ) → IsRowAt (Some y) y
   itself y = grind (arith, nat_tests)
 
-  module _ (y : ℕ) (above here below : List Bool) (around : AreRowsAround g y above here below) where
-    -- the flags around a column are those of the cells around its cell
-    ring_open : (x : ℕ) (d : Dir)
-        → is_free_on (ring_of above here below x) d ≡ is_open g (record { x = x; y = y }) d
-    unfolding there
-    ring_open x d = grind (arith, nat_tests, flag_there, itself, flag_before)
+  -- the flags around a column are those of the cells around its cell
+  upright_open : (h : Heading) (y : ℕ) (ahead here behind : List Bool) → AreRowsSeen g h y ahead here behind
+      → (x : ℕ) (d : Dir)
+      → is_free_on (upright h ahead here behind x) d ≡ is_open g (record { x = x; y = y }) d
+  unfolding there
+  upright_open Upwards y ahead here behind around x d = grind (arith, nat_tests, flag_there, itself, flag_before)
+  upright_open Downwards y ahead here behind around x d =
+      grind (arith, nat_tests, flag_there, itself, flag_before)
 
+  module _ (h : Heading) (y : ℕ) (above here below : List Bool) (rows : AreRowsSeen g h y above here below) where
     -- so they tell where a neighbour is forced
     pub ring_forced : (x : ℕ) (d : Dir) → is_free g (record { x = x; y = y }) ≡ true
-        → forced_on g.corner (ring_of above here below x) d ≡ is_forced g (record { x = x; y = y }) d
-    ring_forced x d f = search (rules, forced_of_ring, ring_open)
+        → forced_on g.corner (ring_of above here below x) d
+        ≡ is_forced g (record { x = x; y = y }) (seen h d)
+    ring_forced x d f = forced_seen g.corner above here below x h d
+        ∙ forced_of_ring g (record { x = x; y = y }) f (upright h above here below x)
+        (upright_open h y above here below rows x) g.corner refl (seen h d)
 
     pub forced_row : (d : Dir) (corner : Corner) (forced : List Bool) → corner ≡ g.corner
-        → length forced ≡ g.width + 2 → AreForced corner above here below d forced → IsForcedRow g y d forced
+        → length forced ≡ g.width + 2 → AreForced corner above here below d forced → IsForcedRow g y (seen h d) forced
     forced_row d corner forced rule long are v row free =
         let inside = free_inside g v free in
         let below_last : v.x < length forced - 2 = omega (arith, inside.0) in
@@ -71,31 +78,33 @@ module _ (g : GridData) (whole : IsGrid g) where
         are v.x below_last
         ∙ ap (λ (r : Corner). forced_on r (ring_of above here below v.x) d) rule
         ∙ ring_forced v.x d free_here
-        ∙ ap (λ (n : ℕ). is_forced g (record { x = v.x; y = n }) d) (sym row)
+        ∙ ap (λ (n : ℕ). is_forced g (record { x = v.x; y = n }) (seen h d)) (sym row)
 
     -- a move is legal from a free cell alone
     pub row_legal : (d : Dir) (corner : Corner) → corner ≡ g.corner → (v : Cell) → v.y ≡ y
-        → legal_by corner above here below d v.x ≡ can_move g v d
+        → legal_by corner above here below d v.x ≡ can_move g v (seen h d)
     row_legal d corner rule v row =
         ap (λ (r : Corner). legal_by r above here below d v.x) rule
         ∙ ap (λ (b : Bool). b && leads_on g.corner (ring_of above here below v.x) d)
-        (around.here_is.cells v.x)
+        (rows.here_is.cells v.x)
         ∙ by_test (is_free g (record { x = v.x; y = y })) refl
-        ∙ ap (λ (n : ℕ). can_move g (record { x = v.x; y = n }) d) (sym row)
+        ∙ ap (λ (n : ℕ). can_move g (record { x = v.x; y = n }) (seen h d)) (sym row)
       where
         blocked : is_free g (record { x = v.x; y = y }) ≡ false → (b : Bool)
-            → can_move g (record { x = v.x; y = y }) d ≡ b → false ≡ can_move g (record { x = v.x; y = y }) d
+            → can_move g (record { x = v.x; y = y }) (seen h d) ≡ b
+            → false ≡ can_move g (record { x = v.x; y = y }) (seen h d)
         blocked f false e = sym e
         blocked f true e = absurd (
-            let l = leads_from g (record { x = v.x; y = y }) d e in
+            let l = leads_from g (record { x = v.x; y = y }) (seen h d) e in
             let t = (legal_is g (record { x = v.x; y = y }) l.0 l.1.legal).source in cc)
 
         by_test : (b : Bool) → is_free g (record { x = v.x; y = y }) ≡ b
             → (b && leads_on g.corner (ring_of above here below v.x) d)
-            ≡ can_move g (record { x = v.x; y = y }) d
-        by_test true f = leads_on-legal g (record { x = v.x; y = y }) f (ring_of above here below v.x)
-            (ring_open v.x) g.corner refl d
-        by_test false f = blocked f (can_move g (record { x = v.x; y = y }) d) refl
+            ≡ can_move g (record { x = v.x; y = y }) (seen h d)
+        by_test true f = can_seen g.corner above here below v.x h d
+            ∙ leads_on-legal g (record { x = v.x; y = y }) f (upright h above here below v.x)
+            (upright_open h y above here below rows v.x) g.corner refl (seen h d)
+        by_test false f = blocked f (can_move g (record { x = v.x; y = y }) (seen h d)) refl
 
 -- where the next cell stands
 parts_of : (x y : Option ℕ) (w : Cell)
@@ -142,79 +151,72 @@ module _ (g : GridData) (whole : IsGrid g) (c : Cell) (d : Dir) where
   next_row : (w : Cell) → legal_ahead g c d ≡ Some w → row_ahead d c.y ≡ Some w.y
   next_row w legal = grind (arith, nat_tests)
 
-  -- an entry of a row, told by the next row
-  module _ (y : ℕ) (forced : List Bool) (ahead right left : List ℤ) (legal : Bool)
-      (can : legal ≡ can_move g c d)
-      (lies : (w : Cell) → legal_ahead g c d ≡ Some w → w.y ≡ y) (forced_is : IsForcedRow g y d forced)
-      (ahead_is : IsEntryRow g y d ahead)
-      (right_is : is_diagonal d ≡ true → IsEntryRow g y (turn Right d) right)
-      (left_is : is_diagonal d ≡ true → IsEntryRow g y (turn Left d) left) where
-    mark_across : (w : Cell) → legal_ahead g c d ≡ Some w
-        → mark_by forced right left d (place_after d c.x) ≡ is_mark_by g (table_entry g) d w
-    mark_across w e = by_parity d
-        (λ h. rw (
-          next_flag y forced w e (lies w e) forced_is,
-          next_number y right (turn Right d) w e (lies w e) (right_is h),
-          next_number y left (turn Left d) w e (lies w e) (left_is h),
-        ) refl)
-        (λ h. nothing_more (flag forced (place_after d c.x)) (is_diagonal d) _ h
-        ∙ next_flag y forced w e (lies w e) forced_is
-        ∙ sym (is_mark_by-straight g (table_entry g) d w h))
+-- an entry of a row, told by the next row
+module _ (g : GridData) (whole : IsGrid g) (h : Heading) (c : Cell) (d : Dir) (y : ℕ) (forced : List Bool)
+    (ahead right left : List ℤ) (legal : Bool) (can : legal ≡ can_move g c (seen h d))
+    (lies : (w : Cell) → legal_ahead g c (seen h d) ≡ Some w → w.y ≡ y)
+    (forced_is : IsForcedRow g y (seen h d) forced) (ahead_is : IsEntryRow g y (seen h d) ahead)
+    (right_is : IsEntryRow g y (seen h (turn Right d)) right)
+    (left_is : IsEntryRow g y (seen h (turn Left d)) left) where
+  entry_there : (row : List ℤ) (e : Dir) → IsEntryRow g y e row → (w : Cell)
+      → legal_ahead g c (seen h d) ≡ Some w → number row (place_after d c.x) ≡ table_entry g w e
+  entry_there row e is w k = ap (λ (n : ℕ). number row n) (sym (place_seen h d c.x))
+      ∙ next_number g whole c (seen h d) y row e w k (lies w k) is
 
-    pub told_entry : told legal (mark_by forced right left d (place_after d c.x))
-        (number ahead (place_after d c.x))
-        ≡ table_entry g c d
-    told_entry = search (rules, told_is, mark_across, next_number)
+  flag_next : (w : Cell) → legal_ahead g c (seen h d) ≡ Some w
+      → flag forced (place_after d c.x) ≡ is_forced g w (seen h d)
+  flag_next w k = ap (λ (n : ℕ). flag forced n) (sym (place_seen h d c.x))
+      ∙ next_flag g whole c (seen h d) y forced w k (lies w k) forced_is
 
-    short_at : (row : List ℤ) (e : Dir) → IsEntryRow g y e row → (w : Cell) → legal_ahead g c d ≡ Some w
-        → IsShort (number row (place_after d c.x))
-    short_at row e is w legal = subst (λ (z : ℤ). IsShort z)
-        (sym (next_number y row e w legal (lies w legal) is)) (table_entry-short g whole w e)
+  mark_across : (w : Cell) → legal_ahead g c (seen h d) ≡ Some w
+      → mark_by forced right left d (place_after d c.x) ≡ is_mark_by g (table_entry g) (seen h d) w
+  mark_across w k = rw (
+    flag_next w k,
+    entry_there right (seen h (turn Right d)) right_is w k,
+    entry_there left (seen h (turn Left d)) left_is w k,
+  ) (sym (mark_seen h g (table_entry g) d w))
 
-    pub short_entries : (e f : Dir) → IsEntryRow g y e right → IsEntryRow g y f left → legal ≡ true
-        → AreShort (number ahead (place_after d c.x)) (number right (place_after d c.x))
-        (number left (place_after d c.x))
-    short_entries e f is too h =
-        let l = leads_from g c d (sym can ∙ h) in
-        let legal_is_it = leads_legal g c l.0 d l.1 in
-        record {
-          ahead_is = short_at ahead d ahead_is l.0 legal_is_it;
-          right_is = short_at right e is l.0 legal_is_it;
-          left_is = short_at left f too l.0 legal_is_it;
-        }
+  told_entry : told legal (mark_by forced right left d (place_after d c.x)) (number ahead (place_after d c.x))
+      ≡ table_entry g c (seen h d)
+  told_entry = told_is g c (seen h d) legal _ _ can mark_across (entry_there ahead (seen h d) ahead_is)
 
--- in a row, the next cell lies in the row ahead
-module _ (g : GridData) (whole : IsGrid g) (y m : ℕ) (d : Dir) (lies : IsRowAt (row_ahead d y) m) where
-  in_row : (c w : Cell) → c.y ≡ y → legal_ahead g c d ≡ Some w → w.y ≡ m
-  in_row c w row e =
-      sym (lies.some w.y (ap (λ (n : ℕ). row_ahead d n) (sym row) ∙ next_row g whole c d w e))
+  short_at : (row : List ℤ) (e : Dir) → IsEntryRow g y e row → legal ≡ true
+      → IsShort (number row (place_after d c.x))
+  short_at row e is k =
+      let l = leads_from g c (seen h d) (sym can ∙ k) in
+      subst (λ (z : ℤ). IsShort z)
+      (sym (entry_there row e is l.0 (leads_legal g c l.0 (seen h d) l.1))) (table_entry-short g whole l.0 e)
 
-  -- a row that is told by the next is the row of entries
-  pub told_row : (corner : Corner) → corner ≡ g.corner → (above here below forced : List Bool)
-      (ahead right left out : List ℤ) (e f : Dir) → AreRowsAround g y above here below
-      → IsForcedRow g m d forced
-      → IsEntryRow g m d ahead → IsEntryRow g m e right → IsEntryRow g m f left
-      → (is_diagonal d ≡ true → (e ≡ turn Right d) × (f ≡ turn Left d)) → length out ≡ g.width + 2
-      → AreToldBelow corner above here below forced ahead right left d out (length out - 2)
-      → IsEntryRow g y d out
-  told_row corner rule above here below forced ahead right left out e f around forced_is ahead_is right_is
-      left_is
-      parts long are_told v row inside =
-      let below_last : v.x < length out - 2 = grind (arith, nat_tests) in
-      are_told v.x below_last
-      (short_entries g whole v d m forced ahead right left (legal_by corner above here below d v.x) can
-      (λ w k. in_row v w row k) forced_is ahead_is right_at left_at e f right_is left_is)
-      ∙ told_entry g whole v d m forced ahead right left (legal_by corner above here below d v.x) can
-      (λ w k. in_row v w row k) forced_is ahead_is right_at left_at
-    where
-      can : legal_by corner above here below d v.x ≡ can_move g v d
-      can = row_legal g whole y above here below around d corner rule v row
+  short_entries : legal ≡ true → AreShort (number ahead (place_after d c.x))
+      (number right (place_after d c.x)) (number left (place_after d c.x))
+  short_entries k = record {
+    ahead_is = short_at ahead (seen h d) ahead_is k;
+    right_is = short_at right (seen h (turn Right d)) right_is k;
+    left_is = short_at left (seen h (turn Left d)) left_is k;
+  }
 
-      right_at : is_diagonal d ≡ true → IsEntryRow g m (turn Right d) right
-      right_at h = subst (λ (k : Dir). IsEntryRow g m k right) (parts h).0 right_is
-
-      left_at : is_diagonal d ≡ true → IsEntryRow g m (turn Left d) left
-      left_at h = subst (λ (k : Dir). IsEntryRow g m k left) (parts h).1 left_is
+-- a row that is told by the next is the row of entries
+pub told_row : (g : GridData) (whole : IsGrid g) (h : Heading) (y m : ℕ) (d : Dir)
+    → IsRowAt (row_ahead (seen h d) y) m → (corner : Corner) → corner ≡ g.corner
+    → (above here below forced : List Bool) (ahead right left out : List ℤ)
+    → AreRowsSeen g h y above here below → IsForcedRow g m (seen h d) forced
+    → IsEntryRow g m (seen h d) ahead → IsEntryRow g m (seen h (turn Right d)) right
+    → IsEntryRow g m (seen h (turn Left d)) left → length out ≡ g.width + 2
+    → AreToldBelow corner above here below forced ahead right left d out (length out - 2)
+    → IsEntryRow g y (seen h d) out
+told_row g whole h y m d lies corner rule above here below forced ahead right left out around forced_is ahead_is
+    right_is left_is long are_told v row inside =
+    let below_last : v.x < length out - 2 = grind (arith, nat_tests) in
+    let can = row_legal g whole h y above here below around d corner rule v row in
+    let legal = legal_by corner above here below d v.x in
+    are_told v.x below_last
+    (short_entries g whole h v d m forced ahead right left legal can in_row forced_is ahead_is right_is left_is)
+    ∙ told_entry g whole h v d m forced ahead right left legal can in_row forced_is ahead_is right_is left_is
+  where
+    -- the next cell lies in the row ahead
+    in_row : (w : Cell) → legal_ahead g v (seen h d) ≡ Some w → w.y ≡ m
+    in_row w e = sym (lies.some w.y
+        (ap (λ (n : ℕ). row_ahead (seen h d) n) (sym row) ∙ next_row g whole v (seen h d) w e))
 
 -- along a row all columns have what each has where the next one has it
 pub along_each : (d : Dir) → is_along d ≡ true → (n : ℕ) (P : ℕ → Type 0)
@@ -246,22 +248,22 @@ pub next_along : (g : GridData) (d : Dir) → is_along d ≡ true → (x y : ℕ
 next_along g d along x y w e = grind (arith, nat_tests)
 
 -- along a row, told from the end
-module _ (g : GridData) (whole : IsGrid g) (y : ℕ) (above here below forced : List Bool) (out : List ℤ)
-    (around : AreRowsAround g y above here below) where
+module _ (g : GridData) (whole : IsGrid g) (h : Heading) (y : ℕ) (above here below forced : List Bool)
+    (out : List ℤ) (around : AreRowsSeen g h y above here below) where
   -- one entry, where the next one is right
   along_one : (d : Dir) → is_diagonal d ≡ false → IsForcedRow g y d forced → (v : Cell) → v.y ≡ y
       → (flag here (v.x + 1) && flag here (place_after d v.x)) ≡ can_move g v d
       → ((w : Cell) → legal_ahead g v d ≡ Some w → w.y ≡ y)
       → ((w : Cell) → legal_ahead g v d ≡ Some w → number out (place_after d v.x) ≡ table_entry g w d)
       → IsToldAlong here forced d out v.x → number out (v.x + 1) ≡ table_entry g v d
-  along_one d h forced_is v row can lies next is_told =
+  along_one d straight forced_is v row can lies next is_told =
       is_told short ∙ told_is g v d (flag here (v.x + 1) && flag here (place_after d v.x))
       (flag forced (place_after d v.x)) (number out (place_after d v.x)) can marked next
     where
       marked : (w : Cell) → legal_ahead g v d ≡ Some w
           → flag forced (place_after d v.x) ≡ is_mark_by g (table_entry g) d w
       marked w e = next_flag g whole v d y forced w e (lies w e) forced_is
-          ∙ sym (is_mark_by-straight g (table_entry g) d w h)
+          ∙ sym (is_mark_by-straight g (table_entry g) d w straight)
 
       short : (flag here (v.x + 1) && flag here (place_after d v.x)) ≡ true
           → IsShort (number out (place_after d v.x))
@@ -280,7 +282,8 @@ module _ (g : GridData) (whole : IsGrid g) (y : ℕ) (above here below forced : 
     column = along_each d is_along_it g.width
         (λ x. number out (x + 1) ≡ table_entry g (record { x = x; y = y }) d)
         (λ x within next. along_one d straight forced_is (record { x = x; y = y }) refl
-        (same x ∙ row_legal g whole y above here below around d g.corner refl (record { x = x; y = y }) refl)
+        (same x ∙ row_legal g whole h y above here below around d g.corner refl (record { x = x; y = y }) refl
+        ∙ ap (λ (e : Dir). can_move g (record { x = x; y = y }) e) (along_seen h d is_along_it))
         (λ w e. sym (ap (λ (v : Cell). v.y) (next_along g d is_along_it x y w e).2))
         (λ w e. let n = next_along g d is_along_it x y w e in
         ap (λ (k : ℕ). number out k) (place_is d x w.x n.0) ∙ next w.x n.0 n.1
@@ -292,17 +295,21 @@ module _ (g : GridData) (whole : IsGrid g) (y : ℕ) (above here below forced : 
         let within : v.x < g.width = grind (arith, nat_tests) in
         column v.x within ∙ ap (λ (n : ℕ). table_entry g (record { x = v.x; y = n }) d) (sym row)
 
-  pub along_row : (d : Dir) → is_along d ≡ true → IsForcedRow g y d forced → length out ≡ g.width + 2
+  along_by : (d : Dir) → is_along d ≡ true → IsForcedRow g y d forced → length out ≡ g.width + 2
       → ((x : ℕ) → x < length out - 2 → IsToldAlong here forced d out x) → IsEntryRow g y d out
-  along_row d h i j k = grind (arith, nat_tests, entries)
+  along_by d i j k l = grind (arith, nat_tests, entries)
+
+  pub along_row : (d : Dir) → is_along d ≡ true → IsForcedRow g y (seen h d) forced
+      → length out ≡ g.width + 2
+      → ((x : ℕ) → x < length out - 2 → IsToldAlong here forced d out x) → IsEntryRow g y d out
+  along_row d i j = along_by d i (subst (λ (e : Dir). IsForcedRow g y e forced) (along_seen h d i) j)
 
 -- where a neighbour is forced in a row that may lie off the map
-pub forced_if : (g : GridData) → IsGrid g → (m : ℕ) (above here below : List Bool)
-    → (m < 4096 → AreRowsAround g m above here below) → (d : Dir) (corner : Corner) (forced : List Bool)
+pub forced_if : (g : GridData) → IsGrid g → (h : Heading) (m : ℕ) (above here below : List Bool)
+    → (m < 4096 → AreRowsSeen g h m above here below) → (d : Dir) (corner : Corner) (forced : List Bool)
     → corner ≡ g.corner → length forced ≡ g.width + 2 → AreForced corner above here below d forced
-    → IsForcedRow g m d forced
-forced_if g whole m above here below around d corner forced rule long are v row free =
-    forced_row g whole m above here below
+    → IsForcedRow g m (seen h d) forced
+forced_if g whole h m above here below around d corner forced rule long are v row free =
+    forced_row g whole h m above here below
     (around (let inside = free_inside g v free in let low = whole.sides.low in omega (arith, inside.1))) d
-    corner
-    forced rule long are v row free
+    corner forced rule long are v row free

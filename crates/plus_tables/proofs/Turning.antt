@@ -77,14 +77,14 @@ told_kept r blocked by e = grind (arith, nat_tests)
 
 -- under `one` all is told as under `both`
 pub allowed_cut : (r : Corner) (entry : Cell → Dir → ℤ) (at : Cell) (by : Arrival) → may_cut r ≡ true
-    → allowed_by Both entry at by ≡ allowed_by r entry at by
+    → allowed_by r entry at by ≡ allowed_by Both entry at by
 allowed_cut Never entry at by h = absurd (cc)
 allowed_cut One entry at Start h = refl
 allowed_cut One entry at (By d) h = refl
 allowed_cut Both entry at by h = refl
 
 pub allowed_uncut : (r : Corner) (entry : Cell → Dir → ℤ) (at : Cell) (by : Arrival) → may_cut r ≡ false
-    → allowed_by Never entry at by ≡ allowed_by r entry at by
+    → allowed_by r entry at by ≡ allowed_by Never entry at by
 allowed_uncut Never entry at by h = refl
 allowed_uncut One entry at by h = absurd (cc)
 allowed_uncut Both entry at by h = absurd (cc)

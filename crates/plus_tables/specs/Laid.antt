@@ -1,8 +1,8 @@
 -- Entries as they lie in memory, eight for each cell: those of a row, into which the rows of a line are laid,
 -- and all that a sweep has told so far.
-use Rattle.std.specs.Prelude.{◌≡◌, ℕ, ◌+◌, ◌*◌, ◌<◌, ℤ, true, false, List, [], length, slice_set}
+use Rattle.std.specs.Prelude.{◌≡◌, ℕ, ◌+◌, ◌*◌, ◌<◌, ℤ, true, false, List, length, slice_set}
 use Rattle.grid_moves.specs.declared.Dir.{Dir}
-use Rattle.grid_moves.specs.declared.Dir.TheVariants.{N, NE, E, SE, S, SW, W, NW}
+use Rattle.grid_moves.specs.declared.Dir.TheVariants.{N, NE, E, W, NW}
 use Rattle.grid_moves.specs.Grid.{GridData}
 use Rattle.grid_moves.specs.Move.{dir_number}
 use Rattle.plus_tables.specs.declared.heading.Heading.{Heading}
@@ -15,14 +15,11 @@ use Rattle.plus_tables.specs.Sweep.{AreRight, is_swept, swept}
 
 -- the row of a line for a direction as the sweep sees it, which leads up or along a row
 abbrev pub seen_part : Line → Dir → List ℤ
-seen_part line N = line.ahead.items
 seen_part line NE = line.ahead_east.items
 seen_part line E = line.east.items
-seen_part line SE = []
-seen_part line S = []
-seen_part line SW = []
 seen_part line W = line.west.items
 seen_part line NW = line.ahead_west.items
+seen_part line d = line.ahead.items
 
 abbrev pub part : Heading → Line → Dir → List ℤ
 part h line d = seen_part line (seen h d)

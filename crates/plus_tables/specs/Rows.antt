@@ -90,13 +90,12 @@ pub record AreShort (ahead right left : ℤ) : Type 0 where
 
 -- the entry of one column is told by the rows of flags around it and by what is known of the next row: where
 -- a neighbour is forced, and the entries for d and for the directions beside it
-abbrev pub IsToldAt : Corner → List Bool → List Bool → List Bool → List Bool → List ℤ → List ℤ → List ℤ → Dir
-    → List ℤ → ℕ → Type 0
-IsToldAt corner above here below forced ahead right left d out x =
+abbrev pub IsToldAs : Corner → List Bool → List Bool → List Bool → List Bool → List ℤ → List ℤ → List ℤ → Dir
+    → ℕ → ℤ → Type 0
+IsToldAs corner above here below forced ahead right left d x entry =
     (legal_by corner above here below d x ≡ true → AreShort (number ahead (place_after d x))
     (number right (place_after d x)) (number left (place_after d x)))
-    → number out (x + 1) ≡ told (legal_by corner above here below d x)
-    (mark_by forced right left d (place_after d x))
+    → entry ≡ told (legal_by corner above here below d x) (mark_by forced right left d (place_after d x))
     (number ahead (place_after d x))
 
 -- and so are those of so many columns
@@ -104,7 +103,7 @@ abbrev pub AreToldBelow : Corner → List Bool → List Bool → List Bool → L
     → List ℤ → Dir
     → List ℤ → ℕ → Type 0
 AreToldBelow corner above here below forced ahead right left d out n =
-    (x : ℕ) → x < n → IsToldAt corner above here below forced ahead right left d out x
+    (x : ℕ) → x < n → IsToldAs corner above here below forced ahead right left d x (number out (x + 1))
 
 -- the direction leads along a row
 abbrev pub is_along : Dir → Bool
@@ -131,16 +130,6 @@ pub record IsRowAt (there : Option ℕ) (n : ℕ) : Type 0 where
   pub some : (k : ℕ) → there ≡ Some k → n ≡ k
   pub none : there ≡ None → 4096 ≤ n
 
--- the flags of a row and of the two beside it
-pub record AreRowsAround (g : GridData) (y : ℕ) (above here below : List Bool) : Type 0 where
-  pub upper : ℕ
-  pub lower : ℕ
-  pub upper_is : IsRowAt (row_ahead N y) upper
-  pub lower_is : IsRowAt (row_ahead S y) lower
-  pub above_is : IsFlagRow g upper above
-  pub here_is : IsFlagRow g y here
-  pub below_is : IsFlagRow g lower below
-
 -- a direction on a map that is turned upside down
 abbrev pub flipped : Dir → Dir
 flipped N = S
@@ -158,9 +147,14 @@ seen Upwards d = d
 seen Downwards d = flipped d
 
 -- the flags of a row, of the one ahead of it and of the one behind it
-abbrev pub AreRowsSeen : GridData → Heading → ℕ → List Bool → List Bool → List Bool → Type 0
-AreRowsSeen g Upwards y ahead here behind = AreRowsAround g y ahead here behind
-AreRowsSeen g Downwards y ahead here behind = AreRowsAround g y behind here ahead
+pub record AreRowsSeen (g : GridData) (h : Heading) (y : ℕ) (ahead here behind : List Bool) : Type 0 where
+  pub front : ℕ
+  pub rear : ℕ
+  pub front_is : IsRowAt (row_ahead (seen h N) y) front
+  pub rear_is : IsRowAt (row_ahead (seen h S) y) rear
+  pub ahead_is : IsFlagRow g front ahead
+  pub here_is : IsFlagRow g y here
+  pub behind_is : IsFlagRow g rear behind
 
 -- what loops that read all columns of a row tell
 abbrev pub AreForced : Corner → List Bool → List Bool → List Bool → Dir → List Bool → Type 0

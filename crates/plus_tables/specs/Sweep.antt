@@ -7,6 +7,7 @@ use Rattle.grid_moves.specs.Grid.{GridData, is_inside}
 use Rattle.plus_tables.specs.declared.heading.Heading.{Heading}
 use Rattle.plus_tables.specs.declared.heading.Heading.TheVariants.{Upwards, Downwards}
 use Rattle.plus_tables.specs.Entry.{table_entry}
+use Rattle.plus_tables.specs.Rows.{is_along}
 use Rattle.plus_tables.specs.Tables.{TablesData, AreSized, entry_at}
 
 -- the entries of some cells and directions are the grid's
@@ -29,6 +30,10 @@ is_upward NW = true
 -- and down
 abbrev pub is_downward : Dir → Bool
 is_downward e = not (is_upward e)
+
+-- up, and not along a row: a sweep sees it lead ahead
+abbrev pub is_ahead : Dir → Bool
+is_ahead e = is_upward e && not (is_along e)
 
 -- those that lead up or along a row, in the rows above this one
 abbrev pub above : ℕ → Cell → Dir → Bool

@@ -80,6 +80,7 @@ fn sweep_row<T: Terrain>(t: &T, heading: Heading, y: u16, rows: &mut Rows, row: 
 
 // Sweeps one row more. In the first sweep it is appended: memory is written at once after it is touched
 // first.
+#[tactic(auto, using(crate::proofs::Laying::along_right, crate::proofs::Laying::row_begins))]
 fn sweep_next<T: Terrain>(
     t: &T,
     heading: Heading,
@@ -142,6 +143,7 @@ impl Tables {
     ghost use Rattle.plus_tables.specs.Tables.{AreTablesOf};
 
     /// The tables of a grid, with its sides and its corner rule.
+    #[tactic(auto, using(crate::proofs::Laying::swept_up))]
     pub fn build<T: Terrain>(alloc: Global, t: &T) -> Result<Tables, NoMemory>
         ensures { IfOk result (λ tables. AreTablesOf tables (T.grid t.now)) }
     {

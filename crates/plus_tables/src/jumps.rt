@@ -5,7 +5,7 @@
 //! column first; if that comes before its own mark, the entry of the component there tells whether the run
 //! leads on to the goal. So only a jump that leads to where the goal lies asks for it.
 
-ghost use Rattle.std.specs.Prelude.{◌≡◌, ◌+◌, ◌<◌, ◌≤◌, false, true, min};
+ghost use Rattle.std.specs.Prelude.{◌≡◌, ◌+◌, ◌<◌, ◌≤◌, false, true, min, Some, if◌then◌else◌};
 ghost use Rattle.jump_plain.specs.Reach as reach;
 ghost use Rattle.plus_tables.specs.Reading as spec;
 ghost use Rattle.plus_tables.specs.Tables.{entry_at, is_on};
@@ -157,17 +157,21 @@ fn is_aimed(at: Cell, d: Dir, goal: Cell) -> bool
     sides_ahead(d) == side_of(at.y, goal.y) * 3 + side_of(at.x, goal.x)
 }
 
+// What a jump comes to: the goal, so many moves on, where it leads there or sees it, else its mark.
+#[inline(always)]
+fn stop_where(goal: bool, near: u16, entry: i16) -> Option<u16>
+    ensures is { result ≡ (if goal then Some near else spec.mark_of entry) }
+{
+    if goal { Some(near) } else { mark_of(entry) }
+}
+
 // After how many moves a straight jump stops, told its entry.
 #[inline(always)]
 fn straight_stop(at: Cell, d: Dir, goal: Cell, entry: i16) -> Option<u16>
     ensures is { result ≡ spec.stop_by entry (reach.moves_to d at goal) true }
 {
     let near = moves_to(d, at, goal);
-    if 0 < near && is_clear(entry, near) {
-        Some(near)
-    } else {
-        mark_of(entry)
-    }
+    stop_where(0 < near && is_clear(entry, near), near, entry)
 }
 
 // Whether the goal is at a cell in its row or column, or on the run in the component from there. It lies so
@@ -215,14 +219,10 @@ fn diagonal_stop<L: Ledger>(
     let columns = columns_to(d, at.x, goal.x);
     let rows = rows_to(d, at.y, goal.y);
     let near = columns.min(rows);
-    if 0 < near
+    let sees = 0 < near
         && is_clear(entry, near)
-        && sees_goal(tables, cell_after(d, near, at), d, columns, rows, steps)
-    {
-        Some(near)
-    } else {
-        mark_of(entry)
-    }
+        && sees_goal(tables, cell_after(d, near, at), d, columns, rows, steps);
+    stop_where(sees, near, entry)
 }
 
 // After how many moves a jump stops, told its entry, where the goal may lie on its way: of the directions

@@ -3,17 +3,17 @@
 ghost use Rattle.std.specs.Prelude.{◌≡◌, ℕ, ◌+◌, ◌*◌, ◌<◌, ◌≤◌, IfOk, length, replicate, true, false};
 ghost use Rattle.grid_moves.specs.Grid.{IsGrid};
 ghost use Rattle.grid_moves.specs.Move as moves;
-ghost use Rattle.pruning.specs.Turns.{turn, is_diagonal};
 ghost use Rattle.plus_tables.specs.Fit.{AreLong};
 ghost use Rattle.plus_tables.specs.Rows as spec;
 ghost use Rattle.plus_tables.specs.Lines as lines;
+ghost use Rattle.plus_tables.specs.Sweep as sweeps;
 ghost use Rattle.plus_tables.specs.Laid as laid;
 
 use crate::flags::{are_same, force, read_row};
 use crate::heading::{Heading, has_ahead, seen};
 use crate::rows::{Ahead, Three, across, along};
 use grid_moves::{Dir, NoMemory, Terrain, dir_number};
-use pruning::Side;
+use pruning::{Side, turn};
 use std::alloc::Global;
 use std::mem;
 
@@ -77,6 +77,20 @@ impl Line {
             east: numbers(alloc, width)?,
             west: numbers(alloc, width)?,
         })
+    }
+
+    // The entries for a direction that leads ahead or along the row, as the sweep sees it.
+    #[inline(always)]
+    fn part(&self, d: Dir) -> &[i16]
+        ensures { result.now ≡ laid.seen_part self.now d }
+    {
+        match d {
+            Dir::NE => &self.ahead_east,
+            Dir::E => &self.east,
+            Dir::W => &self.west,
+            Dir::NW => &self.ahead_west,
+            _ => &self.ahead,
+        }
     }
 
     /// Copies the entries along the row.
@@ -230,37 +244,40 @@ impl Rows {
     }
 }
 
-// The entries of a row for one direction that leads ahead, told by the next row. `beyond` are the rows around
-// that one.
-#[inline(never)]
+// The entries of a row for one direction that leads ahead, told by those of the row that was swept last: the
+// entries for that direction and for those beside it.
+#[inline(always)]
+#[tactic(auto, using(crate::proofs::Fitting::long_as))]
 fn tell_ahead<T: Terrain>(
     t: &T,
-    beyond: Three,
-    rows: Three,
-    next: Ahead,
+    band: &Band,
+    last: &Line,
     d: Dir,
     forced: &mut [bool],
     out: &mut [i16],
 )
     requires whole { IsGrid (T.grid t.now) }
+    requires ahead { sweeps.is_ahead d ≡ true }
+    requires ready { (h : Heading) × (y : ℕ) × lines.IsReady (T.grid t.now) h y band.now last.now
+        × spec.AreRowsSeen (T.grid t.now) h y band.now.next.items band.now.here.items band.now.back.items }
     requires forced { length forced.old ≡ (T.grid t.now).width + 2 }
     requires out { length out.old ≡ (T.grid t.now).width + 2 }
-    requires beyond { AreLong ((T.grid t.now).width + 2) beyond.ahead.now beyond.here.now beyond.behind.now }
-    requires rows { AreLong ((T.grid t.now).width + 2) rows.ahead.now rows.here.now rows.behind.now }
-    requires next { AreLong ((T.grid t.now).width + 2) next.ahead.now next.right.now next.left.now }
-    ensures { (h : Heading) (y m : ℕ) (e f : _) → spec.IsRowAt (moves.row_ahead (spec.seen h d) y) m
-        → spec.AreRowsSeen (T.grid t.now) h y rows.entry.ahead.now rows.entry.here.now rows.entry.behind.now
-        → (m < 4096 → spec.AreRowsSeen (T.grid t.now) h m beyond.entry.ahead.now beyond.entry.here.now
-        beyond.entry.behind.now)
-        → spec.IsEntryRow (T.grid t.now) m (spec.seen h d) next.entry.ahead.now
-        → spec.IsEntryRow (T.grid t.now) m e next.entry.right.now
-        → spec.IsEntryRow (T.grid t.now) m f next.entry.left.now
-        → (is_diagonal d ≡ true
-        → (e ≡ spec.seen h (turn Side.Right d)) × (f ≡ spec.seen h (turn Side.Left d)))
+    ensures { (h : Heading) (y : ℕ) → lines.IsReady (T.grid t.now) h y band.now last.now
+        → spec.AreRowsSeen (T.grid t.now) h y band.now.next.items band.now.here.items band.now.back.items
         → spec.IsEntryRow (T.grid t.now) y (spec.seen h d) out.new }
 {
     let corner = t.corner();
-    force(corner, beyond.ahead, beyond.here, beyond.behind, d, forced);
+    force(corner, &band.far, &band.next, &band.here, d, forced);
+    let rows = Three {
+        ahead: &band.next,
+        here: &band.here,
+        behind: &band.back,
+    };
+    let next = Ahead {
+        ahead: last.part(d),
+        right: last.part(turn(Side::Right, d)),
+        left: last.part(turn(Side::Left, d)),
+    };
     across(corner, rows, forced, next, d, out);
 }
 
@@ -271,7 +288,7 @@ fn tell_one_along<T: Terrain>(t: &T, rows: Three, d: Dir, forced: &mut [bool], o
     requires forced { length forced.old ≡ (T.grid t.now).width + 2 }
     requires out { length out.old ≡ (T.grid t.now).width + 2 }
     requires rows { AreLong ((T.grid t.now).width + 2) rows.ahead.now rows.here.now rows.behind.now }
-    ensures { (y : ℕ) → spec.AreRowsAround (T.grid t.now) y rows.entry.ahead.now rows.entry.here.now
+    ensures { (h : Heading) (y : ℕ) → spec.AreRowsSeen (T.grid t.now) h y rows.entry.ahead.now rows.entry.here.now
         rows.entry.behind.now → spec.IsEntryRow (T.grid t.now) y d out.new }
 {
     force(t.corner(), rows.ahead, rows.here, rows.behind, d, forced);
@@ -352,32 +369,7 @@ pub fn tell<T: Terrain>(t: &T, band: &Band, last: &Line, forced: &mut [bool], th
         → lines.AreAhead (T.grid t.now) h y this.new }
     ensures long { lines.IsLong (T.grid t.now) this.new }
 {
-    let beyond = Three {
-        ahead: &band.far,
-        here: &band.next,
-        behind: &band.here,
-    };
-    let rows = Three {
-        ahead: &band.next,
-        here: &band.here,
-        behind: &band.back,
-    };
-    let ahead = Ahead {
-        ahead: &last.ahead,
-        right: &last.ahead,
-        left: &last.ahead,
-    };
-    let east = Ahead {
-        ahead: &last.ahead_east,
-        right: &last.east,
-        left: &last.ahead,
-    };
-    let west = Ahead {
-        ahead: &last.ahead_west,
-        right: &last.ahead,
-        left: &last.west,
-    };
-    tell_ahead(t, beyond, rows, ahead, Dir::N, forced, &mut this.ahead);
-    tell_ahead(t, beyond, rows, east, Dir::NE, forced, &mut this.ahead_east);
-    tell_ahead(t, beyond, rows, west, Dir::NW, forced, &mut this.ahead_west);
+    tell_ahead(t, band, last, Dir::N, forced, &mut this.ahead);
+    tell_ahead(t, band, last, Dir::NE, forced, &mut this.ahead_east);
+    tell_ahead(t, band, last, Dir::NW, forced, &mut this.ahead_west);
 }

@@ -9,18 +9,19 @@ ghost use Rattle.pruning.specs.Marked.{is_forced};
 
 use grid_moves::{Cell, Dir, Terrain, may_cut};
 use jump_plain::beside::{Sides, straight_ahead};
-use jump_plain::jump::{Components, diagonal_ahead};
+use jump_plain::jump::diagonal_ahead;
 use pruning::{forced, is_diagonal};
 
 // The cell ahead, exactly where the diagonal move to it is legal.
 #[inline(always)]
+#[tactic(auto, using(std::proofs::lemmas::Bool::Decides::nat_tests))]
 fn next_aslant<T: Terrain>(t: &T, at: Cell, d: Dir) -> Option<Cell>
     requires diagonal { turns.is_diagonal d ≡ true }
     requires free { is_free (T.grid t.now) at ≡ true }
     requires whole { IsGrid (T.grid t.now) }
     ensures { result ≡ legal_ahead (T.grid t.now) at d }
 {
-    match diagonal_ahead(t, at, d, Components::of(t, at, d)) {
+    match diagonal_ahead(t, at, d, Sides::ahead(t, at, d)) {
         Some(next) => Some(next.cell),
         None => None,
     }

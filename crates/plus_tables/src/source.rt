@@ -38,6 +38,7 @@ impl<'a> JumpSource for PlusJumps<'a> {
 
     // (asked in the search by either rule of states, so the compiler would not put it in by itself)
     #[inline(always)]
+    #[tactic(auto, using(crate::proofs::Turning::allowed_by_tables, crate::proofs::Turning::before_on_map))]
     fn allowed_word<L: Ledger>(&self, at: Cell, by: Arrival, steps: &mut Steps<L>) -> Packed {
         allowed_told(self.tables, at, by, steps)
     }

@@ -142,6 +142,7 @@ impl Tables {
 
     // The entry for a cell of the map and a direction.
     #[inline(always)]
+    #[tactic(auto, using(crate::proofs::Placing::read_entry))]
     fn get(&self, c: Cell, d: Dir) -> i16
         requires { is_on self.now c ≡ true }
         ensures { result ≡ entry_at self.now c d }
@@ -175,6 +176,7 @@ impl Tables {
 
     // The entry of the grid for a cell and a direction, told by the entries at the next cell.
     #[inline(always)]
+    #[tactic(auto, using(crate::proofs::Refreshing::on_map, crate::proofs::Refreshing::next_free))]
     fn told_by_next<T: Terrain>(&self, t: &T, c: Cell, d: Dir) -> i16
         requires whole { IsGrid (T.grid t.now) }
         requires sized { AreSized self.now (T.grid t.now) }
@@ -190,6 +192,7 @@ impl Tables {
 
     // The same; each direction has code of its own, in which it is a constant.
     #[inline(always)]
+    #[tactic(auto, using(crate::proofs::Short::entry_stored))]
     fn told<T: Terrain>(&self, t: &T, c: Cell, d: Dir) -> i16
         requires whole { IsGrid (T.grid t.now) }
         requires sized { AreSized self.now (T.grid t.now) }

@@ -130,6 +130,7 @@ fn allowed_here<L: Ledger>(
 
 // The same under the rule of the tables, after a straight move.
 #[inline(always)]
+#[tactic(auto, using(crate::proofs::Turning::allowed_cut, crate::proofs::Turning::allowed_uncut))]
 fn allowed_ahead<L: Ledger>(tables: &Tables, at: Cell, d: Dir, steps: &mut Steps<L>) -> Packed
     requires straight { is_diagonal d ≡ false }
     requires at { is_on tables.now at ≡ true }
@@ -147,6 +148,7 @@ fn allowed_ahead<L: Ledger>(tables: &Tables, at: Cell, d: Dir, steps: &mut Steps
 
 // And at the start or after a diagonal move.
 #[inline(always)]
+#[tactic(auto, using(crate::proofs::Turning::allowed_cut, crate::proofs::Turning::allowed_uncut))]
 fn allowed_around<L: Ledger>(tables: &Tables, at: Cell, by: Arrival, steps: &mut Steps<L>) -> Packed
     requires at { is_on tables.now at ≡ true }
     requires here { spec.asks_behind Corner.Never by ≡ false }

@@ -4,7 +4,7 @@ use Rattle.std.proofs.Common.{arith, ap, refl, ◌∙◌}
 use Rattle.grid_moves.specs.Grid.{GridData}
 use Rattle.pruning.specs.declared.turns.Side.TheVariants.{Right, Left}
 use Rattle.pruning.specs.Turns.{turn}
-use Rattle.jump_plain.specs.declared.jump.Components.{Components}
+use Rattle.jump_plain.specs.declared.beside.Sides.{Sides}
 use Rattle.jump_plain.proofs.Besides.{beyond_diagonal, beyond_legal, beyond_stuck}
 use Rattle.jump_plain.proofs.Forcing.{clear_past}
 use Rattle.jump_plain.proofs.jump.diagonal_by.Goals as goal
@@ -15,8 +15,8 @@ returns-then-leads_on-clause-legal g c = grind (arith, nat_tests, common_steps, 
 pub returns-then-leads_on-clause-clear : goal.returns-then-leads_on-clause-clear
 returns-then-leads_on-clause-clear g c =
     let grid : GridData = g.T.Terrain.grid c.args.t.now in
-    let right = ap (λ (b : Components). b.right) c.requires.beside in
-    let left = ap (λ (b : Components). b.left) c.requires.beside in
+    let right = ap (λ (b : Sides). b.right) c.requires.beside in
+    let left = ap (λ (b : Sides). b.left) c.requires.beside in
     let can = beyond_diagonal grid c.args.at c.args.d c.requires.free c.requires.diagonal c.corner.result c.corner.ensures
     c.args.beside.right c.args.beside.left c.is_passable.result c.leads_on.result right left
     c.is_passable.ensures c.leads_on.ensures in

@@ -13,8 +13,8 @@ use Rattle.jump_plain.proofs.jump.diagonal_stop.Goals as goal
 pub overflow_add-moves : goal.overflow_add-moves
 overflow_add-moves g c = grind (arith, nat_tests, common_steps, run_length-next, run_length-few)
 
-pub by-beside-requires-in-Some-clause-free : goal.by-beside-requires-in-Some-clause-free
-by-beside-requires-in-Some-clause-free g c = grind (arith, nat_tests, common_steps, legal_ahead-free)
+pub ahead_by-beside-requires-in-Some-clause-free : goal.ahead_by-beside-requires-in-Some-clause-free
+ahead_by-beside-requires-in-Some-clause-free g c = grind (arith, nat_tests, common_steps, legal_ahead-free)
 
 pub stops_at-requires-clause-told : goal.stops_at-requires-clause-told
 stops_at-requires-clause-told g c =
@@ -22,8 +22,8 @@ stops_at-requires-clause-told g c =
     c.place_ahead-place.ensures c.in-Some.next.cell
     (legal_leads grid c.run.cell c.in-Some.next.cell c.args.d (sym c.in-Some.ensures.legal)).ahead_is
 
-pub by-beside-requires-in-Some-clause-told : goal.by-beside-requires-in-Some-clause-told
-by-beside-requires-in-Some-clause-told g c =
+pub ahead_by-beside-requires-in-Some-clause-told : goal.ahead_by-beside-requires-in-Some-clause-told
+ahead_by-beside-requires-in-Some-clause-told g c =
     let grid : GridData = g.T.Terrain.grid c.args.t.now in
     c.place_ahead-place.ensures c.in-Some.next.cell
     (legal_leads grid c.run.cell c.in-Some.next.cell c.args.d (sym c.in-Some.ensures.legal)).ahead_is
@@ -54,7 +54,7 @@ run-preserved g c =
       told = c.place_ahead-place.ensures c.in-Some.next.cell
           (legal_leads grid c.run.cell c.in-Some.next.cell c.args.d legal).ahead_is;
       free = legal_ahead-free grid c.run.cell c.in-Some.next.cell c.args.d legal;
-      beside = c.by-beside-in-Some.ensures;
+      beside = c.ahead_by-beside-in-Some.ensures;
       stop = stops_later grid c.args.goal c.run.cell c.args.d c.run.moves
           (first_stop grid c.args.goal c.args.at c.args.d) c.run.invariant.stop c.in-Some.next.cell legal
           (is_stop-read grid c.args.goal c.args.d c.in-Some.next.cell c.requires.diagonal

@@ -1,7 +1,7 @@
 use Rattle.std.proofs.Common.{◌≡◌, ◌+◌, true}
 use Rattle.grid_moves.specs.Grid.{is_free}
 use Rattle.pruning.specs.First.{first_stop, run_length}
-use Rattle.jump_plain.specs.Reach.{components_of}
+use Rattle.jump_plain.specs.Beside.{sides_ahead}
 use Rattle.jump_plain.proofs.Diagonal.{later}
 use Rattle.jump_plain.proofs.jump.diagonal_stop.Given as goal
 
@@ -13,7 +13,7 @@ invariant-run g l =
     record {
       told : l.place ≡ g.T.Terrain.place_of l.t l.cell;
       free : is_free grid l.cell ≡ true;
-      beside : l.beside ≡ components_of grid l.cell l.d;
+      beside : l.beside ≡ sides_ahead grid l.cell l.d;
       stop : first_stop grid l.goal l.fn.at l.d
           ≡ later l.moves (first_stop grid l.goal l.cell l.d);
       run : l.moves + run_length grid l.cell l.d ≡ run_length grid l.fn.at l.d;

@@ -20,9 +20,3 @@ loop-n-init g c =
           (with_items_is rows.band.here c.read_row.new.row (omega arith))
           (subst (λ (m : ℕ). IsFlagRow grid m c.read_row.new.row) first c.read_row.ensures));
     }
-
-pub loop-n-preserved : goal.loop-n-preserved
-loop-n-preserved g c = record {
-  swept = c.in_ok-sweep_next.ensures.swept;
-  kept = c.in_ok-sweep_next.ensures.kept;
-}

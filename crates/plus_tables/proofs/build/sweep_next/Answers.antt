@@ -1,4 +1,3 @@
-use Rattle.std.proofs.lemmas.Bool.Decides.{nat_tests}
 use Rattle.std.proofs.Common.{◌≡◌, ℕ, ◌+◌, ◌*◌, ◌-◌, ◌<◌, List, length, arith, ap, sym, ◌∙◌, subst}
 use Rattle.std.specs.Prelude.{ℤ}
 use Rattle.std.proofs.lemmas.List.{with_items_is}
@@ -7,12 +6,9 @@ use Rattle.plus_tables.specs.Rows.{number}
 use Rattle.plus_tables.specs.Sweep.{nth_row}
 use Rattle.plus_tables.specs.Laid.{AreSwept}
 use Rattle.plus_tables.proofs.Lining.{next_row}
-use Rattle.plus_tables.proofs.Laying.{along_right, row_begins, swept_on}
+use Rattle.plus_tables.proofs.Laying.{row_begins, swept_on}
 use Rattle.plus_tables.proofs.build.sweep_next.Goals as goal
 use borrow.Rule.Slice.PartMut.{put_mid}
-
-pub sweep_row-requires-clause-along : goal.sweep_row-requires-clause-along
-sweep_row-requires-clause-along g c = grind (arith, nat_tests, row_begins, along_right)
 
 pub returns-clause-swept : goal.returns-clause-swept
 returns-clause-swept g c =

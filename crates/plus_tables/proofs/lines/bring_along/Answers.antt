@@ -4,7 +4,7 @@ use Rattle.grid_moves.specs.declared.Dir.TheVariants.{E, W}
 use Rattle.grid_moves.specs.Grid.{GridData}
 use Rattle.plus_tables.specs.declared.heading.Heading.{Heading}
 use Rattle.plus_tables.specs.Sweep.{is_swept}
-use Rattle.plus_tables.proofs.Lining.{taken}
+use Rattle.plus_tables.proofs.Lining.{seen_as, taken}
 use Rattle.plus_tables.proofs.Alike.{alike_along}
 use Rattle.plus_tables.proofs.lines.bring_along.Goals as goal
 
@@ -18,6 +18,16 @@ returns-then-are_alike g c =
     let along = alike_along grid c.requires.whole c.args.y c.args.band.now last
     (c.are_alike.ensures c.if-are_alike.true) c.args.heading ready c.requires.ready.1 high in
     grind (arith, nat_tests)
+
+pub returns-in-Upwards : goal.returns-in-Upwards
+returns-in-Upwards g c =
+    let band = c.args.band.now in
+    let around = seen_as (g.T.Terrain.grid c.args.t.now) c.args.heading c.args.y band.next.items band.here.items
+    band.back.items _ _ _ c.deref.ensures.value c.deref-in-Upwards.ensures.value
+    c.deref-in-Upwards-2.ensures.value c.requires.ready.1 in (
+      c.tell_one_along.ensures c.args.heading c.args.y around,
+      c.tell_one_along-in-Upwards.ensures c.args.heading c.args.y around,
+    )
 
 pub returns-in-Downwards : goal.returns-in-Downwards
 returns-in-Downwards g c =

@@ -1,34 +1,52 @@
-use Rattle.std.proofs.Common.{ℕ, ◌+◌, arith, sym, subst}
+use Rattle.std.proofs.Common.{◌≡◌, ◌+◌, List, arith, ap, ◌∙◌, subst}
+use Rattle.std.specs.Prelude.{ℤ}
+use Rattle.grid_moves.specs.declared.Dir.{Dir}
 use Rattle.grid_moves.specs.Grid.{GridData}
-use Rattle.plus_tables.specs.Fit.{AreLong, FitAcross}
-use Rattle.plus_tables.proofs.Fitting.{bordered}
-use Rattle.plus_tables.proofs.Mirror.{forced_seen, told_seen}
+use Rattle.pruning.specs.declared.turns.Side.{Side}
+use Rattle.pruning.specs.declared.turns.Side.TheVariants.{Right, Left}
+use Rattle.pruning.specs.Turns.{turn}
+use Rattle.plus_tables.specs.Laid.{seen_part}
+use Rattle.plus_tables.specs.Rows.{IsEntryRow, seen}
+use Rattle.plus_tables.specs.Sweep.{is_upward}
+use Rattle.plus_tables.proofs.Fitting.{bordered, fits_across, long_as}
+use Rattle.plus_tables.proofs.Lining.{entries_as, leads_ahead, part_long, part_seen, seen_as, upward_ahead}
+use Rattle.plus_tables.proofs.Lining.{upward_beside}
+use Rattle.plus_tables.proofs.Rowing.{forced_if, told_row}
 use Rattle.plus_tables.proofs.lines.tell_ahead.Goals as goal
-
-pub force-requires-clause-rows : goal.force-requires-clause-rows
-force-requires-clause-rows g c =
-    let beyond = c.args.beyond in
-    subst (λ (n : ℕ). AreLong n beyond.ahead.now beyond.here.now beyond.behind.now) (sym c.requires.forced)
-    c.requires.beyond
 
 pub across-requires : goal.across-requires
 across-requires g c =
     let grid : GridData = g.T.Terrain.grid c.args.t.now in
-    let fits : FitAcross (grid.width + 2) c.args.rows c.force.new.forced c.args.next = record {
-      border = bordered grid.width c.requires.whole.sides.narrow;
-      rows_are = c.requires.rows;
-      forced_is = omega (arith, c.requires.forced);
-      next_are = c.requires.next;
-    } in
-    subst (λ (n : ℕ). FitAcross n c.args.rows c.force.new.forced c.args.next) (sym c.requires.out) fits
+    let rows = c.requires.ready.2.rows in
+    let long = part_long grid c.args.last.now c.requires.ready.2.long in
+    fits_across (grid.width + 2) _ _ _ _ c.requires.out (bordered grid.width c.requires.whole.sides.narrow)
+    (long_as c.deref-4.ensures.value c.deref-5.ensures.value c.deref-6.ensures.value
+    rows.next_is.long rows.here_is.long rows.back_is.long)
+    (omega (arith, c.requires.forced))
+    (long_as c.part.ensures c.part-2.ensures c.part-3.ensures (long c.args.d)
+    (long c.turn.result) (long c.turn-2.result))
 
 pub returns : goal.returns
-returns g c = λ h y m e f lies around beyond ahead right left parts.
+returns g c = λ h y ready around.
     let grid : GridData = g.T.Terrain.grid c.args.t.now in
-    told_seen grid c.requires.whole h y m c.args.d lies c.corner-corner.result c.corner-corner.ensures
-    c.args.rows.ahead.now c.args.rows.here.now c.args.rows.behind.now c.force.new.forced c.args.next.ahead.now
-    c.args.next.right.now c.args.next.left.now c.across.new.out e f around
-    (forced_seen grid c.requires.whole h m c.args.beyond.ahead.now c.args.beyond.here.now
-    c.args.beyond.behind.now beyond c.args.d c.corner-corner.result c.force.new.forced c.corner-corner.ensures
+    let band = c.args.band.now in
+    let m = ready.rows.ahead in
+    let part = part_seen grid h m c.args.last.now ready.told ready.along in
+    let aside = λ (s : Side) (e : Dir) (is : e ≡ turn s c.args.d) (row : List ℤ) (same : row ≡ seen_part c.args.last.now e).
+    subst (λ (k : Dir). IsEntryRow grid m (seen h k) row) is
+    (entries_as grid m (seen h e) _ row same
+    (part e (ap is_upward is ∙ upward_beside s c.args.d c.requires.ahead))) in
+    told_row grid c.requires.whole h y m c.args.d (leads_ahead h c.args.d y m c.requires.ahead ready.rows.ahead_is)
+    c.corner-corner.result c.corner-corner.ensures _ _ _ c.force.new.forced _ _ _ c.across.new.out
+    (seen_as grid h y band.next.items band.here.items band.back.items _ _ _ c.deref-4.ensures.value
+    c.deref-5.ensures.value c.deref-6.ensures.value around)
+    (forced_if grid c.requires.whole h m _ _ _
+    (λ on. seen_as grid h m band.far.items band.next.items band.here.items _ _ _ c.deref.ensures.value
+    c.deref-2.ensures.value c.deref-3.ensures.value (ready.rows.around_next on))
+    c.args.d c.corner-corner.result c.force.new.forced c.corner-corner.ensures
     (omega (arith, c.requires.forced)) c.force.ensures)
-    ahead right left parts (omega (arith, c.requires.out)) c.across.ensures
+    (entries_as grid m (seen h c.args.d) _ _ c.part.ensures
+    (part c.args.d (upward_ahead c.args.d c.requires.ahead)))
+    (aside Right c.turn.result c.turn.ensures _ c.part-2.ensures)
+    (aside Left c.turn-2.result c.turn-2.ensures _ c.part-3.ensures)
+    (omega (arith, c.requires.out)) c.across.ensures

@@ -1,15 +1,9 @@
 use Rattle.std.proofs.Common.{ℕ, ◌+◌, arith, sym, subst}
 use Rattle.grid_moves.specs.Grid.{GridData}
-use Rattle.plus_tables.specs.Fit.{AreLong, FitAlong}
+use Rattle.plus_tables.specs.Fit.{FitAlong}
 use Rattle.plus_tables.proofs.Fitting.{bordered}
 use Rattle.plus_tables.proofs.Rowing.{forced_row, along_row}
 use Rattle.plus_tables.proofs.lines.tell_one_along.Goals as goal
-
-pub force-requires-clause-rows : goal.force-requires-clause-rows
-force-requires-clause-rows g c =
-    let rows = c.args.rows in
-    subst (λ (n : ℕ). AreLong n rows.ahead.now rows.here.now rows.behind.now) (sym c.requires.forced)
-    c.requires.rows
 
 pub along-requires-clause-fits : goal.along-requires-clause-fits
 along-requires-clause-fits g c =
@@ -22,12 +16,11 @@ along-requires-clause-fits g c =
     subst (λ (n : ℕ). FitAlong n c.args.rows.here.now c.force.new.forced) (sym c.requires.out) fits
 
 pub returns : goal.returns
-returns g c = λ y around.
+returns g c = λ h y around.
     let grid : GridData = g.T.Terrain.grid c.args.t.now in
-    along_row grid c.requires.whole y c.args.rows.ahead.now c.args.rows.here.now c.args.rows.behind.now
-    c.force.new.forced c.along.new.out around c.args.d c.requires.along
-    (forced_row grid c.requires.whole y c.args.rows.ahead.now c.args.rows.here.now
-    c.args.rows.behind.now around
-    c.args.d c.corner.result c.force.new.forced c.corner.ensures (omega (arith, c.requires.forced))
-    c.force.ensures)
+    let rows = c.args.rows in
+    along_row grid c.requires.whole h y rows.ahead.now rows.here.now rows.behind.now c.force.new.forced
+    c.along.new.out around c.args.d c.requires.along
+    (forced_row grid c.requires.whole h y rows.ahead.now rows.here.now rows.behind.now around c.args.d
+    c.corner.result c.force.new.forced c.corner.ensures (omega (arith, c.requires.forced)) c.force.ensures)
     (omega (arith, c.requires.out)) c.along.ensures

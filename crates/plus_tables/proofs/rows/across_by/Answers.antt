@@ -1,5 +1,4 @@
-use Rattle.std.proofs.Common.{◌≡◌, ℕ, ◌+◌, ◌<◌, Bool, true, ◌&&◌, ◌||◌, length, arith, ap, ◌∙◌, subst, w16}
-use Rattle.std.proofs.Common.{to_z, of_z}
+use Rattle.std.proofs.Common.{◌+◌, ◌<◌, Bool, ◌&&◌, ◌||◌, length, arith, ap, sym, ◌∙◌, w16, to_z, of_z}
 use Rattle.std.specs.Prelude.{ℤ}
 use Rattle.grid_moves.specs.declared.ring.Ring.{Ring}
 use Rattle.grid_moves.specs.Ring.{leads_on}
@@ -16,30 +15,17 @@ loop-x-preserved c =
     let at = c.place_after-at.result in
     let long : x + 1 < length c.loop-x.out = omega arith in
     number_more c.loop-x.out x (to_z w16 (of_z w16 c.told.result))
-    (λ k (z : ℤ). (spec.legal_by c.args.corner rows.ahead.now rows.here.now rows.behind.now c.args.d k ≡ true
-    → spec.AreShort (spec.number next.ahead.now (spec.place_after c.args.d k))
-    (spec.number next.right.now (spec.place_after c.args.d k))
-    (spec.number next.left.now (spec.place_after c.args.d k)))
-    → z ≡ spec.told (spec.legal_by c.args.corner rows.ahead.now rows.here.now rows.behind.now c.args.d k)
-    (spec.mark_by c.args.forced.now next.right.now next.left.now c.args.d (spec.place_after c.args.d k))
-    (spec.number next.ahead.now (spec.place_after c.args.d k)))
+    (λ k (z : ℤ). spec.IsToldAs c.args.corner rows.ahead.now rows.here.now rows.behind.now c.args.forced.now
+    next.ahead.now next.right.now next.left.now c.args.d k z)
     long c.loop-x.invariant
-    (subst (λ (n : ℕ). (spec.legal_by c.args.corner rows.ahead.now rows.here.now rows.behind.now c.args.d x ≡
-    true
-    → spec.AreShort (spec.number next.ahead.now n) (spec.number next.right.now n)
-    (spec.number next.left.now n))
-    → to_z w16 (of_z w16 c.told.result)
-    ≡ spec.told (spec.legal_by c.args.corner rows.ahead.now rows.here.now rows.behind.now c.args.d x)
-    (spec.mark_by c.args.forced.now next.right.now next.left.now c.args.d n) (spec.number next.ahead.now n))
-    c.place_after-at.ensures.is
+    (rw (sym c.place_after-at.ensures.is)
     (told_across (spec.legal_by c.args.corner rows.ahead.now rows.here.now rows.behind.now c.args.d x)
     (spec.flag rows.here.now (x + 1) && c.can_move.result)
     (spec.flag c.args.forced.now at || (c.is_diagonal.result &&
     (c.tells_mark.result || c.tells_mark-in-loop-x.result)))
     (spec.flag c.args.forced.now at) (is_diagonal c.args.d) c.tells_mark.result c.tells_mark-in-loop-x.result
     (spec.number next.ahead.now at) (spec.number next.right.now at) (spec.number next.left.now at)
-    c.told.result
-    c.told.ensures
+    c.told.result c.told.ensures
     (ap (λ (b : Bool). spec.flag rows.here.now (x + 1) && b)
     (c.can_move.ensures ∙ ap (λ (r : Ring). leads_on c.args.corner r c.args.d) c.ring_at-ring.ensures))
     (ap (λ (b : Bool). spec.flag c.args.forced.now at ||

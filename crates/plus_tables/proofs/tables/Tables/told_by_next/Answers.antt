@@ -1,15 +1,8 @@
 use Rattle.std.proofs.Common.{arith}
 use Rattle.std.proofs.lemmas.Bool.Decides.{nat_tests}
 use Rattle.plus_tables.proofs.Short.{table_entry-short, same_value, short_value}
-use Rattle.plus_tables.proofs.Refreshing.{on_map, next_free, next_short, told_marked}
-use Rattle.plus_tables.proofs.Refreshing.{told_further}
+use Rattle.plus_tables.proofs.Refreshing.{next_short, told_marked, told_further}
 use Rattle.plus_tables.proofs.tables.Tables.told_by_next.Goals as goal
-
-pub is_mark-requires-clause-on : goal.is_mark-requires-clause-on
-is_mark-requires-clause-on g c = grind (arith, nat_tests, on_map, next_free)
-
-pub get-requires : goal.get-requires
-get-requires g c = grind (arith, nat_tests, on_map, next_free)
 
 pub returns-in-Some : goal.returns-in-Some
 returns-in-Some g c = grind (arith, nat_tests, told_marked)
