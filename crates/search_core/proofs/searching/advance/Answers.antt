@@ -1,5 +1,4 @@
 use Rattle.std.proofs.Common.{◌∙◌, ◌∷◌, [], ℕ, length, length-append, arith, ap, List}
-use Rattle.std.proofs.lemmas.Result.{IfOk-from_err}
 use Rattle.std.specs.Prelude.{slice_get}
 use Rattle.std.proofs.lemmas.Option.{slice_get_within}
 use Rattle.best_first.specs.declared.node.Node.{Node}
@@ -113,38 +112,6 @@ returns-in_ok-push-in-Some-clause-counted g c =
     c.come_to.ensures c.allowed_word-dirs.result c.allowed_word-dirs.ensures.rule c.requires.some)
     c.allowed_word-dirs.ensures.most c.offer_jumps.ensures.most c.allowed_word-dirs.ensures.fewest
     c.offer_jumps.ensures.fewest
-
-pub returns-in_err-reserve-clause-goes_on : goal.returns-in_err-reserve-clause-goes_on
-returns-in_err-reserve-clause-goes_on g c =
-    IfOk-from_err c.from_residual.result _ c.from_residual.ensures.0
-
-pub returns-in_err-reserve-clause-one_more : goal.returns-in_err-reserve-clause-one_more
-returns-in_err-reserve-clause-one_more g c =
-    IfOk-from_err c.from_residual.result _ c.from_residual.ensures.0
-
-pub returns-in_err-reserve-clause-same : goal.returns-in_err-reserve-clause-same
-returns-in_err-reserve-clause-same g c =
-    IfOk-from_err c.from_residual.result _ c.from_residual.ensures.0
-
-pub returns-in_err-reserve-clause-counted : goal.returns-in_err-reserve-clause-counted
-returns-in_err-reserve-clause-counted g c =
-    IfOk-from_err c.from_residual.result _ c.from_residual.ensures.0
-
-pub returns-in_err-push-in-Some-clause-goes_on : goal.returns-in_err-push-in-Some-clause-goes_on
-returns-in_err-push-in-Some-clause-goes_on g c =
-    IfOk-from_err c.from_residual-in_err-push-in-Some.result _ c.from_residual-in_err-push-in-Some.ensures.0
-
-pub returns-in_err-push-in-Some-clause-one_more : goal.returns-in_err-push-in-Some-clause-one_more
-returns-in_err-push-in-Some-clause-one_more g c =
-    IfOk-from_err c.from_residual-in_err-push-in-Some.result _ c.from_residual-in_err-push-in-Some.ensures.0
-
-pub returns-in_err-push-in-Some-clause-same : goal.returns-in_err-push-in-Some-clause-same
-returns-in_err-push-in-Some-clause-same g c =
-    IfOk-from_err c.from_residual-in_err-push-in-Some.result _ c.from_residual-in_err-push-in-Some.ensures.0
-
-pub returns-in_err-push-in-Some-clause-counted : goal.returns-in_err-push-in-Some-clause-counted
-returns-in_err-push-in-Some-clause-counted g c =
-    IfOk-from_err c.from_residual-in_err-push-in-Some.result _ c.from_residual-in_err-push-in-Some.ensures.0
 
 pub returns-in_err-reserve-clause-places : goal.returns-in_err-reserve-clause-places
 returns-in_err-reserve-clause-places g c =

@@ -1,6 +1,5 @@
 use Rattle.std.proofs.Common.{◌∙◌, ◌<◌, ◌≤◌, ap, arith, length, subst, sym, List, ℕ, [], ◌∷◌, ◌++◌}
 use Rattle.std.specs.Prelude.{OnOk, Ok, Err}
-use Rattle.std.proofs.lemmas.Result.{IfOk-from_err}
 use Rattle.std.specs.declared.result.Result.{Result}
 use Rattle.best_first.specs.declared.state.State.{State}
 use Rattle.best_first.specs.State.{state_number}
@@ -26,14 +25,6 @@ returns-clause-reached g c = on_ok c.push.result c.push.ensures.pushed (λ pushe
     (c.width-width.ensures.is x served.stands) c.in_ok-begin.ensures.layout c.in_ok-begin.ensures.places
     c.in_ok-begin.ensures.width c.in_ok-begin.ensures.begun c.requires.none
     (pushed ∙ ap (λ (n : ℕ). c.args.taken.now ++ n ∷ []) number))
-
-pub returns-in_err-begin-clause-reached : goal.returns-in_err-begin-clause-reached
-returns-in_err-begin-clause-reached g c =
-    IfOk-from_err c.from_residual.result _ c.from_residual.ensures.0
-
-pub returns-in_err-begin-clause-one : goal.returns-in_err-begin-clause-one
-returns-in_err-begin-clause-one g c =
-    IfOk-from_err c.from_residual.result _ c.from_residual.ensures.0
 
 pub returns-in_err-begin-clause-places : goal.returns-in_err-begin-clause-places
 returns-in_err-begin-clause-places g c = λ x v.

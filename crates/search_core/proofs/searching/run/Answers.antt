@@ -3,7 +3,6 @@ use Rattle.std.proofs.lemmas.Grind.{common_steps}
 use Rattle.std.proofs.Common.{◌≡◌, ◌+◌, ◌-◌, ◌<◌, ◌≤◌, ℕ, List, length, subst, arith}
 use Rattle.std.specs.Prelude.{Option, IfSome, IfOk}
 use Rattle.std.proofs.lemmas.Option.{slice_get_within}
-use Rattle.std.proofs.lemmas.Result.{IfOk-from_err}
 use Rattle.std.specs.declared.result.Result.{Result}
 use Rattle.pruning.specs.Source.{MostSteps}
 use Rattle.search_core.specs.Counting.{IsCountedSoFar, IsWithinTaken}
@@ -54,48 +53,6 @@ returns-clause-most g c =
     all_within (g.J.JumpSource.most c.args.j.now) (g.J.JumpSource.fewest c.args.j.now) c.taking.taken
     c.args.steps.now c.taking.steps c.found.result c.taking.invariant.counted c.found.ensures.taken
 
-pub returns-in_err-taken-clause-run : goal.returns-in_err-taken-clause-run
-returns-in_err-taken-clause-run g c =
-    IfOk-from_err c.from_residual.result _ c.from_residual.ensures.0
-
-pub returns-in_err-taken-clause-most : goal.returns-in_err-taken-clause-most
-returns-in_err-taken-clause-most g c =
-    IfOk-from_err c.from_residual.result _ c.from_residual.ensures.0
-
-pub returns-in_err-taken-clause-fewest : goal.returns-in_err-taken-clause-fewest
-returns-in_err-taken-clause-fewest g c =
-    IfOk-from_err c.from_residual.result _ c.from_residual.ensures.0
-
-pub returns-in_err-begin-clause-run : goal.returns-in_err-begin-clause-run
-returns-in_err-begin-clause-run g c =
-    IfOk-from_err c.from_residual-in_err-begin.result _ c.from_residual-in_err-begin.ensures.0
-
-pub returns-in_err-begin-clause-most : goal.returns-in_err-begin-clause-most
-returns-in_err-begin-clause-most g c =
-    IfOk-from_err c.from_residual-in_err-begin.result _ c.from_residual-in_err-begin.ensures.0
-
-pub returns-in_err-begin-clause-fewest : goal.returns-in_err-begin-clause-fewest
-returns-in_err-begin-clause-fewest g c =
-    IfOk-from_err c.from_residual-in_err-begin.result _ c.from_residual-in_err-begin.ensures.0
-
-pub returns-in_err-next-clause-run : goal.returns-in_err-next-clause-run
-returns-in_err-next-clause-run g c =
-    IfOk-from_err c.from_residual-in_err-next.result _ c.from_residual-in_err-next.ensures.0
-
-pub returns-in_err-next-clause-most : goal.returns-in_err-next-clause-most
-returns-in_err-next-clause-most g c =
-    IfOk-from_err c.from_residual-in_err-next.result _ c.from_residual-in_err-next.ensures.0
-
-pub returns-in_err-next-clause-fewest : goal.returns-in_err-next-clause-fewest
-returns-in_err-next-clause-fewest g c =
-    IfOk-from_err c.from_residual-in_err-next.result _ c.from_residual-in_err-next.ensures.0
-
-pub returns-in_err-begin-clause-places : goal.returns-in_err-begin-clause-places
-returns-in_err-begin-clause-places g c = c.begin.ensures.places
-
-pub returns-in_err-next-clause-places : goal.returns-in_err-next-clause-places
-returns-in_err-next-clause-places g c = c.advance.ensures.places
-
 pub node-requires : goal.node-requires
 node-requires g c =
     let some = c.requires.some in
@@ -116,12 +73,6 @@ pub returns-in-None-clause-run : goal.returns-in-None-clause-run
 returns-in-None-clause-run g c = λ x v.
     subst (λ (o : Option ℕ). GoesOnFrom c.args.query.layout x c.args.query.from c.args.query.to c.advance.new.space
     c.advance.new.taken o) c.in-None.is (c.in_ok-next.ensures.goes_on x v)
-
-pub returns-in-None-clause-places : goal.returns-in-None-clause-places
-returns-in-None-clause-places g c = c.advance.ensures.places
-
-pub returns-clause-run : goal.returns-clause-run
-returns-clause-run g c = c.found.ensures.run
 
 pub returns-clause-places : goal.returns-clause-places
 returns-clause-places g c = λ x v. (c.taking.invariant.reached x v).of.places
