@@ -113,25 +113,6 @@ returns-in_ok-push-in-Some-clause-counted g c =
     c.allowed_word-dirs.ensures.most c.offer_jumps.ensures.most c.allowed_word-dirs.ensures.fewest
     c.offer_jumps.ensures.fewest
 
-pub returns-in_err-reserve-clause-places : goal.returns-in_err-reserve-clause-places
-returns-in_err-reserve-clause-places g c =
-    λ h v. places_kept h (c.requires.reached h v).of.places c.reserve.ensures.shape
-
-pub returns-in_err-push-in-Some-clause-places : goal.returns-in_err-push-in-Some-clause-places
-returns-in_err-push-in-Some-clause-places g c = λ h v.
-    places_kept h (places_kept h (places_kept h (c.requires.reached h v).of.places c.reserve.ensures.shape)
-    c.offer_jumps.ensures.shape) c.take_next.ensures.shape
-
-pub returns-in-None-clause-places : goal.returns-in-None-clause-places
-returns-in-None-clause-places g c = λ h v.
-    places_kept h (places_kept h (places_kept h (c.requires.reached h v).of.places c.reserve.ensures.shape)
-    c.offer_jumps.ensures.shape) c.take_next.ensures.shape
-
-pub returns-in_ok-push-in-Some-clause-places : goal.returns-in_ok-push-in-Some-clause-places
-returns-in_ok-push-in-Some-clause-places g c = λ h v.
-    places_kept h (places_kept h (places_kept h (c.requires.reached h v).of.places c.reserve.ensures.shape)
-    c.offer_jumps.ensures.shape) c.take_next.ensures.shape
-
 pub returns-in_ok-push-in-Some-clause-one_more : goal.returns-in_ok-push-in-Some-clause-one_more
 returns-in_ok-push-in-Some-clause-one_more g c =
     ap (λ (ns : List ℕ). length ns) c.in_ok-push-in-Some.ensures.pushed

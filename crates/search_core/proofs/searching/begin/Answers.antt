@@ -26,14 +26,6 @@ returns-clause-reached g c = on_ok c.push.result c.push.ensures.pushed (λ pushe
     c.in_ok-begin.ensures.width c.in_ok-begin.ensures.begun c.requires.none
     (pushed ∙ ap (λ (n : ℕ). c.args.taken.now ++ n ∷ []) number))
 
-pub returns-in_err-begin-clause-places : goal.returns-in_err-begin-clause-places
-returns-in_err-begin-clause-places g c = λ x v.
-    places_so x (c.requires.places x v) c.begin.ensures.places
-
-pub returns-clause-places : goal.returns-clause-places
-returns-clause-places g c = λ x v.
-    places_so x (c.requires.places x v) c.begin.ensures.places
-
 pub returns-clause-one : goal.returns-clause-one
 returns-clause-one g c =
     on_ok c.push.result c.push.ensures.pushed (λ pushed.

@@ -73,6 +73,3 @@ pub returns-in-None-clause-run : goal.returns-in-None-clause-run
 returns-in-None-clause-run g c = λ x v.
     subst (λ (o : Option ℕ). GoesOnFrom c.args.query.layout x c.args.query.from c.args.query.to c.advance.new.space
     c.advance.new.taken o) c.in-None.is (c.in_ok-next.ensures.goes_on x v)
-
-pub returns-clause-places : goal.returns-clause-places
-returns-clause-places g c = λ x v. (c.taking.invariant.reached x v).of.places
