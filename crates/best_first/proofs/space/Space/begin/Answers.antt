@@ -62,21 +62,3 @@ invariant_of-self-2 g c =
     subst (λ (y : Layout). IsSpace y c.args.width c.grow.new.room c.add_first.new.pool.spare
     (vec_capacity c.put.new.self.records) c.add_first.new.pool.nodes c.put.new.self.heads.items
     c.put.new.self.records.items) (sym c.put.ensures.layout) (record { parts = parts; room = room })
-
-pub node_for-requires-clause-column : goal.node_for-requires-clause-column
-node_for-requires-clause-column g c = search rules
-
-pub add_first-requires-clause-room : goal.add_first-requires-clause-room
-add_first-requires-clause-room g c = search rules
-
-pub number_of-requires-clause-column : goal.number_of-requires-clause-column
-number_of-requires-clause-column g c = search rules
-
-pub put-requires-clause-few : goal.put-requires-clause-few
-put-requires-clause-few g c = search rules
-
-pub returns-clause-width : goal.returns-clause-width
-returns-clause-width g c = search rules
-
-pub returns-in_err-grow-clause-width : goal.returns-in_err-grow-clause-width
-returns-in_err-grow-clause-width g c = search rules
