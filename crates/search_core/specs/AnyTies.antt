@@ -1,7 +1,7 @@
 -- One state for each cell, however ties are broken: what a search took that always takes a cell of a least sum.
 -- Which cell goes first among equal sums is left open, and which arrival a cell keeps among those of equal cost.
 -- Harabor and Grastien, AAAI 2011, say neither; programs differ in both.
-use Rattle.std.specs.Prelude.{◌≡◌, ℕ, ◌*◌, ◌≤◌, true, List, [], ◌∷◌, length, map, reverse, MatchOption}
+use Rattle.std.specs.Prelude.{◌≡◌, ◌*◌, ◌≤◌, true, List, [], ◌∷◌, length, map, reverse, MatchOption}
 use Rattle.root2_cost.specs.declared.Cost.{Cost}
 use Rattle.root2_cost.specs.Order.{IsAtMost}
 use Rattle.root2_cost.specs.Sums.{add_costs, no_cost}

@@ -1,7 +1,6 @@
-use Rattle.std.proofs.Common.{◌≡◌, subst, sym}
+use Rattle.std.proofs.Common.{subst}
 use Rattle.best_first.specs.declared.state.Layout.{Layout}
-use Rattle.best_first.specs.declared.state.Layout.TheVariants.{ByArrival, ByCell}
-use Rattle.search_core.specs.Jumping.{IsOffering, jumped}
+use Rattle.search_core.specs.Jumping.{IsOffering}
 use Rattle.search_core.specs.Serving.{OnEach}
 use Rattle.search_core.proofs.jumping.offer_jumps.Goals as goal
 

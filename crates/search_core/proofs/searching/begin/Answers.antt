@@ -4,7 +4,6 @@ use Rattle.std.specs.declared.result.Result.{Result}
 use Rattle.best_first.specs.declared.state.State.{State}
 use Rattle.best_first.specs.State.{state_number}
 use Rattle.grid_moves.proofs.Legal.{free_inside}
-use Rattle.search_core.proofs.Serving.{places_so}
 use Rattle.search_core.proofs.Standing.{reached_first}
 use Rattle.search_core.proofs.searching.begin.Goals as goal
 
@@ -19,8 +18,7 @@ pub returns-clause-reached : goal.returns-clause-reached
 returns-clause-reached g c = on_ok c.push.result c.push.ensures.pushed (λ pushed x served.
     let number = c.number.ensures
     ∙ ap (λ (u : State). state_number c.width-width.result u) c.start.ensures in
-    reached_first _ (g.J.JumpSource.StandsFor c.args.j.now) c.args.query.from c.args.query.to x served
-    c.args.space.now c.begin.new.self c.width-width.result c.args.taken.now c.push.new.self
+    reached_first served c.begin.new.self
     (c.width-width.ensures.whole x served.stands) c.requires.layout (c.requires.places x served)
     (c.width-width.ensures.is x served.stands) c.in_ok-begin.ensures.layout c.in_ok-begin.ensures.places
     c.in_ok-begin.ensures.width c.in_ok-begin.ensures.begun c.requires.none

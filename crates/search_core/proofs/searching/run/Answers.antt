@@ -28,9 +28,7 @@ taking-smaller g c =
     (λ id. length c.advance.new.taken ≡ length c.taking.taken + 1)) c.in-Some.is
     c.in_ok-next.ensures.one_more in
     smaller (length c.taking.taken) (length c.advance.new.taken) more
-    (few_taken _ (g.J.JumpSource.StandsFor c.args.j.now) c.args.query.from c.args.query.to some.0 some.1
-    c.in-Some.next
-    c.advance.new.space c.advance.new.taken (reached some.0 some.1))
+    (few_taken some.1 (reached some.0 some.1))
 
 pub taking-preserved : goal.taking-preserved
 taking-preserved g c =
