@@ -17,32 +17,33 @@ stop-requires g c =
 
 pub offer_after-requires-clause-column : goal.offer_after-requires-clause-column
 offer_after-requires-clause-column g c =
-    (ready_on c.requires.offering c.args.d c.requires.allowed c.requires.some c.in-Some.k c.in-Some.ensures.first).1.column
+    (ready_on c.requires.offering c.args.d c.requires.allowed c.requires.some c.in-Some.k
+    c.in-Some.ensures.first).1.column
 
 pub offer_after-requires-clause-row : goal.offer_after-requires-clause-row
 offer_after-requires-clause-row g c =
-    (ready_on c.requires.offering c.args.d c.requires.allowed c.requires.some c.in-Some.k c.in-Some.ensures.first).1.row
+    (ready_on c.requires.offering c.args.d c.requires.allowed c.requires.some c.in-Some.k
+    c.in-Some.ensures.first).1.row
 
 pub offer_after-requires-clause-rank : goal.offer_after-requires-clause-rank
 offer_after-requires-clause-rank g c =
-    (ready_on c.requires.offering c.args.d c.requires.allowed c.requires.some c.in-Some.k c.in-Some.ensures.first).1.rank
+    (ready_on c.requires.offering c.args.d c.requires.allowed c.requires.some c.in-Some.k
+    c.in-Some.ensures.first).1.rank
 
 pub offer-requires-clause-placed : goal.offer-requires-clause-placed
 offer-requires-clause-placed g c =
-    subst (λ (o : Offer). IsPlaced c.args.space.now.width c.args.space.now.places o.to.cell)
-    (sym c.offer_after.ensures)
-    (ready_on c.requires.offering c.args.d c.requires.allowed c.requires.some c.in-Some.k c.in-Some.ensures.first).1.placed
+    rw c.offer_after.ensures (ready_on c.requires.offering c.args.d c.requires.allowed c.requires.some
+    c.in-Some.k c.in-Some.ensures.first).1.placed
 
 pub offer-requires-clause-fits : goal.offer-requires-clause-fits
 offer-requires-clause-fits g c =
-    subst (λ (o : Offer). o.rank < 2 ^ 63) (sym c.offer_after.ensures)
-    (ready_on c.requires.offering c.args.d c.requires.allowed c.requires.some c.in-Some.k c.in-Some.ensures.first).1.rank
+    rw c.offer_after.ensures (ready_on c.requires.offering c.args.d c.requires.allowed c.requires.some
+    c.in-Some.k c.in-Some.ensures.first).1.rank
 
 pub offer-requires-clause-closed : goal.offer-requires-clause-closed
 offer-requires-clause-closed g c =
-    subst (λ (o : Offer). ClosedBelow (node_for c.args.query.to o).key c.args.space.now.table)
-    (sym c.offer_after.ensures)
-    (ready_on c.requires.offering c.args.d c.requires.allowed c.requires.some c.in-Some.k c.in-Some.ensures.first).1.closed
+    rw c.offer_after.ensures (ready_on c.requires.offering c.args.d c.requires.allowed c.requires.some
+    c.in-Some.k c.in-Some.ensures.first).1.closed
 
 pub returns-in-Some-clause-jumped : goal.returns-in-Some-clause-jumped
 returns-in-Some-clause-jumped g c =

@@ -1,6 +1,6 @@
 use Rattle.std.proofs.lemmas.Bool.Decides.{nat_tests}
 use Rattle.std.proofs.lemmas.Grind.{common_steps}
-use Rattle.std.proofs.Common.{◌≡◌, ◌+◌, ◌-◌, ◌<◌, ◌≤◌, ℕ, List, length, subst, arith}
+use Rattle.std.proofs.Common.{◌≡◌, ◌∙◌, ◌+◌, ◌-◌, ◌<◌, ◌≤◌, ℕ, List, length, subst, arith}
 use Rattle.std.specs.Prelude.{Option, IfSome, IfOk}
 use Rattle.std.proofs.lemmas.Option.{slice_get_within}
 use Rattle.std.specs.declared.result.Result.{Result}
@@ -20,26 +20,18 @@ smaller old new e h = omega arith
 pub taking-smaller : goal.taking-smaller
 taking-smaller g c =
     let some = c.requires.some in
-    let reached = subst (λ (o : Option ℕ). OnEach (g.J.JumpSource.StandsFor c.args.j.now) c.args.query.from
-    c.args.query.to (λ x. GoesOnFrom c.args.query.layout x c.args.query.from c.args.query.to c.advance.new.space
-    c.advance.new.taken o))
-    c.in-Some.is c.in_ok-next.ensures.goes_on in
-    let more = subst (λ (o : Option ℕ). IfSome o
-    (λ id. length c.advance.new.taken ≡ length c.taking.taken + 1)) c.in-Some.is
-    c.in_ok-next.ensures.one_more in
+    let reached = rw c.in-Some.is at c.in_ok-next.ensures.goes_on in
+    let more = rw c.in-Some.is at c.in_ok-next.ensures.one_more in
     smaller (length c.taking.taken) (length c.advance.new.taken) more
     (few_taken some.1 (reached some.0 some.1))
 
 pub taking-preserved : goal.taking-preserved
-taking-preserved g c =
-    let reached = subst (λ (o : Option ℕ). OnEach (g.J.JumpSource.StandsFor c.args.j.now) c.args.query.from
-    c.args.query.to (λ x. GoesOnFrom c.args.query.layout x c.args.query.from c.args.query.to c.advance.new.space
-    c.advance.new.taken o))
-    c.in-Some.is c.in_ok-next.ensures.goes_on in
-    let more = subst (λ (o : Option ℕ). IfSome o
-    (λ id. length c.advance.new.taken ≡ length c.taking.taken + 1)) c.in-Some.is
-    c.in_ok-next.ensures.one_more in
-    grind (arith, nat_tests, common_steps, counted_further)
+taking-preserved g c = record {
+  reached = rw c.in-Some.is at c.in_ok-next.ensures.goes_on;
+  counted = counted_further c.taking.invariant.counted (rw c.in-Some.is at c.in_ok-next.ensures.one_more)
+      c.in_ok-next.ensures.counted;
+  places = c.advance.ensures.places ∙ c.taking.invariant.places;
+}
 
 all_within : {E : Type 0} (most : Option MostSteps) (fewest : ℕ) (taken : List ℕ) (a b : ℕ)
     (result : Result Found E) → IsCountedSoFar most fewest taken a b → IfOk result (λ f. f.taken ≡ taken)
@@ -68,6 +60,4 @@ found-requires-clause-goal g c = λ n h.
     c.node.ensures c.cell.ensures c.ne.ensures h c.taking-test.false
 
 pub returns-in-None-clause-run : goal.returns-in-None-clause-run
-returns-in-None-clause-run g c = λ x v.
-    subst (λ (o : Option ℕ). GoesOnFrom c.args.query.layout x c.args.query.from c.args.query.to c.advance.new.space
-    c.advance.new.taken o) c.in-None.is (c.in_ok-next.ensures.goes_on x v)
+returns-in-None-clause-run g c = rw c.in-None.is at c.in_ok-next.ensures.goes_on
