@@ -158,16 +158,8 @@ module _ {layout : Layout} {width : ℕ} {nodes : List Node} {heads : List ℕ} 
           ⊎ (a ≡ arrival_number (state_of layout n).arrival → ⊥)
           → IsNodeAt layout width (nodes ++ n ∷ []) c a id
       elsewhere c a id h (inl e) (inl f) =
-          let entry : suc (length nodes) ≡ suc id = sym p.here
-          ∙ ap (λ (k : ℕ). entry_in layout later_heads later_records k
-          (arrival_number (state_of layout n).arrival))
-          (sym e) ∙ ap (λ (k : ℕ). entry_in layout later_heads later_records c k) (sym f) ∙ h in
-          subst (λ (k : ℕ). IsNodeAt layout width (nodes ++ n ∷ []) c a k)
-          (number_is (length nodes) id entry)
-          (subst (λ (k : ℕ). IsNodeAt layout width (nodes ++ n ∷ []) k a (length nodes)) (sym e)
-          (subst
-          (λ (k : ℕ). IsNodeAt layout width (nodes ++ n ∷ []) (cell_number width (state_of layout n).cell)
-          k (length nodes)) (sym f) last_at))
+          let entry : suc (length nodes) ≡ suc id = sym p.here ∙ (rw (e, f) at h) in
+          rw (e, f, ← number_is (length nodes) id entry) last_at
       elsewhere c a id h (inl e) (inr g) =
           lifted c a id (x.nowhere_else c a id (sym (p.others c a (λ q. g q.1)) ∙ h))
       elsewhere c a id h (inr g) f =
