@@ -46,10 +46,10 @@ no_entry heads c a = by_test (nat_lt a 9)
     by_test false = refl
 
 -- the index of no nodes
-pub exact_blank : (layout : Layout) (width : ℕ) (heads : List ℕ) → AreReset layout heads
+pub exact_blank : (layout : Layout) {width : ℕ} {heads : List ℕ} → AreReset layout heads
     → IsExact layout width [] heads []
-exact_blank ByCell width heads b = grind (arith, nat_tests, common_steps, blank_head)
-exact_blank ByArrival width heads b = record {
+exact_blank ByCell {width} {heads} b = grind (arith, nat_tests, common_steps, blank_head)
+exact_blank ByArrival {width} {heads} b = record {
   heads_are = record {
     linked = record {
       lead = λ q r x y g h l e. absurd (cc);
@@ -73,7 +73,7 @@ pub one_placed : (width places : ℕ) (s t : State) → IsPlaced width places s.
 one_placed width places s t a b e f =
     same_state s t (one_cell width s.cell t.cell a.column b.column e) (one_arrival s.arrival t.arrival f)
 
-module _ (layout : Layout) (width : ℕ) (nodes : List Node) (heads : List ℕ) (records : List Record)
+module _ {layout : Layout} {width : ℕ} {nodes : List Node} {heads : List ℕ} {records : List Record}
     (x : IsExact layout width nodes heads records) where
   -- what the index has for a state is what is looked up
   pub entry_found : (s : State) → IsPlaced width (length heads) s.cell
@@ -100,14 +100,14 @@ module _ (layout : Layout) (width : ℕ) (nodes : List Node) (heads : List ℕ) 
           (sym f.state) ∙ x.found id f.node f.node_is
 
   -- with one node more, put at its state
-  pub exact_added : (n : Node) (later_heads : List ℕ) (later_records : List Record)
+  pub exact_added : (n : Node) {later_heads : List ℕ} {later_records : List Record}
       → IsPut layout heads later_heads records later_records (cell_number width (state_of layout n).cell)
       (arrival_number (state_of layout n).arrival) (suc (length nodes))
       → IsPlaced width (length heads) (state_of layout n).cell
       → lookup layout nodes (state_of layout n) ≡ None
       → length later_records ≡ records_for layout (suc (length nodes))
       → IsExact layout width (nodes ++ n ∷ []) later_heads later_records
-  exact_added n later_heads later_records p placed none l = record {
+  exact_added n {later_heads} {later_records} p placed none l = record {
     heads_are = p.heads_are;
     each = l ∙ ap (λ (k : ℕ). records_for layout k) (sym longer);
     inside = λ id m h. inside m (elim (got-added nodes n id m h) [
@@ -158,25 +158,17 @@ module _ (layout : Layout) (width : ℕ) (nodes : List Node) (heads : List ℕ) 
           ⊎ (a ≡ arrival_number (state_of layout n).arrival → ⊥)
           → IsNodeAt layout width (nodes ++ n ∷ []) c a id
       elsewhere c a id h (inl e) (inl f) =
-          let entry : suc (length nodes) ≡ suc id = sym p.here
-          ∙ ap (λ (k : ℕ). entry_in layout later_heads later_records k
-          (arrival_number (state_of layout n).arrival))
-          (sym e) ∙ ap (λ (k : ℕ). entry_in layout later_heads later_records c k) (sym f) ∙ h in
-          subst (λ (k : ℕ). IsNodeAt layout width (nodes ++ n ∷ []) c a k)
-          (number_is (length nodes) id entry)
-          (subst (λ (k : ℕ). IsNodeAt layout width (nodes ++ n ∷ []) k a (length nodes)) (sym e)
-          (subst
-          (λ (k : ℕ). IsNodeAt layout width (nodes ++ n ∷ []) (cell_number width (state_of layout n).cell)
-          k (length nodes)) (sym f) last_at))
+          let entry : suc (length nodes) ≡ suc id = sym p.here ∙ (rw (e, f) at h) in
+          rw (e, f, ← number_is (length nodes) id entry) last_at
       elsewhere c a id h (inl e) (inr g) =
           lifted c a id (x.nowhere_else c a id (sym (p.others c a (λ q. g q.1)) ∙ h))
       elsewhere c a id h (inr g) f =
           lifted c a id (x.nowhere_else c a id (sym (p.others c a (λ q. g q.0)) ∙ h))
 
   -- with another node of the same state in the place of one
-  pub exact_replaced : (id : ℕ) (old n : Node) → slice_get nodes id ≡ Some old
+  pub exact_replaced : (id : ℕ) {old : Node} (n : Node) → slice_get nodes id ≡ Some old
       → state_of layout old ≡ state_of layout n → IsExact layout width (slice_set nodes id n) heads records
-  exact_replaced id old n h e = record {
+  exact_replaced id {old} n h e = record {
     heads_are = x.heads_are;
     each = x.each ∙ ap (λ (k : ℕ). records_for layout k) (sym (length-set nodes id n));
     inside = λ j m g. grind (arith, nat_tests, common_steps, got-set);

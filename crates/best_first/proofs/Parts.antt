@@ -25,13 +25,10 @@ blank_reset ByCell heads b = b
 blank_reset ByArrival heads b = record {}
 
 -- with no node
-pub parts_blank : (layout : Layout) (width : ℕ) (nodes : List Node) (heads : List ℕ) (records : List Record)
+pub parts_blank : (layout : Layout) {width : ℕ} {nodes : List Node} {heads : List ℕ} {records : List Record}
     → AreReset layout heads → nodes ≡ [] → records ≡ [] → length heads ≤ 16777216
     → AreParts layout width nodes heads records
-parts_blank layout width nodes heads records b n r l = record {
-  exact = rw (n, r) (exact_blank layout width heads b);
-  few_cells = l;
-}
+parts_blank layout b n r l = record { exact = rw (n, r) (exact_blank layout b); few_cells = l }
 
 -- the state of a node whose place is that of a state
 pub node_state : (layout : Layout) (width places : ℕ) (n : Node) (s : State) → width ≤ 4096
@@ -44,67 +41,57 @@ seen_cell : (layout : Layout) (width places : ℕ) (s : State) → IsPlaced widt
     → IsPlaced width places (state_in layout s).cell
 seen_cell layout width places s p = subst (λ (c : Cell). IsPlaced width places c) (sym (in_cell layout s)) p
 
--- with one node more
-pub parts_added : (layout : Layout) (width : ℕ) (nodes after : List Node) (heads later_heads : List ℕ)
-    (records later_records : List Record) (n : Node) (s : State) (entry : ℕ)
-    → AreParts layout width nodes heads records → width ≤ 4096 → IsPlaced width (length heads) s.cell
-    → n.place ≡ place_of s → lookup layout nodes (state_in layout s) ≡ None → after ≡ nodes ++ n ∷ []
-    → entry ≡ suc (length nodes)
-    → IsPut layout heads later_heads records later_records (cell_number width s.cell)
-    (arrival_number (state_in layout s).arrival) entry
-    → length later_records ≡ records_for layout entry
-    → AreParts layout width after later_heads later_records
-parts_added layout width nodes after heads later_heads records later_records n s entry a narrow p place
-    new after_is
-    entry_is put l =
-    let state : state_of layout n ≡ state_in layout s =
-    node_state layout width (length heads) n s narrow p place in
-    let at_state : IsPut layout heads later_heads records later_records
-    (cell_number width (state_of layout n).cell) (arrival_number (state_of layout n).arrival)
-    (suc (length nodes)) = rw (← entry_is) (rw (state, in_cell layout s) put) in
-    record {
-      exact = rw after_is (exact_added layout width nodes heads records a.exact n later_heads
-          later_records at_state
-          (rw state (seen_cell layout width (length heads) s p)) (rw state new)
-          (l ∙ ap (λ (k : ℕ). records_for layout k) entry_is));
-      few_cells = (let e = put.as_many in let f = a.few_cells in omega arith);
-    }
+module _ {layout : Layout} {width : ℕ} {nodes : List Node} {heads : List ℕ} {records : List Record}
+    (a : AreParts layout width nodes heads records) where
+  -- with one node more
+  pub parts_added : (n : Node) (s : State) {after : List Node} {later_heads : List ℕ} {later_records : List Record}
+      {entry : ℕ} → width ≤ 4096 → IsPlaced width (length heads) s.cell
+      → n.place ≡ place_of s → lookup layout nodes (state_in layout s) ≡ None → after ≡ nodes ++ n ∷ []
+      → entry ≡ suc (length nodes)
+      → IsPut layout heads later_heads records later_records (cell_number width s.cell)
+      (arrival_number (state_in layout s).arrival) entry
+      → length later_records ≡ records_for layout entry
+      → AreParts layout width after later_heads later_records
+  parts_added n s {after} {later_heads} {later_records} {entry} narrow p place new after_is entry_is put l =
+      let state : state_of layout n ≡ state_in layout s =
+      node_state layout width (length heads) n s narrow p place in
+      let at_state : IsPut layout heads later_heads records later_records
+      (cell_number width (state_of layout n).cell) (arrival_number (state_of layout n).arrival)
+      (suc (length nodes)) = rw (← entry_is) (rw (state, in_cell layout s) put) in
+      record {
+        exact = rw after_is (exact_added a.exact n at_state (rw state (seen_cell layout width (length heads) s p))
+            (rw state new) (l ∙ ap (λ (k : ℕ). records_for layout k) entry_is));
+        few_cells = (let e = put.as_many in let f = a.few_cells in omega arith);
+      }
 
--- with a node in the place of another of the same state
-pub parts_replaced : (layout : Layout) (width : ℕ) (nodes after : List Node) (heads : List ℕ)
-    (records : List Record) (id : ℕ) (n : Node) → AreParts layout width nodes heads records
-    → is_bettered nodes id n.key ≡ true
-    → ((old : Node) → slice_get nodes id ≡ Some old → state_of layout old ≡ state_of layout n)
-    → after ≡ slice_set nodes id n → AreParts layout width after heads records
-parts_replaced layout width nodes after heads records id n a t same after_is =
-    let b = bettered_node nodes id n.key t in
-    record {
-      exact = rw after_is (exact_replaced layout width nodes heads records a.exact id b.node n b.node_is
-          (same b.node b.node_is));
-      few_cells = a.few_cells;
-    }
+  -- with a node in the place of another of the same state
+  pub parts_replaced : (id : ℕ) (n : Node) {after : List Node} → is_bettered nodes id n.key ≡ true
+      → ((old : Node) → slice_get nodes id ≡ Some old → state_of layout old ≡ state_of layout n)
+      → after ≡ slice_set nodes id n → AreParts layout width after heads records
+  parts_replaced id n t same after_is =
+      let b = bettered_node nodes id n.key t in
+      record {
+        exact = rw after_is (exact_replaced a.exact id n b.node_is (same b.node b.node_is));
+        few_cells = a.few_cells;
+      }
 
--- there are no more records than nodes
-pub parts_fewer : (layout : Layout) (width : ℕ) (nodes : List Node) (heads : List ℕ) (records : List Record)
-    → AreParts layout width nodes heads records → length records ≤ length nodes
-parts_fewer ByCell width nodes heads records a = let e = a.exact.each in omega arith
-parts_fewer ByArrival width nodes heads records a = let e = a.exact.each in omega arith
+  -- there are no more records than nodes
+  pub parts_fewer : length records ≤ length nodes
+  parts_fewer = by_layout layout a.exact.each
+    where
+      by_layout : (l : Layout) → length records ≡ records_for l (length nodes) → length records ≤ length nodes
+      by_layout ByCell e = omega arith
+      by_layout ByArrival e = omega arith
 
--- there are fewer than 2^28 nodes, by far
-pub parts_few : (layout : Layout) (width : ℕ) (nodes : List Node) (heads : List ℕ) (records : List Record)
-    → AreParts layout width nodes heads records → length nodes ≤ 150994944
-parts_few layout width nodes heads records a =
-    let n = few_nodes layout width nodes heads records a.exact in
-    let f = a.few_cells in
-    omega arith
+  -- there are fewer than 2^28 nodes, by far
+  pub parts_few : length nodes ≤ 150994944
+  parts_few = let n = few_nodes a.exact in let f = a.few_cells in omega arith
 
--- what the index has is what is looked up
-pub parts_found : (layout : Layout) (width : ℕ) (nodes : List Node) (heads : List ℕ) (records : List Record)
-    (s : State) → AreParts layout width nodes heads records → IsPlaced width (length heads) s.cell
-    → entry_in layout heads records (cell_number width s.cell) (arrival_number (state_in layout s).arrival)
-    ≡ entry_for (lookup layout nodes (state_in layout s))
-parts_found layout width nodes heads records s a p =
-    ap (λ (c : Cell). entry_in layout heads records (cell_number width c)
-    (arrival_number (state_in layout s).arrival)) (sym (in_cell layout s))
-    ∙ entry_found layout width nodes heads records a.exact (state_in layout s)
-    (seen_cell layout width (length heads) s p)
+  -- what the index has is what is looked up
+  pub parts_found : (s : State) → IsPlaced width (length heads) s.cell
+      → entry_in layout heads records (cell_number width s.cell) (arrival_number (state_in layout s).arrival)
+      ≡ entry_for (lookup layout nodes (state_in layout s))
+  parts_found s p =
+      ap (λ (c : Cell). entry_in layout heads records (cell_number width c)
+      (arrival_number (state_in layout s).arrival)) (sym (in_cell layout s))
+      ∙ entry_found a.exact (state_in layout s) (seen_cell layout width (length heads) s p)

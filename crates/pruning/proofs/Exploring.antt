@@ -38,13 +38,13 @@ use Rattle.pruning.proofs.Explaining.{turns_are_marked}
 abbrev pub beginning : Cell → Reached
 beginning s = record { state = start_state s; cost = no_cost }
 
--- a member is the first one or a member of the rest
-pub member_cases : (u x : Reached) (earlier : List Reached) → IsOneOf u (x ∷ earlier)
-    → (u ≡ x) ⊎ IsOneOf u earlier
-member_cases u _ _ (here _) = inl refl
-member_cases u _ _ (there _ _ m) = inr m
+-- what holds of the first one and of each of the rest holds of each
+pub each_of : (P : Reached → Type 0) (x : Reached) (earlier : List Reached) → P x
+    → ((u : Reached) → IsOneOf u earlier → P u) → (u : Reached) → IsOneOf u (x ∷ earlier) → P u
+each_of P _ _ h rest u (here _) = h
+each_of P _ _ h rest u (there _ _ m) = rest u m
 
-no_member : (u : Reached) → IsOneOf u [] → ⊥
+pub no_member : (u : Reached) → IsOneOf u [] → ⊥
 no_member u m = elim m [ ]
 
 begin_member : (g : GridData) (t s : Cell) (all : List Reached) → AreReached g t s all
@@ -58,17 +58,12 @@ reached_induction : (g : GridData) (t s : Cell) (all : List Reached) (P : Reache
     → ((p u : Reached) → IsOneOf p all → P p → LeadsTo g t p u → P u)
     → (list : List Reached) → ((u : Reached) → IsOneOf u list → IsOneOf u all) → AreReached g t s list
     → (u : Reached) → IsOneOf u list → P u
-reached_induction g t s all P h next _ sub begun u m = elim (member_cases u (beginning s) [] m) [
-  | inl e ↦ subst P (sym e) h
-  | inr n ↦ absurd (no_member u n)
-]
-reached_induction g t s all P h next _ sub (further x p earlier r i l) u m =
+reached_induction g t s all P h next _ sub begun =
+    each_of P (beginning s) [] h (λ v n. absurd (no_member v n))
+reached_induction g t s all P h next _ sub (further x p earlier r i l) =
     let before = λ (v : Reached) (n : IsOneOf v earlier). sub v (there x earlier n) in
     let rest = reached_induction g t s all P h next earlier before r in
-    elim (member_cases u x earlier m) [
-      | inl e ↦ subst P (sym e) (next p x (before p i) (rest p i) l)
-      | inr n ↦ rest u n
-    ]
+    each_of P x earlier (next p x (before p i) (rest p i) l) rest
 
 -- a cell is among them at no more than a cost, or not
 reached_or_not : (all : List Reached) (v : Cell) (c : Cost)
@@ -79,22 +74,21 @@ reached_or_not (x ∷ all) v c = elim (reached_or_not all v c) [
       (record { by = r.by; member = there x all r.member; cell = r.cell; no_more = r.no_more })
   | inr n ↦ by_test (is_same x.state.cell v)
       (λ h. by_test (is_less c x.cost)
-      (λ k. inr (λ r. elim (member_cases r.by x all r.member) [
-        | inl e ↦ not_both k (subst (λ (y : Reached). IsAtMost y.cost c) e r.no_more)
-        | inr m ↦ n (record { by = r.by; member = m; cell = r.cell; no_more = r.no_more })
-      ]))
+      (λ k. inr (neither n (λ e m. not_both k m)))
       (λ k. inl (record {
         by = x;
         member = here all;
         cell = is_same-cell x.state.cell v h;
         no_more = k;
       })))
-      (λ h. inr (λ r. elim (member_cases r.by x all r.member) [
-        | inl e ↦ differ h (subst (λ (y : Reached). y.state.cell ≡ v) e r.cell)
-        | inr m ↦ n (record { by = r.by; member = m; cell = r.cell; no_more = r.no_more })
-      ]))
+      (λ h. inr (neither n (λ e m. differ h e)))
 ]
   where
+    neither : (IsReachedAt all v c → ⊥) → (x.state.cell ≡ v → IsAtMost x.cost c → ⊥)
+        → IsReachedAt (x ∷ all) v c → ⊥
+    neither n h r = each_of (λ u. u.state.cell ≡ v → IsAtMost u.cost c → ⊥) x all h
+        (λ u m e k. n (record { by = u; member = m; cell = e; no_more = k })) r.by r.member r.cell r.no_more
+
     not_both : is_less c x.cost ≡ true → IsAtMost x.cost c → ⊥
     not_both h k = absurd (cc)
 
@@ -260,21 +254,20 @@ module _ (g : GridData) (s t : Cell) where
     pub no_more : (cost_of (p ∷ first ∷ left)).b ≤ count
 
 module _ (dropped : DroppedTurnsAreSwapped) (diagonals : DiagonalsGoFirst) (g : GridData) (s t : Cell) where
-  -- a next move that is not allowed after a jump swaps with it
-  turned_back : (p u : Reached) (v : Cell) (cells : List Cell) (e : Dir)
+  -- a next move after a jump is allowed, or swaps with it
+  allowed_or_swaps : (p u : Reached) (v : Cell) (cells : List Cell) (e : Dir)
       → CameTo g s t p.state.cell p.cost → (j : LeadsTo g t p u)
       → IsGood g s t u.state.cell u.cost (v ∷ cells) → Leads g u.state.cell v e
-      → is_allowed g u.state.cell u.state.arrival e ≡ false
-      → IsSwapped g p.state.cell v j.dir e j.moves
-  turned_back p u v cells e w j h l n =
-      dropped g t p.state.cell u.state.cell v j.dir e j.moves j.jump.first j.jump.reached
+      → (is_allowed g u.state.cell u.state.arrival e ≡ true) ⊎ IsSwapped g p.state.cell v j.dir e j.moves
+  allowed_or_swaps p u v cells e w j h l = by_test (is_allowed g u.state.cell u.state.arrival e) (λ a. inl a)
+      (λ n. inr (dropped g t p.state.cell u.state.cell v j.dir e j.moves j.jump.first j.jump.reached
       (leads_legal g u.state.cell v e l)
       (subst (λ (a : Arrival). is_allowed g u.state.cell a e ≡ false) j.jump.arrives n)
       (between g s t p.state.cell v p.cost (add_costs (run_cost j.dir j.moves) (dir_cost e)) cells w
       (good_walk g s t u.state.cell v u.cost cells h)
       (subst (λ (c : Cost). NoneCheaper g s t c)
       (back_total u.cost p.cost (run_cost j.dir j.moves) (move_cost u.state.cell v) (dir_cost e)
-      (cost_of (v ∷ cells)) j.priced (cost_there e u.state.cell v l.ahead_is)) h.least))
+      (cost_of (v ∷ cells)) j.priced (cost_there e u.state.cell v l.ahead_is)) h.least))))
 
   -- and so the cell that was jumped from is good with the diagonal move first
   swapped_good : (p v : Cell) (c total : Cost) (d e : Dir) (k : ℕ) (cells : List Cell) → CameTo g s t p c
@@ -312,15 +305,15 @@ module _ (dropped : DroppedTurnsAreSwapped) (diagonals : DiagonalsGoFirst) (g : 
       }
 
   back_good : (p u : Reached) (v : Cell) (cells : List Cell) (e : Dir)
-      → CameTo g s t p.state.cell p.cost → LeadsTo g t p u
+      → CameTo g s t p.state.cell p.cost → (j : LeadsTo g t p u)
       → IsGood g s t u.state.cell u.cost (v ∷ cells) → Leads g u.state.cell v e
-      → is_allowed g u.state.cell u.state.arrival e ≡ false
+      → IsSwapped g p.state.cell v j.dir e j.moves
       → IsGoodBefore g s t p.state.cell p.cost (cost_of (u.state.cell ∷ v ∷ cells)).b
-  back_good p u v cells e w j h l n =
+  back_good p u v cells e w j h l sw =
       let move = cost_there e u.state.cell v l.ahead_is in
       subst (λ (c : Cost). IsGoodBefore g s t p.state.cell p.cost (c.b + (cost_of (v ∷ cells)).b)) (sym move)
       (swapped_good p.state.cell v p.cost (add_costs u.cost (cost_of (u.state.cell ∷ v ∷ cells))) j.dir e
-      j.moves cells w (good_walk g s t u.state.cell v u.cost cells h) (turned_back p u v cells e w j h l n)
+      j.moves cells w (good_walk g s t u.state.cell v u.cost cells h) sw
       (back_total u.cost p.cost (run_cost j.dir j.moves) (move_cost u.state.cell v) (dir_cost e)
       (cost_of (v ∷ cells)) j.priced move) h.least)
 
@@ -336,14 +329,15 @@ module _ (dropped : DroppedTurnsAreSwapped) (diagonals : DiagonalsGoFirst) (g : 
 
     straight_after : (p u : Reached) → CameTo g s t p.state.cell p.cost → LeadsTo g t p u
         → AllowsStraight u
-    straight_after p u w j v cells e h l i = by_test (is_allowed g u.state.cell u.state.arrival e) (λ yes. yes)
-        (λ no. let sw = turned_back p u v cells e w j h l no in
-        let both = sym sw.diagonal ∙ i in absurd (cc))
+    straight_after p u w j v cells e h l i = elim (allowed_or_swaps p u v cells e w j h l) [
+      | inl may ↦ may
+      | inr sw ↦ (let both = sym sw.diagonal ∙ i in absurd (cc))
+    ]
 
     straight_allowed : (u : Reached) → IsOneOf u all → AllowsStraight u
-    straight_allowed u m = reached_induction g t s all AllowsStraight
+    straight_allowed = reached_induction g t s all AllowsStraight
         (λ v cells e h l i. leads_can g s v e l)
-        (λ p u i w j. straight_after p u (came p i) j) all (λ u i. i) r u m
+        (λ p u i w j. straight_after p u (came p i) j) all (λ u i. i) r
 
     module _ (not_goal : (u : Reached) → IsOneOf u all → u.state.cell ≢ t) (least : List Cell)
         (w : IsWalk g s t least) where
@@ -482,15 +476,18 @@ module _ (dropped : DroppedTurnsAreSwapped) (diagonals : DiagonalsGoFirst) (g : 
       diagonal_after : (n : ℕ) → IsShown n → (p u : Reached) → IsOneOf p all → IsShownAt n p
           → LeadsTo g t p u → IsShownAt n u
       diagonal_after n shown p u k before l v cells m h i j =
-          by_test (is_allowed g u.state.cell u.state.arrival h.rule.pruned.0)
-          (λ yes. diagonal_allowed n shown u v cells m h i j yes)
-          (λ no. let b = back_good p u v cells h.rule.pruned.0 (came p k) l h
-          (good_move g s t u.state.cell v u.cost cells h) no in
-          before b.first b.left k b.good b.diagonal (let few = b.no_more in omega arith))
+          let d = h.rule.pruned.0 in
+          let move = good_move g s t u.state.cell v u.cost cells h in
+          elim (allowed_or_swaps p u v cells d (came p k) l h move) [
+            | inl may ↦ diagonal_allowed n shown u v cells m h i j may
+            | inr sw ↦
+                let b = back_good p u v cells d (came p k) l h move sw in
+                before b.first b.left k b.good b.diagonal (let few = b.no_more in omega arith)
+          ]
 
       diagonal_shown : (n : ℕ) → IsShown n → (u : Reached) → IsOneOf u all → IsShownAt n u
-      diagonal_shown n shown u m = reached_induction g t s all (IsShownAt n) (diagonal_at_start n shown)
-          (λ p u i before l. diagonal_after n shown p u i before l) all (λ u i. i) r u m
+      diagonal_shown n shown = reached_induction g t s all (IsShownAt n) (diagonal_at_start n shown)
+          (diagonal_after n shown) all (λ u i. i) r
 
       -- with any move first, by the number of moves
       next_shown : (n : ℕ) → IsShown n → (most : ℕ) (u : Reached) (left : List Cell) → length left < most

@@ -1,27 +1,38 @@
 -- With one state for each cell a search that always takes a cell of a least sum ends right, however ties are
--- broken: sums never fall, so no taken cell is offered at less, and one state for each cell suffices.
-use Rattle.std.proofs.Common.{◌≡◌, ◌⊎◌, inl, inr, refl, ap, sym, ◌∙◌, subst, Bool, true, false, List, [], ◌∷◌}
+-- broken: sums never fall, so no taken cell is offered at less, and one state for each cell suffices. A cell is
+-- taken once, so it takes no more than the map has.
+use Rattle.std.proofs.lemmas.Bool.Decides.{nat_tests}
+use Rattle.std.proofs.lemmas.Grind.{common_steps}
+use Rattle.std.proofs.lemmas.List.{length-map}
+use Rattle.std.proofs.lemmas.Map.Steps.{length-le_from_distinct_below}
+use Rattle.std.proofs.Common.{◌≡◌, ℕ, ◌<◌, ◌≤◌, ◌*◌, ◌⊎◌, inl, inr, refl, ap, sym, ◌∙◌, subst, arith}
+use Rattle.std.proofs.Common.{Bool, true, false, List, [], ◌∷◌, eqb, map, length}
+use Rattle.std.specs.List.{AllByRecursion, IsDistinct, list_any}
 use Rattle.root2_cost.specs.declared.Cost.{Cost}
 use Rattle.root2_cost.specs.Sums.{add_costs}
 use Rattle.root2_cost.proofs.Most.{Most, Most-then, Most-same, Most-nothing, Most-add_left}
 use Rattle.root2_cost.proofs.Most.{Most-cancel_right}
 use Rattle.root2_cost.proofs.Sums.{add_costs-assoc, add_costs-no_cost_right}
 use Rattle.grid_moves.specs.declared.Cell.{Cell}
-use Rattle.grid_moves.specs.Grid.{GridData, is_free}
+use Rattle.grid_moves.specs.Grid.{GridData, cell_number, is_free}
 use Rattle.grid_moves.specs.Move.{is_same}
 use Rattle.grid_moves.specs.Points.{estimate}
 use Rattle.grid_moves.specs.Walk.{IsWalk, IsLeastWalk, NoWalk, cost_of}
 use Rattle.grid_moves.proofs.Consistent.{estimate_nothing, never_exceeds}
-use Rattle.grid_moves.proofs.Legal.{is_same-cell, is_same-itself}
+use Rattle.grid_moves.proofs.Legal.{free_inside, is_same-cell, is_same-itself}
+use Rattle.grid_moves.proofs.Places.{free_below, one_cell}
+use Rattle.grid_moves.proofs.Walks.{last_free}
+use Rattle.cost_waves.specs.Begin.{IsLeastCost}
 use Rattle.pruning.specs.Chain.{run_cost}
 use Rattle.pruning.specs.Explored.{Reached, IsOneOf, here, there, LeadsTo, AreReached, IsReachedAt, OffersMore}
 use Rattle.pruning.specs.Explored as explored
-use Rattle.pruning.proofs.Exploring.{beginning, member_cases, came_to, one_state_from}
+use Rattle.pruning.proofs.Exploring.{beginning, each_of, no_member, came_to, one_state_from}
 use Rattle.pruning.proofs.Running.{run_walked}
 use Rattle.pruning.proofs.Swapping.{dropped_turns_are_swapped, diagonals_go_first}
 use Rattle.best_first.proofs.Links.{estimate_triangle}
+use Rattle.best_first.proofs.Numbers.{differ}
 use Rattle.search_core.specs.AnyTies.{sum_of, HasCell, IsOffered, IsLeastOffered, AreTaken, begun, further}
-use Rattle.search_core.specs.AnyTies.{IsLeastCost, AnyTiesEndRight}
+use Rattle.search_core.specs.AnyTies.{AnyTiesEndRight}
 use Rattle.search_core.proofs.Links.{allowed_free_at, moved_cost}
 use Rattle.search_core.proofs.Right.{least_or_none, HasLeastWalk, by_walk, by_none}
 
@@ -34,13 +45,11 @@ has_cell (x ∷ all) v = by_test (is_same x.state.cell v) refl (has_cell all v)
         → HasCell (x ∷ all) v ⊎ (¬ HasCell (x ∷ all) v)
     by_test true e rest = inl (record { by = x; member = here all; is = is_same-cell x.state.cell v e })
     by_test false e (inl h) = inl (record { by = h.by; member = there x all h.member; is = h.is })
-    by_test false e (inr n) = inr (λ h. elim (member_cases h.by x all h.member) [
-      | inl same ↦ differ e (subst (λ (y : Reached). y.state.cell ≡ v) same h.is)
-      | inr m ↦ n (record { by = h.by; member = m; is = h.is })
-    ])
+    by_test false e (inr n) = inr (λ h. each_of (λ u. u.state.cell ≡ v → ⊥) x all (apart e)
+        (λ u m at. n (record { by = u; member = m; is = at })) h.by h.member h.is)
       where
-        differ : is_same x.state.cell v ≡ false → x.state.cell ≡ v → ⊥
-        differ f e =
+        apart : is_same x.state.cell v ≡ false → x.state.cell ≡ v → ⊥
+        apart f e =
             let same = subst (λ (y : Cell). is_same x.state.cell y ≡ true) e (is_same-itself x.state.cell) in
             absurd (cc)
 
@@ -102,37 +111,32 @@ module _ (g : GridData) (s t : Cell) where
       let least : Most (sum_of t x) (sum_of t y) =
       record { is = o.least y (record { by = u; member = m; leads = l; fresh = n.0 }) } in
       elim (has_cell (x ∷ w ∷ before) y.state.cell) [
-        | inl h ↦ elim (member_cases h.by x (w ∷ before) h.member) [
-          | inl same ↦
-              let at : x.state.cell ≡ y.state.cell = ap (λ (v : Reached). v.state.cell) (sym same) ∙ h.is in
-              inl (record {
-                by = x;
-                member = here (w ∷ before);
-                cell = at;
-                no_more = (same_place t x y at least).is;
-              })
-          | inr k ↦ absurd (n.0 (record { by = h.by; member = k; is = h.is }))
-        ]
+        | inl h ↦ each_of (λ u. u.state.cell ≡ y.state.cell → IsKept x (x ∷ w ∷ before) y) x (w ∷ before)
+            (λ at. inl (record {
+              by = x;
+              member = here (w ∷ before);
+              cell = at;
+              no_more = (same_place t x y at least).is;
+            })) (λ u k at. absurd (n.0 (record { by = u; member = k; is = at }))) h.by h.member h.is
         | inr k ↦ inr (k, least)
       ]
 
+  -- with one more of a sum that none before exceeds
+  with_latest : (x : Reached) (earlier : List Reached)
+      → ((u : Reached) → IsOneOf u earlier → Most (sum_of t u) (sum_of t x))
+      → ((u : Reached) → IsOneOf u earlier → (y : Reached) → LeadsTo g t u y → IsKept x (x ∷ earlier) y)
+      → AreKept x earlier
+  with_latest x earlier below kept =
+      let rises = each_of (λ u. Most (sum_of t u) (sum_of t x)) x earlier (Most-same refl) below in
+      record {
+        rises = rises;
+        offers = λ u y m. each_of (λ v. (z : Reached) → LeadsTo g t v z → IsKept x (x ∷ earlier) z) x earlier
+            (λ z. by_latest x z earlier rises) kept u m y;
+      }
+
   are_kept : (x : Reached) (earlier : List Reached) → AreTaken g t s (x ∷ earlier) → AreKept x earlier
-  are_kept _ _ begun = alone (beginning s)
-    where
-      alone : (x : Reached) → AreKept x []
-      alone x =
-          let rises : (u : Reached) → IsOneOf u (x ∷ []) → Most (sum_of t u) (sum_of t x) =
-          λ u m. elim (member_cases u x [] m) [
-            | inl e ↦ Most-same (ap (λ (v : Reached). sum_of t v) e)
-            | inr n ↦ absurd (elim n [ ])
-          ] in
-          record {
-            rises = rises;
-            offers = λ u y m l. elim (member_cases u x [] m) [
-              | inl e ↦ by_latest x y [] rises (subst (λ (v : Reached). LeadsTo g t v y) e l)
-              | inr n ↦ absurd (elim n [ ])
-            ];
-          }
+  are_kept _ _ begun =
+      with_latest (beginning s) [] (λ u m. absurd (no_member u m)) (λ u m. absurd (no_member u m))
   are_kept _ _ (further x [] a n o) = elim a [ ]
   are_kept _ _ (further x (w ∷ before) a n o) =
       let k = are_kept w before a in
@@ -141,18 +145,8 @@ module _ (g : GridData) (s t : Cell) where
         | inl r ↦ absurd (o.offered.fresh (record { by = r.by; member = r.member; is = r.cell }))
         | inr m ↦ m.1
       ] in
-      let rises : (u : Reached) → IsOneOf u (x ∷ w ∷ before) → Most (sum_of t u) (sum_of t x) =
-      λ u m. elim (member_cases u x (w ∷ before) m) [
-        | inl e ↦ Most-same (ap (λ (v : Reached). sum_of t v) e)
-        | inr m ↦ Most-then (k.rises u m) last
-      ] in
-      record {
-        rises = rises;
-        offers = λ u y m l. elim (member_cases u x (w ∷ before) m) [
-          | inl e ↦ by_latest x y (w ∷ before) rises (subst (λ (v : Reached). LeadsTo g t v y) e l)
-          | inr m ↦ by_earlier w x y u before o m l (k.offers u y m l)
-        ];
-      }
+      with_latest x (w ∷ before) (λ u m. Most-then (k.rises u m) last)
+      (λ u m y l. by_earlier w x y u before o m l (k.offers u y m l))
 
   are_reached : (taken : List Reached) → AreTaken g t s taken → AreReached g t s taken
   are_reached _ begun = explored.begun
@@ -188,21 +182,18 @@ module _ (g : GridData) (s t : Cell) where
   taken_most : (taken : List Reached) (x : Reached) (cells : List Cell) → is_free g s ≡ true
       → AreTaken g t s taken → IsOneOf x taken → x.state.cell ≡ t → IsLeastWalk g s t cells
       → Most x.cost (cost_of (s ∷ cells))
-  taken_most _ x cells free begun m e least = elim (member_cases x (beginning s) [] m) [
-    | inl same ↦ Most-then (Most-same (ap (λ (v : Reached). v.cost) same)) (Most-nothing (cost_of (s ∷ cells)))
-    | inr n ↦ absurd (elim n [ ])
-  ]
-  taken_most _ x cells free (further y earlier a n o) m e least = elim (member_cases x y earlier m) [
-    | inl same ↦
-        let w = offers_within earlier cells free a n least in
-        let at : y.state.cell ≡ t = ap (λ (v : Reached). v.state.cell) (sym same) ∙ e in
-        let alone : sum_of t y ≡ y.cost =
-        ap (λ (c : Cell). add_costs y.cost (estimate c t)) at
-        ∙ ap (λ (c : Cost). add_costs y.cost c) (estimate_nothing t) ∙ add_costs-no_cost_right y.cost in
-        Most-then (Most-same (ap (λ (v : Reached). v.cost) same ∙ sym alone))
-        (Most-then (record { is = o.least w.to w.offered }) w.most)
-    | inr k ↦ absurd (n (record { by = x; member = k; is = e }))
-  ]
+  taken_most _ x cells free begun m e least =
+      each_of (λ u. Most u.cost (cost_of (s ∷ cells))) (beginning s) []
+      (Most-nothing (cost_of (s ∷ cells))) (λ u k. absurd (no_member u k)) x m
+  taken_most _ x cells free (further y earlier a n o) m e least =
+      each_of (λ u. u.state.cell ≡ t → Most u.cost (cost_of (s ∷ cells))) y earlier
+      (λ at.
+      let w = offers_within earlier cells free a n least in
+      let alone : sum_of t y ≡ y.cost =
+      ap (λ (c : Cell). add_costs y.cost (estimate c t)) at
+      ∙ ap (λ (c : Cost). add_costs y.cost c) (estimate_nothing t) ∙ add_costs-no_cost_right y.cost in
+      Most-then (Most-same (sym alone)) (Most-then (record { is = o.least w.to w.offered }) w.most))
+      (λ u k at. absurd (n (record { by = u; member = k; is = at }))) x m e
 
   least_cost : (taken : List Reached) (x : Reached) → is_free g s ≡ true → AreTaken g t s taken
       → IsOneOf x taken → x.state.cell ≡ t → HasLeastWalk g s t → IsLeastCost g s t x.cost
@@ -230,8 +221,58 @@ module _ (g : GridData) (s t : Cell) where
         let w = offers_within taken cells free a n least in absurd (nothing w.to w.offered)
   ]
 
+  abbrev number : Reached → ℕ
+  number u = cell_number g.width u.state.cell
+
+  abbrev AreFree : List Reached → Type 0
+  AreFree all = (u : Reached) → IsOneOf u all → is_free g u.state.cell ≡ true
+
+  all_free : (taken : List Reached) → is_free g s ≡ true → AreTaken g t s taken → AreFree taken
+  all_free taken free a u m =
+      let came = came_to g s t taken free (are_reached taken a) u m in
+      subst (λ (c : Cell). is_free g c ≡ true) came.goes.ends (last_free g s came.cells came.goes.legal)
+
+  -- what is offered anew has a number that none of the taken has
+  own_number : (x : Reached) (all : List Reached) → is_free g x.state.cell ≡ true → AreFree all
+      → ¬ HasCell all x.state.cell → AllByRecursion (λ n. eqb (number x) n ≡ false) (map number all)
+  own_number x [] free each n = tt
+  own_number x (u ∷ all) free each n = (
+    differ (number x) (number u) (λ e. n (record {
+      by = u;
+      member = here all;
+      is = sym (one_cell g.width x.state.cell u.state.cell (free_inside g x.state.cell free).0
+          (free_inside g u.state.cell (each u (here all))).0 e);
+    })),
+    own_number x all free (λ v m. each v (there u all m))
+        (λ h. n (record { by = h.by; member = there u all h.member; is = h.is })),
+  )
+
+  apart : (taken : List Reached) → AreFree taken → AreTaken g t s taken → IsDistinct eqb (map number taken)
+  unfolding IsDistinct
+  apart _ free begun = (tt, tt)
+  apart _ free (further x earlier a n o) = (
+    own_number x earlier (free x (here earlier)) (λ u m. free u (there x earlier m)) o.offered.fresh,
+    apart earlier (λ u m. free u (there x earlier m)) a,
+  )
+
+  below : (all : List Reached) → AreFree all → (q : ℕ) → list_any (eqb q) (map number all) ≡ true
+      → q < g.height * g.width
+  below [] free q h = absurd (cc)
+  below (x ∷ all) free q h =
+      let first = free_below g x.state.cell (free x (here all)) in
+      grind (arith, nat_tests, common_steps, below all (λ u m. free u (there x all m)) q)
+
+  few : (taken : List Reached) → is_free g s ≡ true → AreTaken g t s taken
+      → length taken ≤ g.height * g.width
+  few taken free a =
+      let each = all_free taken free a in
+      subst (λ (n : ℕ). n ≤ g.height * g.width) (length-map taken number)
+      (length-le_from_distinct_below (map number taken) (g.height * g.width) (apart taken each a)
+      (below taken each))
+
 pub any_ties_end_right : AnyTiesEndRight
 any_ties_end_right g s t taken free a = record {
   found = λ x m e. least_cost g s t taken x free a m e (least_or_none g s t free);
   exhausted = λ n nothing. no_walk g s t taken free a n nothing (least_or_none g s t free);
+  few = few g s t taken free a;
 }

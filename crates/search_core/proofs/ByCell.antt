@@ -1,11 +1,12 @@
 -- With one state for each cell the run of jumps misses no least walk: it is a search that always takes a cell of
 -- a least sum, and every such search ends right.
 use Rattle.std.proofs.Common.{◌≡◌, ℕ, inl, inr, refl, ap, sym, ◌∙◌, subst, true, false, List, [], ◌∷◌}
-use Rattle.std.specs.Prelude.{Some, None, map}
+use Rattle.std.specs.Prelude.{Option, Some, None, map, reverse}
 use Rattle.root2_cost.specs.declared.Cost.{Cost}
 use Rattle.root2_cost.specs.Sums.{add_costs, no_cost}
 use Rattle.root2_cost.proofs.Most.{Most-then, Most-same, Most-add_right}
 use Rattle.grid_moves.specs.declared.Cell.{Cell}
+use Rattle.grid_moves.specs.declared.Dir.{Dir}
 use Rattle.grid_moves.specs.Grid.{GridData, is_free}
 use Rattle.grid_moves.specs.Move.{is_same}
 use Rattle.grid_moves.specs.Points.{estimate}
@@ -19,12 +20,14 @@ use Rattle.pruning.proofs.Stopping.{only_one_first_stop}
 use Rattle.search_run.specs.Run.{Rule, Taken, IsIn, IsNext, IsRun, has_goal, is_taken}
 use Rattle.search_run.specs.Run as run
 use Rattle.search_run.proofs.Leastness.{least_offer-from, no_goal, is_taken-member, relaxed, WaitsAt, or_false}
+use Rattle.path_points.specs.declared.points.Walk.{Walk}
+use Rattle.best_first.specs.declared.found.Found.{Found}
 use Rattle.best_first.specs.declared.state.Layout.TheVariants.{ByCell}
 use Rattle.best_first.specs.declared.state.State.{State}
-use Rattle.best_first.specs.State.{start_at, arrived_in}
-use Rattle.search_core.specs.AnyTies.{HasCell, IsOffered, IsLeastOffered, AreTaken, begun, further}
-use Rattle.search_core.specs.Answer.{IsFound, IsExhausted}
-use Rattle.search_core.specs.Jumps.{jump_rule}
+use Rattle.best_first.specs.State.{start_at, arrived_in, state_number}
+use Rattle.search_core.specs.AnyTies.{HasCell, IsOffered, IsLeastOffered, AreTaken, begun, further, IsBySuch}
+use Rattle.search_core.specs.Answer.{IsFound, IsExhausted, IsJumpRun}
+use Rattle.search_core.specs.Jumps.{come_in, come_to, jump_rule, state_at}
 use Rattle.search_core.proofs.AnyTies.{any_ties_end_right}
 use Rattle.search_core.proofs.Arrivals.{shown}
 use Rattle.search_core.proofs.Links.{step_is, link_step, jump_is_link, allowed_free, run_arrived_so, start_arrived}
@@ -172,11 +175,54 @@ module _ (g : GridData) (s t : Cell) where
       found_least_so ByCell g s t points cost taken free f
       (λ others o. Most-then (Most-same (sym l.priced)) (record { is = l.least.least others o }))
 
+  -- with the same numbers
+  same_number : (u : Taken State) → state_number g.width (arrived_in ByCell u.parent u.state)
+      ≡ state_number g.width (state_at (reached u).state)
+  same_number u = ap (λ (a : Option Dir). state_number g.width (record { cell = u.state.cell; arrival = a }))
+      (sym (back (shown ByCell u).arrival))
+    where
+      back : (a : Option Dir) → come_in (come_to a) ≡ a
+      back None = refl
+      back (Some d) = refl
+
+  same_numbers : (run : List (Taken State))
+      → map (λ u. state_number g.width (arrived_in ByCell u.parent u.state)) run
+      ≡ map (λ u. state_number g.width (state_at u.state)) (map reached run)
+  same_numbers [] = refl
+  same_numbers (x ∷ run) = rw (same_number x, same_numbers run) refl
+
+  -- and where it ends, such a search ends
+  pub by_such : (f : Found) → IsJumpRun ByCell g s t f → IsBySuch g s t f
+  by_such f is = by_walk f.walk is
+    where
+      by_walk : (o : Option Walk) → IsJumpRun ByCell g s t (record { walk = o; taken = f.taken })
+          → IsBySuch g s t (record { walk = o; taken = f.taken })
+      by_walk None x = record {
+        taken = map reached x.run;
+        are = are_taken x.run x.is_run;
+        numbered = x.numbered ∙ ap reverse (same_numbers x.run);
+        ended = record {
+          not_there = not_there x.run x.no_goal;
+          nothing = λ z o.
+              let w = offer_waits x.run x.is_run x.no_goal z o in
+              let e : Some w.offer ≡ None =
+              sym w.waits.offered ∙ x.none_waits (start_at z.state.cell) w.waits.untaken in absurd (cc);
+        };
+      }
+      by_walk (Some w) x = record {
+        taken = map reached (x.last ∷ x.earlier);
+        are = are_taken (x.last ∷ x.earlier) x.run;
+        numbered = x.numbered ∙ ap reverse (same_numbers (x.last ∷ x.earlier));
+        ended = record {
+          by = reached x.last;
+          member = here (map reached x.earlier);
+          is = x.at_goal;
+          priced = sym x.priced;
+        };
+      }
+
   -- or ends where no walk leads there
   pub cells_none : (taken : List ℕ) → is_free g s ≡ true → IsExhausted ByCell g s t taken → NoWalk g s t
   cells_none taken free x =
-      (any_ties_end_right g s t (map reached x.run) free (are_taken x.run x.is_run)).exhausted
-      (not_there x.run x.no_goal)
-      (λ z o. let w = offer_waits x.run x.is_run x.no_goal z o in
-      absurd (let e : Some w.offer ≡ None =
-      sym w.waits.offered ∙ x.none_waits (start_at z.state.cell) w.waits.untaken in cc))
+      let y = by_such (record { walk = None; taken = taken }) x in
+      (any_ties_end_right g s t y.taken free y.are).exhausted y.ended.not_there y.ended.nothing

@@ -21,10 +21,10 @@ counted_more : (most : Option MostSteps) (fewest n a b c : ℕ) → IsCounted mo
     → IsCounted most fewest 1 b c → IsCounted most fewest (suc n) a c
 counted_more most fewest n a b c h one = grind (arith, nat_tests, common_steps, within_then)
 
-pub counted_further : (most : Option MostSteps) (fewest : ℕ) (taken after : List ℕ) (a b c : ℕ)
+pub counted_further : {most : Option MostSteps} {fewest : ℕ} {taken after : List ℕ} {a b c : ℕ}
     → IsCountedSoFar most fewest taken a b → length after ≡ length taken + 1 → IsCounted most fewest 1 b c
     → IsCountedSoFar most fewest after a c
-counted_further most fewest taken after a b c h e one = record {
+counted_further {most} {fewest} {taken} {after} {a} {b} {c} h e one = record {
   gone_on = suc h.gone_on;
   one_more = (let f = h.one_more in omega arith);
   counted = counted_more most fewest h.gone_on a b c h.counted one;

@@ -26,10 +26,10 @@ use Rattle.best_first.specs.declared.state.State.{State}
 use Rattle.best_first.specs.State.{start_at}
 use Rattle.best_first.specs.Made.{found_of}
 use Rattle.best_first.proofs.Answering.{found_answers}
-use Rattle.search_core.specs.Jumps.{jump_links, jump_rule}
+use Rattle.search_core.specs.Jumps.{jump_links, jump_rule, state_at}
 use Rattle.search_core.specs.Answer.{IsFound, IsExhausted, IsJumpRun}
 use Rattle.search_core.proofs.Links.{jumps_are_links}
-use Rattle.search_core.proofs.Ways.{state_at, jumps_consistent, chain_linked, way}
+use Rattle.search_core.proofs.Ways.{jumps_consistent, chain_linked, way}
 
 -- the points of a run stand for a walk of its cost
 pub found_walk : (layout : Layout) (g : GridData) (s t : Cell) (points : List Cell) (cost : Cost)

@@ -40,14 +40,23 @@ use Rattle.search_core.proofs.Links.{shown_told, start_arrived}
 use Rattle.search_core.proofs.Offers.{fit, ways_in, all_allowed, all_dirs_offered, all_offered}
 use Rattle.search_core.proofs.Serving.{same_shape}
 
-module _ (layout : Layout) (Stands : GridData → Type 0) (s t : Cell) (g : GridData) (served : IsServed Stands s t g)
+-- the next state
+pub record HasNext (layout : Layout) (g : GridData) (s t : Cell) (id : ℕ) (node : Node) (k : Table)
+    (taken : List ℕ) : Type 0 where
+  pub has : HasTaken layout g.width t (jump_links layout g t) s id (closed_at id k)
+      (taken ++ state_number g.width (state_told node.place) ∷ [])
+  pub on : (node_cell node).x < g.width
+  pub row : (node_cell node).y < g.height
+
+module _ {layout : Layout} {Stands : GridData → Type 0} {s t : Cell} {g : GridData} (served : IsServed Stands s t g)
   where
     -- at the start
-    pub reached_first : (old new : SpaceData) (w : ℕ) (before taken : List ℕ) → IsGrid g → old.layout ≡ layout
+    pub reached_first : {old : SpaceData} (new : SpaceData) {w : ℕ} {before taken : List ℕ} → IsGrid g
+        → old.layout ≡ layout
         → HasPlaces g old → w ≡ g.width → new.layout ≡ old.layout → new.places ≡ old.places → new.width ≡ w
         → new.table ≡ begun t s → before ≡ [] → taken ≡ before ++ state_number w (start_at s) ∷ []
         → HasReached layout g s t 0 new taken
-    reached_first old new w before taken whole is_so places width kept as_many new_width table none numbers
+    reached_first {old} new {w} {before} {taken} whole is_so places width kept as_many new_width table none numbers
         = record {
           of = record {
             whole = whole;
@@ -65,12 +74,12 @@ module _ (layout : Layout) (Stands : GridData → Type 0) (s t : Cell) (g : Grid
         first = numbers ∙ ap (λ (ns : List ℕ). ns ++ state_number w (start_at s) ∷ []) none
             ∙ ap (λ (n : ℕ). state_number n (start_at s) ∷ []) width
 
-    module _ (at : ℕ) (space : SpaceData) (taken : List ℕ) (h : HasReached layout g s t at space taken) where
+    module _ {at : ℕ} {space : SpaceData} {taken : List ℕ} (h : HasReached layout g s t at space taken) where
       whole : IsGrid g
       whole = h.of.whole
 
       -- its node
-      module _ (n : Node) (read : slice_get space.table.nodes at ≡ Some n) where
+      module _ {n : Node} (read : slice_get space.table.nodes at ≡ Some n) where
         one_node : h.has.searching.node ≡ n
         one_node = same_Some _ _ (sym h.has.searching.node_is ∙ read)
 
@@ -111,10 +120,10 @@ module _ (layout : Layout) (Stands : GridData → Type 0) (s t : Cell) (g : Grid
         first_at = record { searching = h.has.searching; state = state_is; ranked = ranked }
 
         -- at its offers, with room made
-        pub offering_first : (mid : SpaceData) → KeepsShape space mid → mid.table ≡ space.table
+        pub offering_first : {mid : SpaceData} → KeepsShape space mid → mid.table ≡ space.table
             → IsOffering layout g s t (last_at t at n) mid
-        offering_first mid shape table = record {
-          of = same_shape layout g space mid h.of shape;
+        offering_first shape table = record {
+          of = same_shape h.of shape;
           latest = h.has.last;
           earlier = h.has.earlier;
           best = least_offer (jump_rule layout g t) h.has.earlier;
@@ -128,11 +137,11 @@ module _ (layout : Layout) (Stands : GridData → Type 0) (s t : Cell) (g : Grid
             (here h.has.earlier))
 
         -- after all its offers
-        pub has_offered : (k : Table) (dirs : List Dir)
+        pub has_offered : {k : Table} {dirs : List Dir}
             → dirs ≡ allowed_dirs g (state_told n.place).cell (come_to (state_told n.place).arrival)
             → k ≡ jumped layout g t (last_at t at n) dirs space.table → is_same (node_cell n) t ≡ false
             → HasOffered layout g.width t (jump_links layout g t) s at k taken
-        has_offered k dirs allowed table open_ended =
+        has_offered {k} {dirs} allowed table open_ended =
             let all = all_allowed g (state_told n.place).cell (come_to (state_told n.place).arrival) dirs
             allowed in
             all_offered layout g s t (last_at t at n) whole served.from served.to h.has.last h.has.earlier dirs all k
@@ -146,7 +155,7 @@ module _ (layout : Layout) (Stands : GridData → Type 0) (s t : Cell) (g : Grid
             h.has.numbered
 
       -- in code the node is read once room was made
-      module _ (mid : SpaceData) (shape : KeepsShape space mid) (table : mid.table ≡ space.table) (last : Last)
+      module _ {mid : SpaceData} (shape : KeepsShape space mid) (table : mid.table ≡ space.table) {last : Last}
           (told : (n : Node) → slice_get mid.table.nodes at ≡ Some n → last ≡ last_at t at n) where
         last_is : last ≡ last_at t at h.has.searching.node
         last_is = told h.has.searching.node
@@ -154,41 +163,34 @@ module _ (layout : Layout) (Stands : GridData → Type 0) (s t : Cell) (g : Grid
 
         pub offering_at : IsOffering layout g s t last mid
         offering_at = subst (λ (l : Last). IsOffering layout g s t l mid) (sym last_is)
-            (offering_first h.has.searching.node h.has.searching.node_is mid shape table)
+            (offering_first h.has.searching.node_is shape table)
 
         pub arrived_at : HasArrived g last.state
         arrived_at = subst (λ (l : Last). HasArrived g l.state) (sym last_is)
-            (state_arrived h.has.searching.node h.has.searching.node_is)
+            (state_arrived h.has.searching.node_is)
 
-        pub offered_at : (dirs : List Dir) (k : Table)
+        pub offered_at : {dirs : List Dir} {k : Table}
             → dirs ≡ allowed_dirs g last.state.cell (come_to last.state.arrival)
             → k ≡ jumped layout g t last dirs mid.table
             → ((n : Node) → slice_get space.table.nodes at ≡ Some n → is_same (node_cell n) t ≡ false)
             → HasOffered layout g.width t (jump_links layout g t) s at k taken
-        offered_at dirs k allowed jumps open_ended =
-            has_offered h.has.searching.node h.has.searching.node_is k dirs
+        offered_at {dirs} allowed jumps open_ended =
+            has_offered h.has.searching.node_is
             (allowed ∙ ap (λ (l : Last). allowed_dirs g l.state.cell (come_to l.state.arrival)) last_is)
             (jumps ∙ ap (λ (l : Last). jumped layout g t l dirs mid.table) last_is
             ∙ ap (λ (j : Table). jumped layout g t (last_at t at h.has.searching.node) dirs j) table)
             (open_ended h.has.searching.node h.has.searching.node_is)
 
     -- none waits
-    pub none_waits : (at : ℕ) (k : Table) (taken : List ℕ) → IsGrid g
+    pub none_waits : {at : ℕ} {k : Table} {taken : List ℕ} → IsGrid g
         → HasOffered layout g.width t (jump_links layout g t) s at k taken → NoneOpen k → IsExhausted layout g s t taken
-    none_waits at k taken whole o none =
+    none_waits whole o none =
         exhausted (fit layout g s t whole served.from served.to) o none
 
-    -- the next state
-    pub record HasNext (id : ℕ) (node : Node) (k : Table) (taken : List ℕ) : Type 0 where
-      pub has : HasTaken layout g.width t (jump_links layout g t) s id (closed_at id k)
-          (taken ++ state_number g.width (state_told node.place) ∷ [])
-      pub on : (node_cell node).x < g.width
-      pub row : (node_cell node).y < g.height
-
-    pub has_next : (at : ℕ) (k : Table) (taken : List ℕ) → IsGrid g
-        → HasOffered layout g.width t (jump_links layout g t) s at k taken → (id : ℕ) (node : Node)
-        → IsFirstNode k id → slice_get k.nodes id ≡ Some node → HasNext id node k taken
-    has_next at k taken whole o id node first read =
+    pub has_next : {at : ℕ} {k : Table} {taken : List ℕ} → IsGrid g
+        → HasOffered layout g.width t (jump_links layout g t) s at k taken → {id : ℕ} {node : Node}
+        → IsFirstNode k id → slice_get k.nodes id ≡ Some node → HasNext layout g s t id node k taken
+    has_next whole o {id} {node} first read =
         let has = next_taken (fit layout g s t whole served.from served.to) o id node first read
         (state_number g.width (state_told node.place))
         (λ p led. ap (λ (u : State). state_number g.width u)
@@ -206,19 +208,16 @@ module _ (layout : Layout) (Stands : GridData → Type 0) (s t : Cell) (g : Grid
           row = subst (λ (c : Cell). c.y < g.height) cell inside.1;
         }
 
-    pub reached_next : (id : ℕ) (node : Node) (old mid new : SpaceData) (before taken : List ℕ)
-        → IsSpaceOf layout g old
-        → KeepsShape old mid → KeepsShape mid new → HasNext id node mid.table before
+    pub reached_next : {id : ℕ} {node : Node} {mid new : SpaceData} {before taken : List ℕ}
+        → IsSpaceOf layout g mid → KeepsShape mid new → HasNext layout g s t id node mid.table before
         → new.table ≡ closed_at id mid.table
         → taken ≡ before ++ state_number g.width (state_told node.place) ∷ [] → HasReached layout g s t id new taken
-    reached_next id node old mid new before taken of shape shape_on next table numbers = record {
-      of = same_shape layout g mid new (same_shape layout g old mid of shape) shape_on;
-      has = subst (λ (k : Table). HasTaken layout g.width t (jump_links layout g t) s id k taken) (sym table)
-          (subst (λ (ns : List ℕ). HasTaken layout g.width t (jump_links layout g t) s id
-          (closed_at id mid.table) ns) (sym numbers) next.has);
+    reached_next {id} of shape next table numbers = record {
+      of = same_shape of shape;
+      has = rw (table, numbers) next.has;
     }
 
-    module _ (at : ℕ) (space : SpaceData) (taken : List ℕ) (h : HasReached layout g s t at space taken) where
+    module _ {at : ℕ} {space : SpaceData} {taken : List ℕ} (h : HasReached layout g s t at space taken) where
       -- the way back from the last state
       pub leads_back : HasBack t space.table.nodes at
       leads_back = has_back (fit layout g s t h.of.whole served.from served.to) h.has

@@ -2,7 +2,7 @@
 use Rattle.std.proofs.lemmas.Bool.Decides.{nat_tests}
 use Rattle.std.proofs.lemmas.Grind.{common_steps}
 use Rattle.std.proofs.Common.{arith, ◌≡◌, ℕ, refl, ap, sym, ◌∙◌, subst, true, false, List, [], ◌∷◌, ◌++◌}
-use Rattle.std.specs.Prelude.{Option, Some, None, map}
+use Rattle.std.specs.Prelude.{Some, map}
 use Rattle.std.proofs.lemmas.List.{map-append}
 use Rattle.root2_cost.specs.declared.Cost.{Cost}
 use Rattle.root2_cost.specs.Sums.{add_costs, no_cost}
@@ -11,7 +11,6 @@ use Rattle.grid_moves.specs.declared.Cell.{Cell}
 use Rattle.grid_moves.specs.declared.Dir.{Dir}
 use Rattle.grid_moves.specs.Grid.{GridData}
 use Rattle.pruning.specs.declared.Arrival.{Arrival}
-use Rattle.pruning.specs.declared.Arrival.TheVariants.{Start, By}
 use Rattle.pruning.specs.Allowed.{is_allowed}
 use Rattle.pruning.specs.Chain.{start_state, run_cost, IsJump, IsChain, stays, jumps, last_state}
 use Rattle.pruning.specs.Chain.{State as Stop}
@@ -25,22 +24,15 @@ use Rattle.best_first.specs.declared.state.State.{State}
 use Rattle.best_first.specs.State.{is_same_state, start_at, arrived_in}
 use Rattle.best_first.proofs.Links.{consistent}
 use Rattle.best_first.proofs.States.{is_same_state-state, is_same_state-itself}
-use Rattle.search_core.specs.Jumps.{come_to, jump_link, jump_links, jump_rule}
+use Rattle.search_core.specs.Jumps.{come_to, come_in, state_at, jump_link, jump_links, jump_rule}
 use Rattle.search_core.proofs.Arrivals.{shown}
 use Rattle.search_core.proofs.Links.{IsLink, step_is, jump_is_link, jumps_are_links, start_arrived}
 
--- a state of the search as chains have it, and back
+-- a state of the search as chains have it
 abbrev pub stop_of : State → Stop
 stop_of s = record { cell = s.cell; arrival = come_to s.arrival }
 
-abbrev arrived : Arrival → Option Dir
-arrived Start = None
-arrived (By d) = Some d
-
-abbrev pub state_at : Stop → State
-state_at s = record { cell = s.cell; arrival = arrived s.arrival }
-
-come_again : (a : Arrival) → come_to (arrived a) ≡ a
+come_again : (a : Arrival) → come_to (come_in a) ≡ a
 come_again a = grind (arith, nat_tests, common_steps)
 
 -- the estimate suits the rule of jumps
@@ -52,7 +44,7 @@ module _ (g : GridData) (goal : Cell) where
   jump_linked : (s u : Stop) (d : Dir) (k : ℕ) → IsJump g goal s u d k
       → jump_link g goal (state_at s) (state_at u) ≡ Some (run_cost d k)
   jump_linked s u d k j = jump_is_link g goal (state_at s) (state_at u) d k
-      (ap arrived j.arrives)
+      (ap come_in j.arrives)
       (subst (λ (a : Arrival). is_allowed g s.cell a d ≡ true) (sym (come_again s.arrival)) j.allowed)
       (sym (only_one_first_stop g goal s.cell d (Some k) j.first)) j.reached
 

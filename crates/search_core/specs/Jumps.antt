@@ -13,6 +13,7 @@ use Rattle.pruning.specs.declared.Arrival.{Arrival}
 use Rattle.pruning.specs.declared.Arrival.TheVariants.{Start, By}
 use Rattle.pruning.specs.Allowed.{is_allowed}
 use Rattle.pruning.specs.Chain.{run_cost}
+use Rattle.pruning.specs.Chain.{State as Stop}
 use Rattle.pruning.specs.First.{first_stop}
 use Rattle.pruning.specs.Marked.{run_end}
 use Rattle.search_run.specs.Run.{Rule}
@@ -26,6 +27,14 @@ use Rattle.best_first.specs.State.{start_at, state_in, arrived_in, is_seen, is_s
 abbrev pub come_to : Option Dir → Arrival
 come_to None = Start
 come_to (Some d) = By d
+
+-- a state of a chain of jumps as a search has it
+abbrev pub come_in : Arrival → Option Dir
+come_in Start = None
+come_in (By d) = Some d
+
+abbrev pub state_at : Stop → State
+state_at s = record { cell = s.cell; arrival = come_in s.arrival }
 
 -- what k moves in d from x cost, where they lead to v
 abbrev pub landing : GridData → Cell → Cell → Dir → ℕ → Option Cost

@@ -1,8 +1,8 @@
 //! Laws of the search over jumps: each is the contract of a call that does nothing.
 
 ghost use Rattle.best_first.specs.declared.state.Layout.{Layout};
-ghost use Rattle.best_first.specs.Answer.{AnswersAre, AnswersExist, RunsAreOne};
-ghost use Rattle.search_core.specs.AnyTies.{AnyTiesEndRight};
+ghost use Rattle.best_first.specs.Answer.{AnswersAre};
+ghost use Rattle.search_core.specs.AnyTies.{AnyTiesEndRight, RunsByCellAreSuch};
 ghost use Rattle.search_core.specs.Answer.{IsJumpRun, jump_found};
 ghost use Rattle.search_core.specs.Laws.{CostsFit, EstimateSuits, RunsAreRight};
 
@@ -12,23 +12,25 @@ pub fn answers_are_told()
     ensures { (layout : Layout) → AnswersAre (IsJumpRun layout) (jump_found layout) }
 {}
 
-/// From each free cell to each cell of a map there is an answer that is right and that of the jump
-/// engines' run: its run from there ends.
-pub fn answers_exist()
-    ensures { (layout : Layout) → AnswersExist (IsJumpRun layout) }
-{}
-
 /// What the run of the jump engines answers is right: a least walk, or none exactly where no walk
 /// exists. So it is with a state for each arrival at a cell, and with one state for each cell.
 pub fn runs_are_right()
     ensures { RunsAreRight }
 {}
 
-/// With one state for each cell it does not hang on how ties are broken: a search that always takes one of the
-/// cells of least sum, whichever, with one of the arrivals of that cost, whichever, takes the goal at the cost of
-/// a least walk, or ends where no walk leads there.
+/// With one state for each cell it does not hang on how ties are broken. Take a search from a free cell that
+/// always takes one of the cells that are offered at the least sum, whichever, with one of the arrivals of
+/// that cost, whichever. Where it takes the goal, that is at the cost of a least walk; where it did not and
+/// nothing is offered, no walk leads there; and it takes no more cells than the map has.
 pub fn any_ties_end_right()
     ensures { AnyTiesEndRight }
+{}
+
+/// The jump engines' run with one state for each cell is such a search, at its end: the answer shows what
+/// was taken, in order; a walk that it tells has the cost at which the goal was taken; and where it tells
+/// none, the goal was not taken and nothing is offered.
+pub fn runs_by_cell_are_such()
+    ensures { RunsByCellAreSuch }
 {}
 
 /// By either rule of states the octile estimate suits the run of the jump engines, so that its sums never fall
@@ -41,10 +43,4 @@ pub fn estimate_suits()
 /// each direction once.
 pub fn costs_fit()
     ensures { CostsFit }
-{}
-
-/// The jump engines' run from one cell to another is one: two answers that are their run have the same
-/// points, the same cost and the same taken states, whichever source found the jumps.
-pub fn runs_are_one()
-    ensures { (layout : Layout) → RunsAreOne (IsJumpRun layout) }
 {}

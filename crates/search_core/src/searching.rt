@@ -48,7 +48,7 @@ fn begin<J: JumpSource, M: Ledger>(
     ensures reached { OnOk result (OnEach (J.StandsFor j.now) query.from query.to
         (λ g. HasReached query.layout g query.from query.to 0 space.new taken.new)) }
     ensures layout { space.new.layout ≡ space.old.layout }
-    ensures places { OnEach (J.StandsFor j.now) query.from query.to (λ g. HasPlaces g space.new) }
+    ensures places { space.new.places ≡ space.old.places }
     ensures one { OnOk result (length taken.new ≡ 1) }
 {
     let width = j.width();
@@ -89,7 +89,7 @@ fn advance<J: JumpSource, L: Ledger, M: Ledger>(
     ensures one_more { IfOk result (λ next. IfSome next (λ id. length taken.new ≡ length taken.old + 1)) }
     ensures same { IfOk result (λ next. IfNone next (taken.new ≡ taken.old)) }
     ensures layout { space.new.layout ≡ space.old.layout }
-    ensures places { OnEach (J.StandsFor j.now) query.from query.to (λ g. HasPlaces g space.new) }
+    ensures places { space.new.places ≡ space.old.places }
     ensures counted { IfOk result (λ _. IsCounted (J.most j.now) (J.fewest j.now) 1 steps.old steps.new) }
 {
     space.reserve()?;
@@ -159,7 +159,7 @@ fn run<J: JumpSource, L: Ledger, M: Ledger>(
     ensures most { IfOk result (λ f. IsWithinTaken (J.most j.now) f steps.old steps.new) }
     ensures fewest { IfOk result (λ f. RoseByTaken (J.fewest j.now) f steps.old steps.new) }
     ensures layout { space.new.layout ≡ space.old.layout }
-    ensures places { OnEach (J.StandsFor j.now) query.from query.to (λ g. HasPlaces g space.new) }
+    ensures places { space.new.places ≡ space.old.places }
 {
     let mut taken = none_taken(alloc)?;
     begin(j, query, space, &mut taken, own)?;
@@ -197,7 +197,7 @@ fn run_counted<J: JumpSource, L: Ledger, M: Ledger>(
     ensures most { IfOk result (λ f. IsWithinTaken (J.most j.now) f steps.old steps.new) }
     ensures fewest { IfOk result (λ f. RoseByTaken (J.fewest j.now) f steps.old steps.new) }
     ensures layout { space.new.layout ≡ space.old.layout }
-    ensures places { OnEach (J.StandsFor j.now) query.from query.to (λ g. HasPlaces g space.new) }
+    ensures places { space.new.places ≡ space.old.places }
 {
     let mut own = Steps::<M>::new(blank);
     run(alloc, j, query, space, steps, &mut own)

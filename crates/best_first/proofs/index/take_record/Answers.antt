@@ -15,16 +15,6 @@ returns-clause-put c =
     c.latest_of-earlier.ensures
     ∙ ap (λ (rs : List Record). latest_of (slice_index_or heads c.args.cell 0) rs c.args.cell)
     c.as_slice.ensures.value in
-    let items : c.push_reserved.new.self.items ≡ records ++ latest heads records c.requires.records c.args.cell
-    c.args.arrival c.requires.within c.requires.small ∷ [] =
-    c.push_reserved.ensures.items
-    ∙ ap (λ (n : ℕ). records ++ record { tag = n; earlier = c.latest_of-earlier.result } ∷ []) c.tag_of.ensures
-    ∙ ap (λ (n : ℕ). records ++ record { tag = tag_of c.args.cell c.args.arrival; earlier = n } ∷ [])
-    earlier in
-    subst (λ (rs : List Record). IsPut ByArrival heads (slice_set heads c.args.cell c.args.entry) records rs
-    c.args.cell c.args.arrival c.args.entry) (sym items)
-    (subst (λ (e : ℕ). IsPut ByArrival heads (slice_set heads c.args.cell e) records
-    (records ++ latest heads records c.requires.records c.args.cell c.args.arrival c.requires.within
-    c.requires.small ∷ []) c.args.cell c.args.arrival e) (sym c.requires.next)
+    rw (c.push_reserved.ensures.items, c.tag_of.ensures, earlier, c.requires.next)
     (put_record heads records c.requires.records c.args.cell c.args.arrival c.requires.within
-    c.requires.small))
+    c.requires.small)

@@ -2,7 +2,7 @@ use Rattle.std.proofs.Common.{◌<◌, ◌^◌, sym, subst}
 use Rattle.best_first.specs.declared.node.Offer.{Offer}
 use Rattle.best_first.specs.Space.{IsPlaced}
 use Rattle.best_first.specs.Table.{ClosedBelow, node_for}
-use Rattle.search_core.proofs.Serving.{free_at, ready_on, jumped_on, stays_on}
+use Rattle.search_core.proofs.Serving.{free_there, ready_on, jumped_on, stays_on}
 use Rattle.search_core.proofs.jumping.offer_jump.Goals as goal
 
 pub stop-requires : goal.stop-requires
@@ -11,60 +11,45 @@ stop-requires g c =
     let served = c.requires.some.1 in (
       x,
       served.stands,
-      free_at (g.J.JumpSource.StandsFor c.args.j.now) c.args.query.from c.args.query.to c.args.last c.args.d
-          c.requires.allowed x served,
+      free_there c.requires.offering c.args.d c.requires.allowed x served,
       served.to,
     )
 
 pub offer_after-requires-clause-column : goal.offer_after-requires-clause-column
 offer_after-requires-clause-column g c =
-    (ready_on _ (g.J.JumpSource.StandsFor c.args.j.now) c.args.query.from c.args.query.to c.args.last c.args.d
-    c.requires.allowed c.args.space.now c.in-Some.k c.requires.some c.requires.offering
-    (record { first = c.in-Some.ensures.first })).1.column
+    (ready_on c.requires.offering c.args.d c.requires.allowed c.requires.some c.in-Some.k
+    c.in-Some.ensures.first).1.column
 
 pub offer_after-requires-clause-row : goal.offer_after-requires-clause-row
 offer_after-requires-clause-row g c =
-    (ready_on _ (g.J.JumpSource.StandsFor c.args.j.now) c.args.query.from c.args.query.to c.args.last c.args.d
-    c.requires.allowed c.args.space.now c.in-Some.k c.requires.some c.requires.offering
-    (record { first = c.in-Some.ensures.first })).1.row
+    (ready_on c.requires.offering c.args.d c.requires.allowed c.requires.some c.in-Some.k
+    c.in-Some.ensures.first).1.row
 
 pub offer_after-requires-clause-rank : goal.offer_after-requires-clause-rank
 offer_after-requires-clause-rank g c =
-    (ready_on _ (g.J.JumpSource.StandsFor c.args.j.now) c.args.query.from c.args.query.to c.args.last c.args.d
-    c.requires.allowed c.args.space.now c.in-Some.k c.requires.some c.requires.offering
-    (record { first = c.in-Some.ensures.first })).1.rank
+    (ready_on c.requires.offering c.args.d c.requires.allowed c.requires.some c.in-Some.k
+    c.in-Some.ensures.first).1.rank
 
 pub offer-requires-clause-placed : goal.offer-requires-clause-placed
 offer-requires-clause-placed g c =
-    subst (λ (o : Offer). IsPlaced c.args.space.now.width c.args.space.now.places o.to.cell)
-    (sym c.offer_after.ensures)
-    (ready_on _ (g.J.JumpSource.StandsFor c.args.j.now) c.args.query.from c.args.query.to c.args.last c.args.d
-    c.requires.allowed c.args.space.now c.in-Some.k c.requires.some c.requires.offering
-    (record { first = c.in-Some.ensures.first })).1.placed
+    rw c.offer_after.ensures (ready_on c.requires.offering c.args.d c.requires.allowed c.requires.some
+    c.in-Some.k c.in-Some.ensures.first).1.placed
 
 pub offer-requires-clause-fits : goal.offer-requires-clause-fits
 offer-requires-clause-fits g c =
-    subst (λ (o : Offer). o.rank < 2 ^ 63) (sym c.offer_after.ensures)
-    (ready_on _ (g.J.JumpSource.StandsFor c.args.j.now) c.args.query.from c.args.query.to c.args.last c.args.d
-    c.requires.allowed c.args.space.now c.in-Some.k c.requires.some c.requires.offering
-    (record { first = c.in-Some.ensures.first })).1.rank
+    rw c.offer_after.ensures (ready_on c.requires.offering c.args.d c.requires.allowed c.requires.some
+    c.in-Some.k c.in-Some.ensures.first).1.rank
 
 pub offer-requires-clause-closed : goal.offer-requires-clause-closed
 offer-requires-clause-closed g c =
-    subst (λ (o : Offer). ClosedBelow (node_for c.args.query.to o).key c.args.space.now.table)
-    (sym c.offer_after.ensures)
-    (ready_on _ (g.J.JumpSource.StandsFor c.args.j.now) c.args.query.from c.args.query.to c.args.last c.args.d
-    c.requires.allowed c.args.space.now c.in-Some.k c.requires.some c.requires.offering
-    (record { first = c.in-Some.ensures.first })).1.closed
+    rw c.offer_after.ensures (ready_on c.requires.offering c.args.d c.requires.allowed c.requires.some
+    c.in-Some.k c.in-Some.ensures.first).1.closed
 
 pub returns-in-Some-clause-jumped : goal.returns-in-Some-clause-jumped
 returns-in-Some-clause-jumped g c =
-    jumped_on _ (g.J.JumpSource.StandsFor c.args.j.now) c.args.query.from c.args.query.to c.args.last c.args.d
-    c.requires.allowed c.args.space.now c.in-Some.k c.offer_after.result c.offer.new.self.table
-    c.requires.offering (record { first = c.in-Some.ensures.first }) c.offer_after.ensures
-    c.offer.ensures.table
+    jumped_on c.requires.offering c.args.d c.requires.allowed c.in-Some.k c.in-Some.ensures.first
+    c.offer_after.ensures c.offer.ensures.table
 
 pub returns-in_default-clause-jumped : goal.returns-in_default-clause-jumped
 returns-in_default-clause-jumped g c =
-    stays_on _ (g.J.JumpSource.StandsFor c.args.j.now) c.args.query.from c.args.query.to c.args.last c.args.d
-    c.requires.allowed c.args.space.now.table (record { first = c.in_default.ensures.first })
+    stays_on c.requires.offering c.args.d c.requires.allowed c.in_default.ensures.first

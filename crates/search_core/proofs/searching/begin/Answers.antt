@@ -1,11 +1,9 @@
 use Rattle.std.proofs.Common.{◌∙◌, ◌<◌, ◌≤◌, ap, arith, length, subst, sym, List, ℕ, [], ◌∷◌, ◌++◌}
 use Rattle.std.specs.Prelude.{OnOk, Ok, Err}
-use Rattle.std.proofs.lemmas.Result.{IfOk-from_err}
 use Rattle.std.specs.declared.result.Result.{Result}
 use Rattle.best_first.specs.declared.state.State.{State}
 use Rattle.best_first.specs.State.{state_number}
 use Rattle.grid_moves.proofs.Legal.{free_inside}
-use Rattle.search_core.proofs.Serving.{places_so}
 use Rattle.search_core.proofs.Standing.{reached_first}
 use Rattle.search_core.proofs.searching.begin.Goals as goal
 
@@ -20,28 +18,11 @@ pub returns-clause-reached : goal.returns-clause-reached
 returns-clause-reached g c = on_ok c.push.result c.push.ensures.pushed (λ pushed x served.
     let number = c.number.ensures
     ∙ ap (λ (u : State). state_number c.width-width.result u) c.start.ensures in
-    reached_first _ (g.J.JumpSource.StandsFor c.args.j.now) c.args.query.from c.args.query.to x served
-    c.args.space.now c.begin.new.self c.width-width.result c.args.taken.now c.push.new.self
+    reached_first served c.begin.new.self
     (c.width-width.ensures.whole x served.stands) c.requires.layout (c.requires.places x served)
     (c.width-width.ensures.is x served.stands) c.in_ok-begin.ensures.layout c.in_ok-begin.ensures.places
     c.in_ok-begin.ensures.width c.in_ok-begin.ensures.begun c.requires.none
     (pushed ∙ ap (λ (n : ℕ). c.args.taken.now ++ n ∷ []) number))
-
-pub returns-in_err-begin-clause-reached : goal.returns-in_err-begin-clause-reached
-returns-in_err-begin-clause-reached g c =
-    IfOk-from_err c.from_residual.result _ c.from_residual.ensures.0
-
-pub returns-in_err-begin-clause-one : goal.returns-in_err-begin-clause-one
-returns-in_err-begin-clause-one g c =
-    IfOk-from_err c.from_residual.result _ c.from_residual.ensures.0
-
-pub returns-in_err-begin-clause-places : goal.returns-in_err-begin-clause-places
-returns-in_err-begin-clause-places g c = λ x v.
-    places_so x (c.requires.places x v) c.begin.ensures.places
-
-pub returns-clause-places : goal.returns-clause-places
-returns-clause-places g c = λ x v.
-    places_so x (c.requires.places x v) c.begin.ensures.places
 
 pub returns-clause-one : goal.returns-clause-one
 returns-clause-one g c =

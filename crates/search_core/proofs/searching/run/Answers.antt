@@ -1,9 +1,8 @@
 use Rattle.std.proofs.lemmas.Bool.Decides.{nat_tests}
 use Rattle.std.proofs.lemmas.Grind.{common_steps}
-use Rattle.std.proofs.Common.{◌≡◌, ◌+◌, ◌-◌, ◌<◌, ◌≤◌, ℕ, List, length, subst, arith}
+use Rattle.std.proofs.Common.{◌≡◌, ◌∙◌, ◌+◌, ◌-◌, ◌<◌, ◌≤◌, ℕ, List, length, subst, arith}
 use Rattle.std.specs.Prelude.{Option, IfSome, IfOk}
 use Rattle.std.proofs.lemmas.Option.{slice_get_within}
-use Rattle.std.proofs.lemmas.Result.{IfOk-from_err}
 use Rattle.std.specs.declared.result.Result.{Result}
 use Rattle.pruning.specs.Source.{MostSteps}
 use Rattle.search_core.specs.Counting.{IsCountedSoFar, IsWithinTaken}
@@ -21,28 +20,18 @@ smaller old new e h = omega arith
 pub taking-smaller : goal.taking-smaller
 taking-smaller g c =
     let some = c.requires.some in
-    let reached = subst (λ (o : Option ℕ). OnEach (g.J.JumpSource.StandsFor c.args.j.now) c.args.query.from
-    c.args.query.to (λ x. GoesOnFrom c.args.query.layout x c.args.query.from c.args.query.to c.advance.new.space
-    c.advance.new.taken o))
-    c.in-Some.is c.in_ok-next.ensures.goes_on in
-    let more = subst (λ (o : Option ℕ). IfSome o
-    (λ id. length c.advance.new.taken ≡ length c.taking.taken + 1)) c.in-Some.is
-    c.in_ok-next.ensures.one_more in
+    let reached = rw c.in-Some.is at c.in_ok-next.ensures.goes_on in
+    let more = rw c.in-Some.is at c.in_ok-next.ensures.one_more in
     smaller (length c.taking.taken) (length c.advance.new.taken) more
-    (few_taken _ (g.J.JumpSource.StandsFor c.args.j.now) c.args.query.from c.args.query.to some.0 some.1
-    c.in-Some.next
-    c.advance.new.space c.advance.new.taken (reached some.0 some.1))
+    (few_taken some.1 (reached some.0 some.1))
 
 pub taking-preserved : goal.taking-preserved
-taking-preserved g c =
-    let reached = subst (λ (o : Option ℕ). OnEach (g.J.JumpSource.StandsFor c.args.j.now) c.args.query.from
-    c.args.query.to (λ x. GoesOnFrom c.args.query.layout x c.args.query.from c.args.query.to c.advance.new.space
-    c.advance.new.taken o))
-    c.in-Some.is c.in_ok-next.ensures.goes_on in
-    let more = subst (λ (o : Option ℕ). IfSome o
-    (λ id. length c.advance.new.taken ≡ length c.taking.taken + 1)) c.in-Some.is
-    c.in_ok-next.ensures.one_more in
-    grind (arith, nat_tests, common_steps, counted_further)
+taking-preserved g c = record {
+  reached = rw c.in-Some.is at c.in_ok-next.ensures.goes_on;
+  counted = counted_further c.taking.invariant.counted (rw c.in-Some.is at c.in_ok-next.ensures.one_more)
+      c.in_ok-next.ensures.counted;
+  places = c.advance.ensures.places ∙ c.taking.invariant.places;
+}
 
 all_within : {E : Type 0} (most : Option MostSteps) (fewest : ℕ) (taken : List ℕ) (a b : ℕ)
     (result : Result Found E) → IsCountedSoFar most fewest taken a b → IfOk result (λ f. f.taken ≡ taken)
@@ -53,48 +42,6 @@ pub returns-clause-most : goal.returns-clause-most
 returns-clause-most g c =
     all_within (g.J.JumpSource.most c.args.j.now) (g.J.JumpSource.fewest c.args.j.now) c.taking.taken
     c.args.steps.now c.taking.steps c.found.result c.taking.invariant.counted c.found.ensures.taken
-
-pub returns-in_err-taken-clause-run : goal.returns-in_err-taken-clause-run
-returns-in_err-taken-clause-run g c =
-    IfOk-from_err c.from_residual.result _ c.from_residual.ensures.0
-
-pub returns-in_err-taken-clause-most : goal.returns-in_err-taken-clause-most
-returns-in_err-taken-clause-most g c =
-    IfOk-from_err c.from_residual.result _ c.from_residual.ensures.0
-
-pub returns-in_err-taken-clause-fewest : goal.returns-in_err-taken-clause-fewest
-returns-in_err-taken-clause-fewest g c =
-    IfOk-from_err c.from_residual.result _ c.from_residual.ensures.0
-
-pub returns-in_err-begin-clause-run : goal.returns-in_err-begin-clause-run
-returns-in_err-begin-clause-run g c =
-    IfOk-from_err c.from_residual-in_err-begin.result _ c.from_residual-in_err-begin.ensures.0
-
-pub returns-in_err-begin-clause-most : goal.returns-in_err-begin-clause-most
-returns-in_err-begin-clause-most g c =
-    IfOk-from_err c.from_residual-in_err-begin.result _ c.from_residual-in_err-begin.ensures.0
-
-pub returns-in_err-begin-clause-fewest : goal.returns-in_err-begin-clause-fewest
-returns-in_err-begin-clause-fewest g c =
-    IfOk-from_err c.from_residual-in_err-begin.result _ c.from_residual-in_err-begin.ensures.0
-
-pub returns-in_err-next-clause-run : goal.returns-in_err-next-clause-run
-returns-in_err-next-clause-run g c =
-    IfOk-from_err c.from_residual-in_err-next.result _ c.from_residual-in_err-next.ensures.0
-
-pub returns-in_err-next-clause-most : goal.returns-in_err-next-clause-most
-returns-in_err-next-clause-most g c =
-    IfOk-from_err c.from_residual-in_err-next.result _ c.from_residual-in_err-next.ensures.0
-
-pub returns-in_err-next-clause-fewest : goal.returns-in_err-next-clause-fewest
-returns-in_err-next-clause-fewest g c =
-    IfOk-from_err c.from_residual-in_err-next.result _ c.from_residual-in_err-next.ensures.0
-
-pub returns-in_err-begin-clause-places : goal.returns-in_err-begin-clause-places
-returns-in_err-begin-clause-places g c = c.begin.ensures.places
-
-pub returns-in_err-next-clause-places : goal.returns-in_err-next-clause-places
-returns-in_err-next-clause-places g c = c.advance.ensures.places
 
 pub node-requires : goal.node-requires
 node-requires g c =
@@ -113,15 +60,4 @@ found-requires-clause-goal g c = λ n h.
     c.node.ensures c.cell.ensures c.ne.ensures h c.taking-test.false
 
 pub returns-in-None-clause-run : goal.returns-in-None-clause-run
-returns-in-None-clause-run g c = λ x v.
-    subst (λ (o : Option ℕ). GoesOnFrom c.args.query.layout x c.args.query.from c.args.query.to c.advance.new.space
-    c.advance.new.taken o) c.in-None.is (c.in_ok-next.ensures.goes_on x v)
-
-pub returns-in-None-clause-places : goal.returns-in-None-clause-places
-returns-in-None-clause-places g c = c.advance.ensures.places
-
-pub returns-clause-run : goal.returns-clause-run
-returns-clause-run g c = c.found.ensures.run
-
-pub returns-clause-places : goal.returns-clause-places
-returns-clause-places g c = λ x v. (c.taking.invariant.reached x v).of.places
+returns-in-None-clause-run g c = rw c.in-None.is at c.in_ok-next.ensures.goes_on

@@ -1,4 +1,4 @@
-use Rattle.std.proofs.Common.{◌-◌, length}
+use Rattle.std.proofs.Common.{◌≡◌, ◌-◌, length}
 use Rattle.search_core.specs.Counting.{IsCountedSoFar}
 use Rattle.search_core.specs.Jumping.{HasReached}
 use Rattle.search_core.specs.Serving.{OnEach}
@@ -11,6 +11,7 @@ invariant-taking g l = record {
       (λ x. HasReached l.query.layout x l.query.from l.query.to l.at l.space l.taken);
   counted : IsCountedSoFar (g.J.JumpSource.most l.j) (g.J.JumpSource.fewest l.j) l.taken l.initial.steps
       l.steps;
+  places : l.space.places ≡ l.initial.space.places;
 }
 
 abbrev pub decreases-taking : goal.decreases-taking

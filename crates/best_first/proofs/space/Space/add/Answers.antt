@@ -19,13 +19,12 @@ pub put-requires-clause-room : goal.put-requires-clause-room
 put-requires-clause-room g c =
     let i = c.self.inside in
     let fits : length i.pool.nodes + 1 ≤ i.room = grind arith in
-    let few = parts_fewer _ _ _ _ _ c.self.invariant.parts in
-    record_fits i.index.layout i.room (length i.pool.nodes) i.pool.spare (vec_capacity i.index.records)
-    (vec_len i.index.records) c.self.invariant.room fits (omega (arith, i.index.records.ok.0))
+    let few = parts_fewer c.self.invariant.parts in
+    record_fits (vec_len i.index.records) c.self.invariant.room fits (omega (arith, i.index.records.ok.0))
 
 pub overflow_add-id : goal.overflow_add-id
 overflow_add-id g c =
-    let f = parts_few _ _ _ _ _ c.self.invariant.parts in
+    let f = parts_few c.self.invariant.parts in
     omega (arith, c.add-id.ensures.id)
 
 pub put-requires-clause-next : goal.put-requires-clause-next
@@ -44,19 +43,10 @@ invariant_of-self g c =
     grind arith in
     let number : c.args.number ≡ cell_number i.width c.args.state.cell = grind arith in
     let entry : c.add-id.result + 1 ≡ suc (length i.pool.nodes) = grind arith in
-    let put = subst (λ (n : ℕ). IsPut i.index.layout i.index.heads.items c.put.new.self.heads.items
-    i.index.records.items c.put.new.self.records.items n
-    (arrival_number (state_in i.index.layout c.args.state).arrival) (c.add-id.result + 1)) number
-    c.put.ensures.put in
-    let parts = parts_added i.index.layout i.width i.pool.nodes c.add-id.new.self.nodes i.index.heads.items
-    c.put.new.self.heads.items i.index.records.items c.put.new.self.records.items c.args.node c.args.state
-    (c.add-id.result + 1) c.self.invariant.parts narrow placed c.requires.made new c.add-id.ensures.nodes
-    entry put c.put.ensures.each in
-    let room = room_stays i.index.layout i.room (length i.pool.nodes) i.pool.spare
-    (vec_capacity i.index.records) (length c.add-id.new.self.nodes) c.add-id.new.self.spare
-    (vec_capacity c.put.new.self.records) c.self.invariant.room
-    (let n = one_longer _ _ _ c.add-id.ensures.nodes in omega (arith, c.add-id.ensures.spare))
-    (omega (arith, c.put.ensures.capacity)) in
-    subst (λ (y : Layout). IsSpace y i.width i.room c.add-id.new.self.spare
-    (vec_capacity c.put.new.self.records) c.add-id.new.self.nodes c.put.new.self.heads.items
-    c.put.new.self.records.items) (sym c.put.ensures.layout) (record { parts = parts; room = room })
+    let longer = one_longer _ _ _ c.add-id.ensures.nodes in
+    rw c.put.ensures.layout (record {
+      parts = parts_added c.self.invariant.parts c.args.node c.args.state narrow placed c.requires.made new
+          c.add-id.ensures.nodes entry (rw number at c.put.ensures.put) c.put.ensures.each;
+      room = room_stays c.self.invariant.room (omega (arith, longer, c.add-id.ensures.spare))
+          (omega (arith, c.put.ensures.capacity));
+    })

@@ -15,7 +15,6 @@ returns g c =
     c.entry.ensures
     ∙ ap (λ (n : ℕ). entry_in i.index.layout i.index.heads.items i.index.records.items n
     (arrival_number (state_in i.index.layout c.args.state).arrival)) number
-    ∙ parts_found i.index.layout i.width i.pool.nodes i.index.heads.items i.index.records.items c.args.state
-    c.self.invariant.parts placed
+    ∙ parts_found c.self.invariant.parts c.args.state placed
     ∙ ap (λ (s : SpaceData). entry_for (lookup s.layout s.table.nodes (state_in s.layout c.args.state)))
     c.self.view_is

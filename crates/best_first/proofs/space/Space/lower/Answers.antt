@@ -14,20 +14,17 @@ pub invariant_of-self : goal.invariant_of-self
 invariant_of-self g c =
     let i = c.self.inside in
     let nodes = ap (λ (p : OpenList Node). p.nodes) c.lower.ensures.changed in
-    let parts = parts_replaced i.index.layout i.width i.pool.nodes c.lower.new.self.nodes i.index.heads.items
-    i.index.records.items c.args.id c.args.node c.self.invariant.parts
-    (ap (λ (s : SpaceData). is_bettered s.table.nodes c.args.id c.args.node.key) c.self.view_is
-    ∙ c.requires.less)
-    (λ old h. ap (λ (s : SpaceData). state_of s.layout old) c.self.view_is
-    ∙ c.requires.same old (ap (λ (s : SpaceData). slice_get s.table.nodes c.args.id) (sym c.self.view_is) ∙ h)
-    ∙ ap (λ (s : SpaceData). state_of s.layout c.args.node) (sym c.self.view_is))
-    nodes in
     let as_many : length c.lower.new.self.nodes ≡ length i.pool.nodes =
     ap (λ (ns : List Node). length ns) nodes ∙ length-set i.pool.nodes c.args.id c.args.node in
     let spare = ap (λ (p : OpenList Node). p.spare) c.lower.ensures.changed in
     record {
-      parts = parts;
-      room = room_stays i.index.layout i.room (length i.pool.nodes) i.pool.spare
-          (vec_capacity i.index.records) (length c.lower.new.self.nodes) c.lower.new.self.spare
-          (vec_capacity i.index.records) c.self.invariant.room (omega arith) (omega arith);
+      parts = parts_replaced c.self.invariant.parts c.args.id c.args.node
+          (ap (λ (s : SpaceData). is_bettered s.table.nodes c.args.id c.args.node.key) c.self.view_is
+          ∙ c.requires.less)
+          (λ old h. ap (λ (s : SpaceData). state_of s.layout old) c.self.view_is
+          ∙ c.requires.same old
+          (ap (λ (s : SpaceData). slice_get s.table.nodes c.args.id) (sym c.self.view_is) ∙ h)
+          ∙ ap (λ (s : SpaceData). state_of s.layout c.args.node) (sym c.self.view_is))
+          nodes;
+      room = room_stays c.self.invariant.room (omega (arith, as_many, spare)) (omega arith);
     }

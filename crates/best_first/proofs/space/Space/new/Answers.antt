@@ -8,7 +8,7 @@ invariant_of-result c =
     let few : length c.in_ok-new.field-0.heads.items ≤ 16777216 =
     omega (arith, c.in_ok-new.ensures.as_many, c.requires) in
     record {
-      parts = parts_blank _ _ _ _ _ (blank_reset _ _ c.in_ok-new.ensures.blank) c.new.ensures.nodes
+      parts = parts_blank _ (blank_reset _ _ c.in_ok-new.ensures.blank) c.new.ensures.nodes
           c.in_ok-new.ensures.records few;
       room = no_room _ _ _ _;
     }

@@ -4,8 +4,8 @@ use Rattle.best_first.proofs.space.Space.reserve.Goals as goal
 
 pub grow-requires : goal.grow-requires
 grow-requires c =
-    let f = parts_few _ _ _ _ _ c.self.invariant.parts in
-    let r = parts_fewer _ _ _ _ _ c.self.invariant.parts in
+    let f = parts_few c.self.invariant.parts in
+    let r = parts_fewer c.self.invariant.parts in
     record {
       few = omega arith;
       fewer = omega (arith, c.self.inside.index.records.ok.0);
