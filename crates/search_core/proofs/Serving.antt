@@ -15,7 +15,7 @@ use Rattle.grid_moves.specs.Move.{is_same}
 use Rattle.grid_moves.proofs.Legal.{is_same-cell}
 use Rattle.pruning.specs.Allowed.{is_allowed}
 use Rattle.pruning.specs.First.{first_stop}
-use Rattle.pruning.specs.Source.{MostSteps, IsWithin}
+use Rattle.pruning.specs.Source.{StepsByCall, IsWithin}
 use Rattle.pruning.specs.Stop.{IsFirstStop}
 use Rattle.pruning.proofs.Stopping.{only_one_first_stop}
 use Rattle.best_first.specs.declared.node.Offer.{Offer as Way}
@@ -150,7 +150,7 @@ module _ (layout : Layout) (Stands : GridData → Type 0) (s t : Cell) (last : L
             (allowed g v) o.best old.table o.is_at);
       }
 
-  module _ (most : Option MostSteps) (ds : List Dir) where
+  module _ (most : Option StepsByCall) (ds : List Dir) where
     -- some of the directions were offered in, and the others are left
     pub record IsSoFar (left : List Dir) (old new : SpaceData) (before after : ℕ) : Type 0 where
       pub done : List Dir

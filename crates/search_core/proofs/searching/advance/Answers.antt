@@ -80,7 +80,7 @@ returns-in-None-clause-goes_on g c =
 
 pub returns-in-None-clause-counted : goal.returns-in-None-clause-counted
 returns-in-None-clause-counted g c =
-    counted_one (g.J.JumpSource.most c.args.j.now) (g.J.JumpSource.fewest c.args.j.now)
+    counted_one (g.J.JumpSource.most c.args.j.now) (g.J.JumpSource.fewest c.args.j.now).allowed
     (length c.allowed_word-dirs.result) c.args.steps.now c.allowed_word-dirs.new.steps c.offer_jumps.new.steps
     (few_allowed _ (g.J.JumpSource.StandsFor c.args.j.now) c.args.query.from c.args.query.to c.args.at
     c.args.space.now c.reserve.new.self c.args.taken.now c.requires.reached c.in_ok-reserve.ensures.shape
@@ -105,7 +105,7 @@ returns-in_ok-push-in-Some-clause-goes_on g c =
 
 pub returns-in_ok-push-in-Some-clause-counted : goal.returns-in_ok-push-in-Some-clause-counted
 returns-in_ok-push-in-Some-clause-counted g c =
-    counted_one (g.J.JumpSource.most c.args.j.now) (g.J.JumpSource.fewest c.args.j.now)
+    counted_one (g.J.JumpSource.most c.args.j.now) (g.J.JumpSource.fewest c.args.j.now).allowed
     (length c.allowed_word-dirs.result) c.args.steps.now c.allowed_word-dirs.new.steps c.offer_jumps.new.steps
     (few_allowed _ (g.J.JumpSource.StandsFor c.args.j.now) c.args.query.from c.args.query.to c.args.at
     c.args.space.now c.reserve.new.self c.args.taken.now c.requires.reached c.in_ok-reserve.ensures.shape
