@@ -57,12 +57,13 @@ impl BitGrid {
         BitGrid::with_table(alloc, grid, allowed)
     }
 
-    /// The same, where other bits are at hand: under their rule, their allowed directions are copied and not
-    /// told anew.
+    /// The same, where other bits under the grid's rule are at hand: their allowed directions are copied and
+    /// not told anew.
     pub fn of_grid_beside(alloc: Global, grid: &Grid, other: &BitGrid) -> Result<BitGrid, NoMemory>
+        requires { other.now.corner ≡ grid.now.corner }
         ensures { IfOk result (λ bits. AreBitsOf bits grid.now) }
     {
-        let allowed = other.allowed.for_rule(alloc, grid.corner())?;
+        let allowed = other.allowed.copied(alloc)?;
         BitGrid::with_table(alloc, grid, allowed)
     }
 

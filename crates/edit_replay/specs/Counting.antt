@@ -11,14 +11,14 @@ abbrev pub most_of : Engine → Option ℕ
 most_of Plain = Some 0
 most_of (Jps layout) = Some 0
 most_of (Block layout) = option.None
-most_of (Plus layout) = Some 40
+most_of (Plus layout) = Some 24
 
 -- the fewest steps that it counts for a state that it takes away from the goal
 abbrev pub fewest_of : Engine → ℕ
 fewest_of Plain = 0
 fewest_of (Jps layout) = 0
 fewest_of (Block layout) = 3
-fewest_of (Plus layout) = 1
+fewest_of (Plus layout) = 8
 
 -- how many states the search took
 abbrev pub states_taken : Reply → ℕ

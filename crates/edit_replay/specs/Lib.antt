@@ -1,4 +1,5 @@
 pub mod Edited
+pub mod Grounds
 pub mod Session
 pub mod Kept
 pub mod Mended

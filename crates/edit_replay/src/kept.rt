@@ -60,8 +60,9 @@ pub(crate) fn space_of(alloc: Global, layout: Layout, grid: &Grid) -> Result<Spa
     Space::new(alloc, layout, cells)
 }
 
-// The bits of both grids.
+// The bits of both grids, which have one rule.
 fn bits_of(alloc: Global, grids: &Both<Grid>) -> Result<Both<BitGrid>, NoMemory>
+    requires rule { grids.now.land.corner ≡ grids.now.water.corner }
     ensures { IfOk result (λ bits. AreBitsOf bits.land grids.now.land × AreBitsOf bits.water grids.now.water) }
 {
     let land = BitGrid::of_grid(alloc, &grids.land)?;
@@ -82,6 +83,7 @@ fn tables_of(alloc: Global, grids: &Both<Grid>) -> Result<Both<Tables>, NoMemory
 impl Kept {
     /// What this engine keeps for searches on these grids of one map.
     pub(crate) fn new(alloc: Global, engine: Engine, grids: &Both<Grid>) -> Result<Kept, NoMemory>
+        requires rule { grids.now.land.corner ≡ grids.now.water.corner }
         ensures engine { IfOk result (λ kept. engine_of kept ≡ engine) }
         ensures serves { IfOk result (Serves grids.now) }
     {

@@ -1,5 +1,6 @@
-//! Laws of replies: each is the contract of a call that does nothing.
+//! Laws of replies and of maps: each is the contract of a call that does nothing.
 
+ghost use Rattle.edit_replay.specs.Grounds.{TerrainHasGrounds};
 ghost use Rattle.edit_replay.specs.Told.{NoneElseReplies, RepliesAreOne, RepliesAreTold};
 
 /// Whatever the engine, the grids and the ends, there is a reply that is right and the engine's run: a
@@ -19,4 +20,10 @@ pub fn none_else_replies()
 /// `block` and `plus`).
 pub fn replies_are_one()
     ensures { RepliesAreOne }
+{}
+
+/// The bytes that a map's text may have are those that stand for land or water, and `@`, `O` and `T`: a byte
+/// that one crate knows and the other does not would be blocked unseen.
+pub fn terrain_has_grounds()
+    ensures { TerrainHasGrounds }
 {}

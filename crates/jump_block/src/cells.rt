@@ -75,7 +75,7 @@ fn three_apart<L: Ledger>(lines: &Lines, line: u32, first: u32, steps: &mut Step
     requires small { first + 2 < 65536 }
     ensures shown { (count positions : ℕ) (free : ℕ → ℕ → Bool) → Shows lines.now count positions free
         → AreThree free line first result }
-    ensures some { steps.old + 1 ≤ steps.new }
+    ensures three_steps { steps.new ≡ steps.old + 3 }
 {
     let zeroth = bit_of(lines, line, first, steps);
     let next = bit_of(lines, line, first + 1, steps);
@@ -94,6 +94,7 @@ fn three_beside<L: Ledger>(lines: &Lines, line: u32, first: u32, steps: &mut Ste
     ensures shown { (count positions : ℕ) (free : ℕ → ℕ → Bool) → Shows lines.now count positions free
         → AreThreeBeside free line first result }
     ensures some { steps.old + 3 ≤ steps.new }
+    ensures most { steps.new ≤ steps.old + 9 }
 {
     if first % 64 < 62 {
         let words = lines.three(line, first / 64, steps);
@@ -132,6 +133,7 @@ impl<'a> Bits<'a> {
         ensures few { result < 256 }
         ensures around { OnEach self.now at
             (λ g. (d : _) → is_free_on (ring_of result) d ≡ moves.is_open g at d) }
+        ensures most { steps.new ≤ steps.old + 9 }
         ensures fewest { steps.old + 3 ≤ steps.new }
     {
         let (x, y) = (u32::from(at.x), u32::from(at.y));

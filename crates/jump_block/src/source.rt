@@ -1,10 +1,11 @@
 //! Bits of a grid as a source of jumps.
 
-ghost use Rattle.std.specs.Prelude.{◌≡◌, ℕ, ◌+◌, ◌≤◌, false, true, None};
-ghost use Rattle.grid_moves.specs.Grid.{GridData};
+ghost use Rattle.std.specs.Prelude.{◌≡◌, ℕ, ◌+◌, ◌≤◌, false, true, IsTrue, None};
+ghost use Rattle.grid_moves.specs.Grid.{GridData, is_free};
+ghost use Rattle.pruning.specs.Allowed.{allowed_dirs};
 ghost use Rattle.pruning.specs.First as first;
 ghost use Rattle.grid_moves.specs.Ruled as ruled;
-ghost use Rattle.pruning.specs.Source.{IsWithin};
+ghost use Rattle.pruning.specs.Source.{CanArrive, IsWithin};
 ghost use Rattle.pruning.specs.Stop.{IsFirstStop};
 ghost use Rattle.pruning.specs.Turns.{is_diagonal};
 ghost use Rattle.jump_block.specs.Scan.{most_lanes};
@@ -218,7 +219,7 @@ impl<'a> JumpSource for BlockJumps<'a> {
 
     ghost most = { λ _. None };
 
-    ghost fewest = { λ _. 3 };
+    ghost fewest = { λ _. record { stop = 3; allowed = 3 } };
 
     fn width(&self) -> u16 {
         self.bits.width()
@@ -241,9 +242,17 @@ impl<'a> JumpSource for BlockJumps<'a> {
         self.lines().stop(at, d, goal, steps)
     }
 
+    /// Reads nine words at most.
     // (asked in the search by either rule of states, so the compiler would not put it in by itself)
     #[inline(always)]
-    fn allowed_word<L: Ledger>(&self, at: Cell, by: Arrival, steps: &mut Steps<L>) -> Packed {
+    fn allowed_word<L: Ledger>(&self, at: Cell, by: Arrival, steps: &mut Steps<L>) -> Packed
+        requires { (g : GridData) × AreBitsOf self.now.bits.now g × IsTrue (is_free g at) × CanArrive g at by }
+        ensures rule { (g : GridData) → AreBitsOf self.now.bits.now g → IsTrue (is_free g at)
+            → CanArrive g at by → result ≡ allowed_dirs g at by }
+        ensures most { IsWithin None (λ told. told.allowed) steps.old steps.new }
+        ensures words { steps.new ≤ steps.old + 9 }
+        ensures fewest { steps.old + 3 ≤ steps.new }
+    {
         let eight = self.lines().eight(at, steps);
         self.bits.allowed_table().allowed(eight, by)
     }

@@ -19,7 +19,7 @@ impl<'a, T: Terrain> JumpSource for PlainJumps<'a, T> {
 
     ghost most = { λ _. Some (record { stop = 0; allowed = 0 }) };
 
-    ghost fewest = { λ _. 0 };
+    ghost fewest = { λ _. record { stop = 0; allowed = 0 } };
 
     fn width(&self) -> u16 {
         self.terrain.width()

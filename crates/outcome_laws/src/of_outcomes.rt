@@ -36,8 +36,8 @@ pub fn written_begins_the_output()
 {}
 
 /// A call with `engine=plus` and `tables=` that names an accepted file, one of its map and rule, has the
-/// outcomes of the call without `tables=`, and no others. It is told what that file holds; whatever else is
-/// told of files and input.
+/// outcomes of the call without `tables=`, and no others. It is told what that file holds, and the map is
+/// told or absent; whatever else is told of files and input.
 pub fn with_tables_the_same()
     ensures { WithTablesTheSame }
 {}

@@ -20,9 +20,9 @@ pub struct PlusJumps<'a> {
 impl<'a> JumpSource for PlusJumps<'a> {
     ghost StandsFor = { λ j g. AreTablesOf j.tables.now g };
 
-    ghost most = { λ _. Some (record { stop = 4; allowed = 8 }) };
+    ghost most = { λ _. Some (record { stop = 2; allowed = 8 }) };
 
-    ghost fewest = { λ _. 1 };
+    ghost fewest = { λ _. record { stop = 1; allowed = 8 } };
 
     fn width(&self) -> u16 {
         self.tables.width()

@@ -1,6 +1,6 @@
 //! Problems in the order of their costs.
 
-ghost use Rattle.std.specs.Prelude.{OnOk};
+ghost use Rattle.std.specs.Prelude.{◌≡◌, OnErr, OnOk};
 ghost use Rattle.problem_maker.specs.Ordered.{AreOrdered};
 
 use crate::NoMemory;
@@ -19,7 +19,8 @@ pub struct Problem {
 ///
 /// Memory is taken for half of them at most, and given back.
 pub fn order(problems: &mut Vec<Problem>) -> Result<(), NoMemory>
-    ensures { OnOk result (AreOrdered problems.old.items problems.new.items) }
+    ensures ordered { OnOk result (AreOrdered problems.old.items problems.new.items) }
+    ensures unchanged { OnErr result (problems.new.items ≡ problems.old.items) }
 {
     problems.sort_by(|p, q| cmp(p.cost, q.cost))?;
     Ok(())

@@ -6,13 +6,13 @@ use Rattle.grid_moves.specs.Move.{legal_ahead}
 use Rattle.pruning.specs.declared.Arrival.{Arrival}
 use Rattle.pruning.specs.declared.Arrival.TheVariants.{Start, By}
 
--- how many steps a call of `stop`, and one of `allowed` or `allowed_word`, makes at most
-pub record MostSteps : Type 0 where
+-- a number of steps for a call of `stop`, and one for a call of `allowed` or `allowed_word`
+pub record StepsByCall : Type 0 where
   pub stop : ℕ
   pub allowed : ℕ
 
 -- a call that makes the counter go from the one number to the other makes no more steps than are told
-abbrev pub IsWithin : Option MostSteps → (MostSteps → ℕ) → ℕ → ℕ → Type 0
+abbrev pub IsWithin : Option StepsByCall → (StepsByCall → ℕ) → ℕ → ℕ → Type 0
 IsWithin None call old new = ⊤
 IsWithin (Some told) call old new = new ≤ old + call told
 

@@ -103,13 +103,11 @@ impl AllowedTable {
         Ok(AllowedTable { corner, lists })
     }
 
-    /// The table of a corner rule, which is a copy of this one where its rule is the same.
-    pub fn for_rule(&self, alloc: Global, corner: Corner) -> Result<AllowedTable, NoMemory>
-        ensures { IfOk result (λ table. table ≡ corner) }
+    /// The same table once more, copied and not told anew.
+    pub fn copied(&self, alloc: Global) -> Result<AllowedTable, NoMemory>
+        ensures { IfOk result (λ table. table ≡ self.now) }
     {
-        if self.corner != corner {
-            return AllowedTable::of_rule(alloc, corner);
-        }
+        let corner = self.corner;
         let mut lists = Vec::with_capacity(alloc, LISTS)?;
         lists.extend_from_slice(self.lists.as_slice())?;
         Ok(AllowedTable { corner, lists })

@@ -4,7 +4,7 @@ ghost use Rattle.std.specs.Prelude.{◌≡◌, ℕ, ◌+◌, ◌≤◌, Option, 
 ghost use Rattle.grid_moves.specs.Grid.{GridData, IsGrid, is_free};
 ghost use Rattle.pruning.specs.Allowed.{allowed_dirs};
 ghost use Rattle.pruning.specs.Stop.{IsFirstStop};
-ghost use Rattle.pruning.specs.Source.{MostSteps, IsWithin, CanArrive};
+ghost use Rattle.pruning.specs.Source.{StepsByCall, IsWithin, CanArrive};
 
 use crate::{Arrival, Packed};
 use arrayvec::ArrayVec;
@@ -23,10 +23,10 @@ pub trait JumpSource {
 
     /// How many steps one call of `stop` makes at most, and one of `allowed` or `allowed_word`, if that is
     /// told.
-    ghost most: { Self → Option MostSteps };
+    ghost most: { Self → Option StepsByCall };
 
     /// How many steps each of these calls makes at least.
-    ghost fewest: { Self → ℕ };
+    ghost fewest: { Self → StepsByCall };
 
     /// The number of columns.
     fn width(&self) -> u16
@@ -46,7 +46,7 @@ pub trait JumpSource {
             → IsTrue (is_free g goal)
             → IsFirstStop g goal at d result }
         ensures most { IsWithin (most self.now) (λ told. told.stop) steps.old steps.new }
-        ensures fewest { steps.old + fewest self.now ≤ steps.new };
+        ensures fewest { steps.old + (fewest self.now).stop ≤ steps.new };
 
     /// The allowed directions at `at`, in increasing order, in one word, which a search takes apart faster
     /// than a list.
@@ -55,7 +55,7 @@ pub trait JumpSource {
         ensures rule { (g : GridData) → StandsFor self.now g → IsTrue (is_free g at) → CanArrive g at by
             → result ≡ allowed_dirs g at by }
         ensures most { IsWithin (most self.now) (λ told. told.allowed) steps.old steps.new }
-        ensures fewest { steps.old + fewest self.now ≤ steps.new };
+        ensures fewest { steps.old + (fewest self.now).allowed ≤ steps.new };
 
     /// The same in a list.
     fn allowed<L: Ledger>(&self, at: Cell, by: Arrival, steps: &mut Steps<L>) -> ArrayVec<Dir, 8>
@@ -63,7 +63,7 @@ pub trait JumpSource {
         ensures rule { (g : GridData) → StandsFor self.now g → IsTrue (is_free g at) → CanArrive g at by
             → result.items ≡ allowed_dirs g at by }
         ensures most { IsWithin (most self.now) (λ told. told.allowed) steps.old steps.new }
-        ensures fewest { steps.old + fewest self.now ≤ steps.new }
+        ensures fewest { steps.old + (fewest self.now).allowed ≤ steps.new }
     {
         self.allowed_word(at, by, steps).to_list()
     }

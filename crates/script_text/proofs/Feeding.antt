@@ -16,7 +16,7 @@ use Rattle.script_text.specs.declared.fault.ScriptFault.TheVariants.{Long, NoMem
 use Rattle.script_text.specs.declared.feeder.LineFeeder.{LineFeeder}
 use Rattle.script_text.specs.Lines.{piece_read}
 use Rattle.script_text.specs.Feeding.{Cut, cut, commands_on, whole_lines, length_fault, known_fault}
-use Rattle.script_text.specs.Feeding.{fault_so_far, commands_so_far, fault_of, commands_of, Answers}
+use Rattle.script_text.specs.Feeding.{fault_so_far, commands_so_far, fault_of, commands_of, Answers, IsMet}
 use Rattle.script_text.specs.Fed.{IsNext, HasTaken, HasTakenByte, HasFed, HasEnded, completed}
 use Rattle.script_text.proofs.Cuts.{with_last, cut-more, last_line, pieces-cut, numbered-more, fault-append}
 use Rattle.script_text.proofs.Cuts.{or-none, commands-append, commands-stay, fault-one, commands-one}
@@ -382,6 +382,28 @@ fed-stopped text piece place byte at now before got fault result inside is f t e
       };
       answer = answers-err result fault _ e other stays.0;
     })
+
+-- with that byte the fault was met
+pub met-there : (text piece : List ℕ) (place byte : ℕ) (first at now : LineFeeder) (before got : List Command)
+    (fault : ScriptFault) → place < length piece → byte ≡ get_or piece place 0
+    → at.taken ≡ first.taken + place → now.taken ≡ at.taken + 1
+    → HasFed text (text ++ take place piece) at before got (Ok tt)
+    → HasTakenByte (text ++ take place piece) byte now (Err fault)
+    → IsMet text piece first.taken now.taken fault
+met-there text piece place byte first at now before got fault inside is so_far more f t = record {
+  count = place;
+  taken = omega arith;
+  clean = f.answer;
+  known = ap (λ (l : List ℕ). fault_so_far (text ++ l))
+      (take_more piece place 0 inside ∙ ap (λ b. take place piece ++ b ∷ []) (sym is))
+      ∙ ap fault_so_far (sym (append_assoc text (take place piece) (byte ∷ []))) ∙ t.answer;
+}
+
+-- what holds of a fault holds of an error that passes it on
+pub of-passed : (result : Result (Unit {0}) ScriptFault) (fault : ScriptFault) (P : ScriptFault → Type 0)
+    → IsErrAnd result (λ e. e ≡ fault) → P fault → IfErr result P
+of-passed (Err e) fault P is holds = subst P (sym is) holds
+of-passed (Ok done) fault P is holds = absurd is
 
 grown-by : (text : List ℕ) (byte : ℕ) → (f : Option ScriptFault) → fault_so_far text ≡ f
     → (more : List Command) × (commands_so_far (text ++ byte ∷ []) ≡ commands_so_far text ++ more)

@@ -1,5 +1,5 @@
 -- A script that comes in pieces: what is known of it by the bytes that came so far.
-use Rattle.std.specs.Prelude.{◌≡◌, ◌≢◌, ℕ, ◌+◌, nat_lt, if◌then◌else◌, List, [], ◌∷◌, ◌++◌, length, Option}
+use Rattle.std.specs.Prelude.{◌≡◌, ◌≢◌, ℕ, ◌+◌, nat_lt, if◌then◌else◌, List, [], ◌∷◌, ◌++◌, length, take, Option}
 use Rattle.std.specs.Prelude.{Some, None, Result, Ok, Err}
 use Rattle.std.specs.Global.{Vec}
 use Rattle.std.specs.List.{flat_map}
@@ -82,6 +82,13 @@ pub record Appended (earlier later before now : List Command) : Type 0 where
 abbrev pub Answers : Result (Unit {0}) ScriptFault → Option ScriptFault → Type 0
 Answers (Ok done) fault = fault ≡ None
 Answers (Err named) fault = (fault ≡ Some named) × (named ≢ NoMemory)
+
+-- the fault became known with the last byte that was taken of a piece
+pub record IsMet (text piece : List ℕ) (before now : ℕ) (fault : ScriptFault) : Type 0 where
+  pub count : ℕ
+  pub taken : now ≡ before + (count + 1)
+  pub clean : fault_so_far (text ++ take count piece) ≡ None
+  pub known : fault_so_far (text ++ take (count + 1) piece) ≡ Some fault
 
 -- the script that comes in these pieces
 abbrev pub text_of : List (Vec ℕ) → List ℕ

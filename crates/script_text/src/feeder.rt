@@ -31,6 +31,7 @@ impl LineFeeder {
     ghost use Rattle.script_text.specs.declared.fault.ScriptFault.TheVariants.{NoMemory};
     ghost use Rattle.script_text.specs.Lines.{piece_read};
     ghost use Rattle.script_text.specs.Fed.{HasTaken, HasTakenByte, HasFed, HasEnded};
+    ghost use Rattle.script_text.specs.Feeding.{IsMet};
 
     /// A reader of which nothing was asked.
     pub fn new() -> LineFeeder
@@ -65,6 +66,10 @@ impl LineFeeder {
             → HasFed text (text ++ piece.now) self.new got.old.items got.new.items result }
         ensures counted { OnOk result (self.new.taken ≡ self.old.taken + length piece.now) }
         ensures few { self.new.taken ≤ self.old.taken + length piece.now }
+        // A fault that is met now was known with the last byte that was taken, and not before.
+        ensures met { self.old.fault ≡ None → IfErr result (λ fault. fault ≢ NoMemory
+            → (text : List ℕ) → HasTaken self.old text
+            → IsMet text piece.now self.old.taken self.new.taken fault) }
         // A fault that is kept is answered again.
         ensures kept { (fault : ScriptFault) → self.old.fault ≡ Some fault
             → (result ≡ Err fault) × (self.new ≡ self.old) × (got.new.items ≡ got.old.items) }

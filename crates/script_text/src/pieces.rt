@@ -11,6 +11,8 @@ use crate::fault::ScriptFault;
 use crate::feeder::LineFeeder;
 
 /// Appends the commands of the script that comes in these pieces, up to its first refused line.
+///
+/// Where memory is missing, nothing is promised of `got`.
 pub fn read_pieces(pieces: &[Vec<u8>], got: &mut Vec<Command>) -> Result<(), ScriptFault>
     requires { length (text_of pieces.now) ≤ 2 ^ 26 }
     // However the script is cut, its commands before the first refused line are appended,

@@ -13,7 +13,7 @@ use Rattle.grid_moves.specs.Move.{is_same, all_dirs}
 use Rattle.grid_moves.specs.Points.{estimate}
 use Rattle.pruning.specs.declared.Arrival.{Arrival}
 use Rattle.pruning.specs.Allowed.{is_allowed, allowed_dirs}
-use Rattle.pruning.specs.Source.{MostSteps, IsWithin, CanArrive}
+use Rattle.pruning.specs.Source.{StepsByCall, IsWithin, CanArrive}
 use Rattle.pruning.proofs.Packing.{few_kept}
 use Rattle.best_first.specs.declared.node.Node.{Node}
 use Rattle.best_first.specs.declared.state.Layout.{Layout}
@@ -36,7 +36,7 @@ use Rattle.search_core.proofs.Standing.{HasNext, key_enough, offering_at, arrive
 use Rattle.search_core.proofs.Standing.{has_next, reached_next}
 
 -- a state's steps: a call for its directions, and one for each of eight
-pub counted_one : {most : Option MostSteps} {fewest : ℕ} (n : ℕ) {a b c : ℕ} → n ≤ 8
+pub counted_one : {most : Option StepsByCall} {fewest : ℕ} (n : ℕ) {a b c : ℕ} → n ≤ 8
     → IsWithin most (λ told. told.allowed) a b → IsWithin most (λ told. n * told.stop) b c → a + fewest ≤ b
     → b ≤ c → IsCounted most fewest 1 a c
 counted_one n few first then low on = record {

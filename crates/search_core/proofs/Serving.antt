@@ -12,7 +12,7 @@ use Rattle.grid_moves.specs.Move.{is_same}
 use Rattle.grid_moves.proofs.Legal.{is_same-cell}
 use Rattle.pruning.specs.Allowed.{is_allowed}
 use Rattle.pruning.specs.First.{first_stop}
-use Rattle.pruning.specs.Source.{MostSteps, IsWithin}
+use Rattle.pruning.specs.Source.{StepsByCall, IsWithin}
 use Rattle.pruning.specs.Stop.{IsFirstStop}
 use Rattle.pruning.proofs.Stopping.{only_one_first_stop}
 use Rattle.best_first.specs.declared.node.Offer.{Offer as Way}
@@ -93,7 +93,7 @@ module _ {layout : Layout} {Stands : GridData → Type 0} {s t : Cell} {last : L
 
 -- after some of the directions: the jumps in those that are left lead to what all lead to, within what all count
 pub record IsSoFar (layout : Layout) (Stands : GridData → Type 0) (s t : Cell) (last : Last)
-    (most : Option MostSteps) (dirs left : List Dir) (old new : SpaceData) (before after : ℕ) : Type 0 where
+    (most : Option StepsByCall) (dirs left : List Dir) (old new : SpaceData) (before after : ℕ) : Type 0 where
   pub offering : OnEach Stands s t (λ g. IsOffering layout g s t last new)
   pub allowed : OnEach Stands s t (λ g. AllByRecursion
       (λ d. is_allowed g last.state.cell (come_to last.state.arrival) d ≡ true) left)
@@ -103,7 +103,7 @@ pub record IsSoFar (layout : Layout) (Stands : GridData → Type 0) (s t : Cell)
   pub within : (end : ℕ) → IsWithin most (λ told. length left * told.stop) after end
       → IsWithin most (λ told. length dirs * told.stop) before end
 
-module _ {layout : Layout} {Stands : GridData → Type 0} {s t : Cell} {last : Last} {most : Option MostSteps}
+module _ {layout : Layout} {Stands : GridData → Type 0} {s t : Cell} {last : Last} {most : Option StepsByCall}
     {dirs : List Dir} {old mid : SpaceData} {before at : ℕ} where
   -- one of those that are left is the next
   pub at_one : {left others : List Dir} {first : Dir}

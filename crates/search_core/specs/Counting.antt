@@ -1,14 +1,14 @@
 -- How many steps of its source a search counts.
 use Rattle.std.specs.Prelude.{◌≡◌, ℕ, suc, ◌+◌, ◌*◌, ◌≤◌, List, length, Option, MatchOption}
-use Rattle.pruning.specs.Source.{MostSteps, IsWithin}
+use Rattle.pruning.specs.Source.{StepsByCall, IsWithin}
 use Rattle.best_first.specs.declared.found.Found.{Found}
 
 -- the most for one state: a call of `allowed`, and one of `stop` for each of eight directions
-abbrev pub most_for_state : MostSteps → ℕ
+abbrev pub most_for_state : StepsByCall → ℕ
 most_for_state told = 8 * told.stop + told.allowed
 
 -- where the source tells its most, the counter rose by no more than that for each state that was taken
-abbrev pub IsWithinTaken : Option MostSteps → Found → ℕ → ℕ → Type 0
+abbrev pub IsWithinTaken : Option StepsByCall → Found → ℕ → ℕ → Type 0
 IsWithinTaken most f old new = IsWithin most (λ told. length f.taken * most_for_state told) old new
 
 -- the counter rose by at least so much for each state that was taken away from the goal: for all of them, or,
@@ -18,12 +18,12 @@ RoseByTaken fewest f old new = MatchOption f.walk (old + length f.taken * fewest
     (λ _. old + length f.taken * fewest ≤ new + fewest)
 
 -- the counter rose as a search that went on from n states makes it
-pub record IsCounted (most : Option MostSteps) (fewest n old new : ℕ) : Type 0 where
+pub record IsCounted (most : Option StepsByCall) (fewest n old new : ℕ) : Type 0 where
   pub within : IsWithin most (λ told. n * most_for_state told) old new
   pub at_least : old + n * fewest ≤ new
 
 -- and one that went on from all states that it took but the last
-pub record IsCountedSoFar (most : Option MostSteps) (fewest : ℕ) (taken : List ℕ) (old new : ℕ) : Type 0 where
+pub record IsCountedSoFar (most : Option StepsByCall) (fewest : ℕ) (taken : List ℕ) (old new : ℕ) : Type 0 where
   pub gone_on : ℕ
   pub one_more : length taken ≡ suc gone_on
   pub counted : IsCounted most fewest gone_on old new

@@ -90,7 +90,7 @@ fn advance<J: JumpSource, L: Ledger, M: Ledger>(
     ensures same { IfOk result (λ next. IfNone next (taken.new ≡ taken.old)) }
     ensures layout { space.new.layout ≡ space.old.layout }
     ensures places { space.new.places ≡ space.old.places }
-    ensures counted { IfOk result (λ _. IsCounted (J.most j.now) (J.fewest j.now) 1 steps.old steps.new) }
+    ensures counted { IfOk result (λ _. IsCounted (J.most j.now) (J.fewest j.now).allowed 1 steps.old steps.new) }
 {
     space.reserve()?;
     let last = last_at(space, query.to, at);
@@ -157,7 +157,7 @@ fn run<J: JumpSource, L: Ledger, M: Ledger>(
     ensures run { IfOk result (λ f. OnEach (J.StandsFor j.now) query.from query.to
         (λ g. IsJumpRun query.layout g query.from query.to f)) }
     ensures most { IfOk result (λ f. IsWithinTaken (J.most j.now) f steps.old steps.new) }
-    ensures fewest { IfOk result (λ f. RoseByTaken (J.fewest j.now) f steps.old steps.new) }
+    ensures fewest { IfOk result (λ f. RoseByTaken (J.fewest j.now).allowed f steps.old steps.new) }
     ensures layout { space.new.layout ≡ space.old.layout }
     ensures places { space.new.places ≡ space.old.places }
 {
@@ -195,7 +195,7 @@ fn run_counted<J: JumpSource, L: Ledger, M: Ledger>(
     ensures least { IfOk result (λ f. OnEach (J.StandsFor j.now) query.from query.to
         (λ g. IsLeastOrNone g query.from query.to f.walk)) }
     ensures most { IfOk result (λ f. IsWithinTaken (J.most j.now) f steps.old steps.new) }
-    ensures fewest { IfOk result (λ f. RoseByTaken (J.fewest j.now) f steps.old steps.new) }
+    ensures fewest { IfOk result (λ f. RoseByTaken (J.fewest j.now).allowed f steps.old steps.new) }
     ensures layout { space.new.layout ≡ space.old.layout }
     ensures places { space.new.places ≡ space.old.places }
 {
@@ -224,7 +224,7 @@ pub fn search_in<J: JumpSource, L: Ledger>(
         (λ g. IsJumpRun space.old.layout g from to f)) }
     ensures least { IfOk result (λ f. OnEach (J.StandsFor j.now) from to (λ g. IsLeastOrNone g from to f.walk)) }
     ensures most { IfOk result (λ f. IsWithinTaken (J.most j.now) f steps.old steps.new) }
-    ensures fewest { IfOk result (λ f. RoseByTaken (J.fewest j.now) f steps.old steps.new) }
+    ensures fewest { IfOk result (λ f. RoseByTaken (J.fewest j.now).allowed f steps.old steps.new) }
     ensures layout { space.new.layout ≡ space.old.layout }
     ensures places { OnEach (J.StandsFor j.now) from to (λ g. HasPlaces g space.new) }
 {
@@ -260,7 +260,7 @@ pub fn search<J: JumpSource, L: Ledger>(
     ensures run { IfOk result (λ f. OnEach (J.StandsFor j.now) from to (λ g. IsJumpRun layout g from to f)) }
     ensures least { IfOk result (λ f. OnEach (J.StandsFor j.now) from to (λ g. IsLeastOrNone g from to f.walk)) }
     ensures most { IfOk result (λ f. IsWithinTaken (J.most j.now) f steps.old steps.new) }
-    ensures fewest { IfOk result (λ f. RoseByTaken (J.fewest j.now) f steps.old steps.new) }
+    ensures fewest { IfOk result (λ f. RoseByTaken (J.fewest j.now).allowed f steps.old steps.new) }
 {
     let mut space = space_for(alloc, j, layout)?;
     search_in(alloc, j, from, to, &mut space, steps)

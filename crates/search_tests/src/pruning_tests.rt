@@ -86,7 +86,7 @@ impl JumpSource for Alone {
 
     ghost most = { λ _. Some (record { stop = 1; allowed = 1 }) };
 
-    ghost fewest = { λ _. 1 };
+    ghost fewest = { λ _. record { stop = 1; allowed = 1 } };
 
     fn width(&self) -> u16 {
         1

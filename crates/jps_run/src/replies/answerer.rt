@@ -214,7 +214,8 @@ impl Answerer {
         }
     }
 
-    /// Answers a query. A session counts what its engine counts, first moves a step for each move.
+    /// Answers a query. A session counts what its engine counts, first moves a step for each move of
+    /// the walk, or one where there is none.
     pub fn query<L: Ledger>(
         &mut self,
         alloc: Global,

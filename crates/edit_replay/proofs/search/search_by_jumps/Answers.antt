@@ -31,7 +31,7 @@ returns-clause-most g c = rw (c.found.ensures, all_taken c.in_ok-walk.field-0.wa
 
 pub returns-clause-fewest : goal.returns-clause-fewest
 returns-clause-fewest g c = rw c.found.ensures (rose_away c.args.space.now.layout c.args._grid.now c.args.from c.args.to _ _
-    (g.J.JumpSource.fewest c.args.j.now) c.args.steps.now c.search_in.new.steps
+    (g.J.JumpSource.fewest c.args.j.now).allowed c.args.steps.now c.search_in.new.steps
     (c.in_ok-walk.ensures.run c.args._grid.now
     (record { stands = c.requires.stands; from = c.requires.from; to = c.requires.to }))
     c.in_ok-walk.ensures.fewest)

@@ -4,7 +4,7 @@ use Rattle.std.proofs.Common.{◌≡◌, ◌∙◌, ◌+◌, ◌-◌, ◌<◌, �
 use Rattle.std.specs.Prelude.{Option, IfSome, IfOk}
 use Rattle.std.proofs.lemmas.Option.{slice_get_within}
 use Rattle.std.specs.declared.result.Result.{Result}
-use Rattle.pruning.specs.Source.{MostSteps}
+use Rattle.pruning.specs.Source.{StepsByCall}
 use Rattle.search_core.specs.Counting.{IsCountedSoFar, IsWithinTaken}
 use Rattle.search_core.specs.Jumping.{GoesOnFrom}
 use Rattle.search_core.specs.Serving.{OnEach}
@@ -33,14 +33,14 @@ taking-preserved g c = record {
   places = c.advance.ensures.places ∙ c.taking.invariant.places;
 }
 
-all_within : {E : Type 0} (most : Option MostSteps) (fewest : ℕ) (taken : List ℕ) (a b : ℕ)
+all_within : {E : Type 0} (most : Option StepsByCall) (fewest : ℕ) (taken : List ℕ) (a b : ℕ)
     (result : Result Found E) → IsCountedSoFar most fewest taken a b → IfOk result (λ f. f.taken ≡ taken)
     → IfOk result (λ f. IsWithinTaken most f a b)
 all_within most fewest taken a b result h1 h2 = grind (arith, nat_tests, common_steps, within_taken)
 
 pub returns-clause-most : goal.returns-clause-most
 returns-clause-most g c =
-    all_within (g.J.JumpSource.most c.args.j.now) (g.J.JumpSource.fewest c.args.j.now) c.taking.taken
+    all_within (g.J.JumpSource.most c.args.j.now) (g.J.JumpSource.fewest c.args.j.now).allowed c.taking.taken
     c.args.steps.now c.taking.steps c.found.result c.taking.invariant.counted c.found.ensures.taken
 
 pub node-requires : goal.node-requires
