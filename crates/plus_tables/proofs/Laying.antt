@@ -8,7 +8,7 @@ use Rattle.std.proofs.lemmas.Bool.Decides.{nat_tests}
 use Rattle.grid_moves.specs.declared.Cell.{Cell}
 use Rattle.grid_moves.specs.declared.Dir.{Dir}
 use Rattle.grid_moves.specs.declared.Dir.TheVariants.{N, NE, E, SE, S, SW, W, NW}
-use Rattle.grid_moves.specs.Grid.{GridData, IsGrid, cell_number, is_inside}
+use Rattle.grid_moves.specs.Grid.{GridData, IsGrid, is_inside}
 use Rattle.grid_moves.specs.Move.{dir_number, is_dir}
 use Rattle.grid_moves.proofs.Places.{number_below}
 use Rattle.pruning.proofs.Table.{at_dir, same_dir, by_test}
@@ -106,11 +106,7 @@ module _ (row : List ℤ) (x : ℕ) (room : x * 8 + 7 < length row) where
             → (b : Bool) → nat_lt k x ≡ b
             → number (with_dirs row x told (dirs_of h)) (k * 8 + dir_number e)
             ≡ number (part h line e) (k + 1)
-        by_place k e l i short true t =
-            let below : k < x = grind (arith, nat_tests) in
-            let few = dir_number-few e in
-            elsewhere told (dirs_of h) (k * 8 + dir_number e) (λ d m same. omega arith)
-            ∙ laid.told k e below i short
+        by_place k e l i short true t = grind (arith, nat_tests, elsewhere, dir_number-few)
         by_place k e l i short false t =
             let same : x ≡ k = grind (arith, nat_tests) in
             ap (λ (n : ℕ). number (with_dirs row x told (dirs_of h)) (n * 8 + dir_number e)) (sym same)
@@ -268,13 +264,7 @@ swept_on g h n y start k old all row below at known same grown stays begins wide
   where
     still : (c : Cell) (e : Dir) → is_inside g c ≡ true → swept h g.height n c e ≡ true
         → number all (entry_place g.width c e) ≡ number old (entry_place g.width c e)
-    still c e on l =
-        let column : c.x < g.width = grind (arith, nat_tests) in
-        let low : c.y < g.height = grind (arith, nat_tests) in
-        let there = there_before g.height n below c e h low l in
-        same (entry_place g.width c e)
-        (earlier (cell_number g.width c) (rows_there h g.height n * g.width) (dir_number e) (length old)
-        (number_below g.width (rows_there h g.height n) c column there) (dir_number-few e) known.long)
+    still c e on l = grind (arith, nat_tests, there_before, earlier, number_below, dir_number-few)
 
 -- entries along a row that the sweep does not tell are the grid's before
 pub along_right : (g : GridData) (h : Heading) (n y start k : ℕ) (old all : List ℤ) → n < g.height

@@ -76,9 +76,14 @@ pub part_long : (g : GridData) (line : Line) → IsLong g line → (d : Dir)
     → length (seen_part line d) ≡ g.width + 2
 part_long g line h d = grind (arith, nat_tests)
 
-pub part_seen : (g : GridData) (h : Heading) (m : ℕ) (line : Line) → AreAhead g h m line → AreAlong g m line
+part_seen : (g : GridData) (h : Heading) (m : ℕ) (line : Line) → AreAhead g h m line → AreAlong g m line
     → (d : Dir) → is_upward d ≡ true → IsEntryRow g m (seen h d) (seen_part line d)
 part_seen g h m line i j d k = grind (arith, nat_tests)
+
+pub part_row : (g : GridData) (h : Heading) (m : ℕ) (line : Line) → AreAhead g h m line → AreAlong g m line
+    → (d e : Dir) → is_upward d ≡ true → e ≡ d → (row : List ℤ) → row ≡ seen_part line e
+    → IsEntryRow g m (seen h d) row
+part_row g h m line i j d e up is row same = rw (same, is) (part_seen g h m line i j d up)
 
 -- the entries along a row, as they are read back
 pub taken : (g : GridData) (h : Heading) (y : ℕ) (row out : List ℤ) (d : Dir) → is_along d ≡ true

@@ -6,7 +6,7 @@ use Rattle.std.specs.Prelude.{ℤ, Some, filter}
 use Rattle.std.proofs.lemmas.List.Elements.{filter_agree}
 use Rattle.grid_moves.specs.declared.Cell.{Cell}
 use Rattle.grid_moves.specs.declared.Corner.{Corner}
-use Rattle.grid_moves.specs.declared.Corner.TheVariants.{Never, One, Both}
+use Rattle.grid_moves.specs.declared.Corner.TheVariants.{Never, Both}
 use Rattle.grid_moves.specs.declared.Dir.{Dir}
 use Rattle.grid_moves.specs.declared.Dir.TheVariants.{N, NE, E, SE, S, SW, W, NW}
 use Rattle.grid_moves.specs.Grid.{GridData, is_free}
@@ -78,16 +78,11 @@ told_kept r blocked by e = grind (arith, nat_tests)
 -- under `one` all is told as under `both`
 pub allowed_cut : (r : Corner) (entry : Cell → Dir → ℤ) (at : Cell) (by : Arrival) → may_cut r ≡ true
     → allowed_by r entry at by ≡ allowed_by Both entry at by
-allowed_cut Never entry at by h = absurd (cc)
-allowed_cut One entry at Start h = refl
-allowed_cut One entry at (By d) h = refl
-allowed_cut Both entry at by h = refl
+allowed_cut r entry at by h = grind (arith, nat_tests)
 
 pub allowed_uncut : (r : Corner) (entry : Cell → Dir → ℤ) (at : Cell) (by : Arrival) → may_cut r ≡ false
     → allowed_by r entry at by ≡ allowed_by Never entry at by
-allowed_uncut Never entry at by h = refl
-allowed_uncut One entry at by h = absurd (cc)
-allowed_uncut Both entry at by h = absurd (cc)
+allowed_uncut r entry at by h = grind (arith, nat_tests)
 
 -- a ring of which each cell was told by another test that agrees
 pub ring_told_by : (test free : Dir → Bool) → ((e : Dir) → test e ≡ free e) → (n ne e se s sw w nw : Bool)
@@ -95,16 +90,7 @@ pub ring_told_by : (test free : Dir → Bool) → ((e : Dir) → test e ≡ free
     → nw ≡ test NW
     → (let r : Ring = record { n = n; ne = ne; e = e; se = se; s = s; sw = sw; w = w; nw = nw } in r)
     ≡ ring_told free
-ring_told_by test free same n ne e se s sw w nw h i j k l m o p = rw (
-  h ∙ same N,
-  i ∙ same NE,
-  j ∙ same E,
-  k ∙ same SE,
-  l ∙ same S,
-  m ∙ same SW,
-  o ∙ same W,
-  p ∙ same NW,
-) refl
+ring_told_by test free same n ne e se s sw w nw h i j k l m o p = grind (arith, same)
 
 -- the cell before
 pub cell_before : (g : GridData) (u at : Cell) (d : Dir) → legal_ahead g u d ≡ Some at

@@ -1,16 +1,9 @@
-use Rattle.std.proofs.Common.{◌≡◌, ◌+◌, List, arith, ap, ◌∙◌, subst}
-use Rattle.std.specs.Prelude.{ℤ}
-use Rattle.grid_moves.specs.declared.Dir.{Dir}
+use Rattle.std.proofs.Common.{◌+◌, arith, refl}
 use Rattle.grid_moves.specs.Grid.{GridData}
-use Rattle.pruning.specs.declared.turns.Side.{Side}
 use Rattle.pruning.specs.declared.turns.Side.TheVariants.{Right, Left}
 use Rattle.pruning.specs.Turns.{turn}
-use Rattle.plus_tables.specs.Laid.{seen_part}
-use Rattle.plus_tables.specs.Rows.{IsEntryRow, seen}
-use Rattle.plus_tables.specs.Sweep.{is_upward}
 use Rattle.plus_tables.proofs.Fitting.{bordered, fits_across, long_as}
-use Rattle.plus_tables.proofs.Lining.{entries_as, leads_ahead, part_long, part_seen, seen_as, upward_ahead}
-use Rattle.plus_tables.proofs.Lining.{upward_beside}
+use Rattle.plus_tables.proofs.Lining.{leads_ahead, part_long, part_row, seen_as, upward_ahead, upward_beside}
 use Rattle.plus_tables.proofs.Rowing.{forced_if, told_row}
 use Rattle.plus_tables.proofs.lines.tell_ahead.Goals as goal
 
@@ -31,12 +24,9 @@ returns g c = λ h y ready around.
     let grid : GridData = g.T.Terrain.grid c.args.t.now in
     let band = c.args.band.now in
     let m = ready.rows.ahead in
-    let part = part_seen grid h m c.args.last.now ready.told ready.along in
-    let aside = λ (s : Side) (e : Dir) (is : e ≡ turn s c.args.d) (row : List ℤ) (same : row ≡ seen_part c.args.last.now e).
-    subst (λ (k : Dir). IsEntryRow grid m (seen h k) row) is
-    (entries_as grid m (seen h e) _ row same
-    (part e (ap is_upward is ∙ upward_beside s c.args.d c.requires.ahead))) in
-    told_row grid c.requires.whole h y m c.args.d (leads_ahead h c.args.d y m c.requires.ahead ready.rows.ahead_is)
+    let part = part_row grid h m c.args.last.now ready.told ready.along in
+    told_row grid c.requires.whole h y m c.args.d
+    (leads_ahead h c.args.d y m c.requires.ahead ready.rows.ahead_is)
     c.corner-corner.result c.corner-corner.ensures _ _ _ c.force.new.forced _ _ _ c.across.new.out
     (seen_as grid h y band.next.items band.here.items band.back.items _ _ _ c.deref-4.ensures.value
     c.deref-5.ensures.value c.deref-6.ensures.value around)
@@ -45,8 +35,9 @@ returns g c = λ h y ready around.
     c.deref-2.ensures.value c.deref-3.ensures.value (ready.rows.around_next on))
     c.args.d c.corner-corner.result c.force.new.forced c.corner-corner.ensures
     (omega (arith, c.requires.forced)) c.force.ensures)
-    (entries_as grid m (seen h c.args.d) _ _ c.part.ensures
-    (part c.args.d (upward_ahead c.args.d c.requires.ahead)))
-    (aside Right c.turn.result c.turn.ensures _ c.part-2.ensures)
-    (aside Left c.turn-2.result c.turn-2.ensures _ c.part-3.ensures)
+    (part c.args.d c.args.d (upward_ahead c.args.d c.requires.ahead) refl _ c.part.ensures)
+    (part (turn Right c.args.d) c.turn.result (upward_beside Right c.args.d c.requires.ahead) c.turn.ensures _
+    c.part-2.ensures)
+    (part (turn Left c.args.d) c.turn-2.result (upward_beside Left c.args.d c.requires.ahead) c.turn-2.ensures _
+    c.part-3.ensures)
     (omega (arith, c.requires.out)) c.across.ensures
