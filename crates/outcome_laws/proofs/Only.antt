@@ -22,7 +22,7 @@ use Rattle.word_list.specs.declared.request.SmallEngine.TheVariants.{Boxes, Move
 use Rattle.word_list.specs.declared.request.Settings.{Settings}
 use Rattle.word_list.specs.declared.request.Show.{Show}
 use Rattle.word_list.specs.declared.rows.Command.{Command}
-use Rattle.word_list.specs.declared.rows.Command.TheVariants.{Live}
+use Rattle.word_list.specs.declared.rows.Command.TheVariants.{Drill, Live}
 use Rattle.call_files.specs.FaultLines.{word_line}
 use Rattle.call_files.specs.Files.{AreAccepted, File, HasRefused, IsAccepted, file_of}
 use Rattle.call_files.specs.Kinds.{kind_for, limit_of}
@@ -382,20 +382,30 @@ module _ (holds : List ℕ → Held) (script : List ℕ) (call like : Call) (ali
     heard_none refusal also lines same p q = not_live call refl p
 
     one_cost_outcome : (one other : Outcome)
-        → (is_for_small_maps call.settings.pick ≡ is_for_small_maps like.settings.pick)
+        → (call.request.command ≡ Drill)
+        ⊎ (is_for_small_maps call.settings.pick ≡ is_for_small_maps like.settings.pick)
         ⊎ ((one.status ≢ 3) × (other.status ≢ 3)) ⊎ HoldsSmallMap (holds (word_at call.request.words 0))
         → CallComes call holds (Some script) one → CallComes like holds (Some script) other → one ≡ other
-    one_cost_outcome one other (inl small) p q =
+    one_cost_outcome one other (inl drill) p q =
+        both_same (same_alike holds (files_of call) (files_of like) (none_read drill ∙ like_files)) one_cost
+        heard_none one other p q
+      where
+        -- a drill reads no file
+        none_read : call.request.command ≡ Drill → files_of call ≡ files_of as_like
+        none_read drill =
+            ap (λ (c : Command). (task call.settings c call.request.words call.request.tables).files) drill
+            ∙ sym (ap (λ (c : Command). (task like.settings c call.request.words call.request.tables).files) drill)
+    one_cost_outcome one other (inr (inl small)) p q =
         both_same
         (same_alike holds (files_of call) (files_of like)
         (same_files call.settings like.settings alike.rule small call.request ∙ like_files))
         one_cost heard_none one other p q
-    one_cost_outcome one other (inr (inr small)) p q =
+    one_cost_outcome one other (inr (inr (inr small))) p q =
         both_same
         (subst (λ (files : List File). AreAlike holds (files_of call) files) like_files
         (small_alike holds call.settings like.settings alike.rule call.request told small))
         one_cost heard_none one other p q
-    one_cost_outcome one other (inr (inl few)) p q = by_ends one other few p q
+    one_cost_outcome one other (inr (inr (inl few))) p q = by_ends one other few p q
       where
         by_ends : (one other : Outcome) → (one.status ≢ 3) × (other.status ≢ 3)
             → CallComes call holds (Some script) one
@@ -482,7 +492,8 @@ jumps_same words others call like holds script one other told spelled also alike
 pub costs_same : (words others : List (List ℕ)) (call like : Call) (holds : List ℕ → Held) (script : List ℕ)
     (one other : Outcome) → AreTold holds (files_of call) → Spell words call → Spell others like
     → DifferInEngine call like → AsksForCosts call.request.command call.settings.show
-    → (is_for_small_maps call.settings.pick ≡ is_for_small_maps like.settings.pick)
+    → (call.request.command ≡ Drill)
+    ⊎ (is_for_small_maps call.settings.pick ≡ is_for_small_maps like.settings.pick)
     ⊎ ((one.status ≢ 3) × (other.status ≢ 3)) ⊎ HoldsSmallMap (holds (word_at call.request.words 0))
     → IsOutcome words holds (Some script) one → IsOutcome others holds (Some script) other → one ≡ other
 costs_same words others call like holds script one other told spelled also alike costs maps p q =

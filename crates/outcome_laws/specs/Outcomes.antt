@@ -81,15 +81,16 @@ abbrev pub HoldsSmallMap : Held → Type 0
 HoldsSmallMap held = (text : List ℕ) (m : Map) → held ≡ holding text → map_of text ≡ Ok m
     → takes Small m ≡ true
 
--- Of calls that ask for costs alone this is so for all engines, by either rule of states, where these take the
--- same maps, or neither call is refused, or the text for the map, which the first word names, is that of a small
--- one, or of none.
+-- Of calls that ask for costs alone this is so for all engines, by either rule of states: of drills always, and of
+-- scenarios where these engines take the same maps, or neither call is refused, or the text for the map, which the
+-- first word names, is that of a small one, or of none.
 abbrev pub EnginesPrintTheSameCosts : Type 0
 EnginesPrintTheSameCosts = (words others : List (List ℕ)) (call like : Call) (holds : List ℕ → Held)
     (script : List ℕ) (one other : Outcome) → AreTold holds (files_of call)
     → Spell words call → Spell others like → DifferInEngine call like
     → AsksForCosts call.request.command call.settings.show
-    → (is_for_small_maps call.settings.pick ≡ is_for_small_maps like.settings.pick)
+    → (call.request.command ≡ Drill)
+    ⊎ (is_for_small_maps call.settings.pick ≡ is_for_small_maps like.settings.pick)
     ⊎ ((one.status ≢ 3) × (other.status ≢ 3)) ⊎ HoldsSmallMap (holds (word_at call.request.words 0))
     → IsOutcome words holds (Some script) one → IsOutcome others holds (Some script) other → one ≡ other
 
