@@ -99,14 +99,14 @@ module _ (b : Bits) (g : GridData) (x : Cell) (are : AreItsBits b g) (free : is_
       record {
         count = g.height;
         positions = g.width;
-        shows = are.are_rows;
+        shows = are.rows;
         below = omega arith;
         above = grind (arith, nat_tests);
         starts = free_from_one g x.x x.y (x.x + 1) (x.y + 1) refl refl ∙ free;
         first = refl;
         beyond = λ p h. beyond_columns g p (x.y + 1) h;
-        few = let lines = are.are_rows.bordered in omega arith;
-        short = let blocks = are.are_rows.tight in omega arith;
+        few = let lines = are.rows.bordered in omega arith;
+        short = let blocks = are.rows.tight in omega arith;
       }
   start_on Column =
       let inside = free_inside g x free in
@@ -114,14 +114,14 @@ module _ (b : Bits) (g : GridData) (x : Cell) (are : AreItsBits b g) (free : is_
       record {
         count = g.width;
         positions = g.height;
-        shows = are.are_columns;
+        shows = are.columns;
         below = omega arith;
         above = grind (arith, nat_tests);
         starts = free_from_one g x.x x.y (x.x + 1) (x.y + 1) refl refl ∙ free;
         first = border_column g (x.x + 1);
         beyond = λ p h. beyond_rows g (x.x + 1) p h;
-        few = let lines = are.are_columns.bordered in omega arith;
-        short = let blocks = are.are_columns.tight in omega arith;
+        few = let lines = are.columns.bordered in omega arith;
+        short = let blocks = are.columns.tight in omega arith;
       }
 
 same_sides : (a b c d : Bool) → a ≡ c → b ≡ d

@@ -7,10 +7,10 @@ use Rattle.grid_moves.specs.declared.Corner.{Corner}
 use Rattle.grid_moves.specs.declared.Corner.TheVariants.{One, Both}
 use Rattle.grid_moves.specs.declared.Dir.{Dir}
 use Rattle.grid_moves.specs.declared.Dir.TheVariants.{N, NE, E, SE, S, SW, W, NW}
-use Rattle.grid_moves.specs.Grid.{GridData, IsGrid, grid_of, is_free}
+use Rattle.grid_moves.specs.Grid.{GridData, grid_of, is_free}
 use Rattle.grid_moves.specs.Move.{is_same}
 use Rattle.bit_grid.specs.declared.lines.ThreeWords.{ThreeWords}
-use Rattle.bit_grid.specs.Bits.{BitData, LineData, AreBitsOf, AreRowsOf, AreColumnsOf, is_free_from_one}
+use Rattle.bit_grid.specs.Bits.{BitData, LineData, AreBitsOf, is_free_from_one}
 use Rattle.pruning.specs.First.{first_stop, run_length}
 use Rattle.pruning.specs.Marked.{is_forced}
 use Rattle.jump_plain.specs.declared.scan.Reach.{Reach}
@@ -28,11 +28,14 @@ use Rattle.jump_block.specs.Scan.{Finds, IsStart, looked, most_lanes}
 use Rattle.jump_block.specs.Trail.{Trail, begun, shows_mark, trail_on}
 
 -- what jumps read is of the bits of this grid
-pub record AreItsBits (b : Bits) (g : GridData) : Type 0 where
-  pub whole : IsGrid g
-  pub are_rows : AreRowsOf b.rows.now g
-  pub are_columns : AreColumnsOf b.columns.now g
-  pub rule : b.corner ≡ g.corner
+abbrev pub AreItsBits : Bits → GridData → Type 0
+AreItsBits b g = AreBitsOf (record {
+  width = g.width;
+  height = g.height;
+  corner = b.corner;
+  rows = b.rows.now;
+  columns = b.columns.now;
+}) g
 
 -- on some grid whose bits these are, at a free cell of it; and on each
 abbrev pub OnSome : Bits → Cell → Type 0

@@ -3,4 +3,4 @@ use Rattle.jump_block.proofs.straight.Bits.is_open.Goals as goal
 
 pub returns-clause-is : goal.returns-clause-is
 returns-clause-is g c = λ grid are free.
-    c.bit_of.ensures.shown _ _ _ are.are_rows ∙ c.bit_beside-bit.ensures.is grid
+    c.bit_of.ensures.shown _ _ _ are.rows ∙ c.bit_beside-bit.ensures.is grid
