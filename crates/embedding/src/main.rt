@@ -18,8 +18,8 @@ use std::marker::Brand;
 use std::sync::ledger::{Blank, Ledger};
 use steps::Steps;
 
-/// A wall between two rooms. The way round it is the last row.
-const MAP: &[u8] = b"type octile\nheight 3\nwidth 3\nmap\n.@.\n.@.\n...\n";
+/// A wall between two rooms, and a cell that is closed in. The way round the wall is the last row.
+const MAP: &[u8] = b"type octile\nheight 3\nwidth 5\nmap\n.@.@.\n.@.@@\n...@.\n";
 
 // A session's reply to a query from (0,0) to (2,0), once the cell (1,1) was made land.
 fn reply_with_door<L: Ledger>(
@@ -56,6 +56,25 @@ fn print_reply(rt: &impl Print, reply: &Reply) -> io::Result<()> {
     }
 }
 
+// Prints the replies to queries from (0,0) to a cell that is closed in, one outside, and a blocked one.
+fn print_others<L: Ledger>(
+    alloc: Global,
+    rt: &impl Print,
+    session: &mut Session,
+    blank: Blank,
+) -> Result<()>
+    requires name { blank.name ≡ L.name }
+    requires parts { blank.parts ≡ L.parts }
+    requires some { 0 < L.parts }
+{
+    let mut steps = Steps::<L>::new(blank);
+    for (x, y) in [(4, 0), (5, 0), (1, 0)] {
+        let reply = session.query(alloc, 0, 0, x, y, &mut steps)?;
+        print_reply(rt, &reply)?;
+    }
+    Ok(())
+}
+
 fn main(rt: HostRuntime) -> Result<()> {
     let map = read_map(rt.alloc(), MAP)?;
     let mut session = Session::new(
@@ -66,5 +85,5 @@ fn main(rt: HostRuntime) -> Result<()> {
     )?;
     let reply = reply_with_door::<Brand>(rt.alloc(), &mut session, Blank::new(1))?;
     print_reply(&rt, &reply)?;
-    Ok(())
+    print_others::<Brand>(rt.alloc(), &rt, &mut session, Blank::new(1))
 }
