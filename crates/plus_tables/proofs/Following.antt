@@ -45,7 +45,8 @@ first_mark-straight g x d h = grind (arith, nat_tests, first_within-same, is_mar
 -- a first mark is the least from one move on
 pub first_mark-least : (g : GridData) (x : Cell) (d : Dir) (k : ℕ) → first_mark g x d ≡ Some k
     → IsLeast (HoldsAfter g d (λ v. is_marked g v d) x) 1 k
-first_mark-least g x d k e = subst (λ (o : Option ℕ). FindsLeast (HoldsAfter g d (λ v. is_marked g v d) x) 1 o) e
+first_mark-least g x d k e =
+    subst (λ (o : Option ℕ). FindsLeast (HoldsAfter g d (λ v. is_marked g v d) x) 1 o) e
     (first_on_run-finds g d (λ v. is_marked g v d) x)
 
 first_mark-some : (g : GridData) (x : Cell) (d : Dir) (k : ℕ) → first_mark g x d ≡ Some k → 1 ≤ k

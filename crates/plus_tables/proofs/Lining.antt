@@ -4,6 +4,7 @@ use Rattle.std.proofs.Common.{ap, sym, ◌∙◌, subst}
 use Rattle.std.specs.Prelude.{ℤ, Some, replicate}
 use Rattle.std.proofs.lemmas.Bool.Decides.{nat_tests}
 use Rattle.std.proofs.lemmas.List.{get_or-replicate, length-replicate, get_or_past, with_items_is}
+use Rattle.std.specs.Global.{Vec}
 use Rattle.std.specs.Vec.{with_items}
 use Rattle.grid_moves.specs.declared.Dir.{Dir}
 use Rattle.grid_moves.specs.declared.Dir.TheVariants.{N, NE, E, S, W, NW}
@@ -249,3 +250,15 @@ module _ (g : GridData) (whole : IsGrid g) (rows begun : Rows) (blank : IsBlank 
             here_is = blank_row g g.height begun.band.next.items (next ∙ blank.next) (omega arith);
             behind_is = is;
           })
+
+-- a row that was lent as a slice is what was written, and stays as long
+pub row_set : (row : Vec ℤ) (out : List ℤ) {lent : List ℤ} → length out ≡ length lent → lent ≡ row.items
+    → (with_items row out).items ≡ out
+row_set row out same is =
+    let long = ap (λ (l : List ℤ). length l) is in
+    with_items_is row out (omega (arith, row.ok.0))
+
+pub row_long : (row : Vec ℤ) (out : List ℤ) {lent : List ℤ} {n : ℕ} → length out ≡ length lent
+    → lent ≡ row.items → length row.items ≡ n → length (with_items row out).items ≡ n
+row_long row out same is long = ap (λ (l : List ℤ). length l) (row_set row out same is) ∙ same
+    ∙ ap (λ (l : List ℤ). length l) is ∙ long

@@ -50,7 +50,8 @@ module _ (r : Corner) (a h b : List Bool) (x : ℕ) where
   can_seen Downwards d = grind (arith, nat_tests)
 
 mark_flipped : (forced : Bool) (marks : Dir → Bool) (d : Dir)
-    → (forced || (is_diagonal (flipped d) && (marks (turn Right (flipped d)) || marks (turn Left (flipped d)))))
+    → (forced
+    || (is_diagonal (flipped d) && (marks (turn Right (flipped d)) || marks (turn Left (flipped d)))))
     ≡ (forced || (is_diagonal d && (marks (flipped (turn Right d)) || marks (flipped (turn Left d)))))
 mark_flipped forced marks d = grind (arith, nat_tests, either_way)
 

@@ -55,28 +55,30 @@ module _ (g : GridData) (whole : IsGrid g) where
       → (x : ℕ) (d : Dir)
       → is_free_on (upright h ahead here behind x) d ≡ is_open g (record { x = x; y = y }) d
   unfolding there
-  upright_open Upwards y ahead here behind around x d = grind (arith, nat_tests, flag_there, itself, flag_before)
+  upright_open Upwards y ahead here behind around x d =
+      grind (arith, nat_tests, flag_there, itself, flag_before)
   upright_open Downwards y ahead here behind around x d =
       grind (arith, nat_tests, flag_there, itself, flag_before)
 
-  module _ (h : Heading) (y : ℕ) (above here below : List Bool) (rows : AreRowsSeen g h y above here below) where
+  module _ (h : Heading) (y : ℕ) (above here below : List Bool) (r : AreRowsSeen g h y above here below) where
     -- so they tell where a neighbour is forced
     pub ring_forced : (x : ℕ) (d : Dir) → is_free g (record { x = x; y = y }) ≡ true
         → forced_on g.corner (ring_of above here below x) d
         ≡ is_forced g (record { x = x; y = y }) (seen h d)
     ring_forced x d f = forced_seen g.corner above here below x h d
         ∙ forced_of_ring g (record { x = x; y = y }) f (upright h above here below x)
-        (upright_open h y above here below rows x) g.corner refl (seen h d)
+        (upright_open h y above here below r x) g.corner refl (seen h d)
 
     pub forced_row : (d : Dir) (corner : Corner) (forced : List Bool) → corner ≡ g.corner
-        → length forced ≡ g.width + 2 → AreForced corner above here below d forced → IsForcedRow g y (seen h d) forced
+        → length forced ≡ g.width + 2 → AreForced corner above here below d forced
+        → IsForcedRow g y (seen h d) forced
     forced_row d corner forced rule long are v row free =
         let inside = free_inside g v free in
         let below_last : v.x < length forced - 2 = omega (arith, inside.0) in
         let free_here : is_free g (record { x = v.x; y = y }) ≡ true =
         ap (λ (n : ℕ). is_free g (record { x = v.x; y = n })) (sym row) ∙ free in
         are v.x below_last
-        ∙ ap (λ (r : Corner). forced_on r (ring_of above here below v.x) d) rule
+        ∙ ap (λ (k : Corner). forced_on k (ring_of above here below v.x) d) rule
         ∙ ring_forced v.x d free_here
         ∙ ap (λ (n : ℕ). is_forced g (record { x = v.x; y = n }) (seen h d)) (sym row)
 
@@ -84,9 +86,9 @@ module _ (g : GridData) (whole : IsGrid g) where
     pub row_legal : (d : Dir) (corner : Corner) → corner ≡ g.corner → (v : Cell) → v.y ≡ y
         → legal_by corner above here below d v.x ≡ can_move g v (seen h d)
     row_legal d corner rule v row =
-        ap (λ (r : Corner). legal_by r above here below d v.x) rule
+        ap (λ (k : Corner). legal_by k above here below d v.x) rule
         ∙ ap (λ (b : Bool). b && leads_on g.corner (ring_of above here below v.x) d)
-        (rows.here_is.cells v.x)
+        (r.here_is.cells v.x)
         ∙ by_test (is_free g (record { x = v.x; y = y })) refl
         ∙ ap (λ (n : ℕ). can_move g (record { x = v.x; y = n }) (seen h d)) (sym row)
       where
@@ -103,7 +105,7 @@ module _ (g : GridData) (whole : IsGrid g) where
             ≡ can_move g (record { x = v.x; y = y }) (seen h d)
         by_test true f = can_seen g.corner above here below v.x h d
             ∙ leads_on-legal g (record { x = v.x; y = y }) f (upright h above here below v.x)
-            (upright_open h y above here below rows v.x) g.corner refl (seen h d)
+            (upright_open h y above here below r v.x) g.corner refl (seen h d)
         by_test false f = blocked f (can_move g (record { x = v.x; y = y }) (seen h d)) refl
 
 -- where the next cell stands
@@ -204,13 +206,14 @@ pub told_row : (g : GridData) (whole : IsGrid g) (h : Heading) (y m : ℕ) (d : 
     → IsEntryRow g m (seen h (turn Left d)) left → length out ≡ g.width + 2
     → AreToldBelow corner above here below forced ahead right left d out (length out - 2)
     → IsEntryRow g y (seen h d) out
-told_row g whole h y m d lies corner rule above here below forced ahead right left out around forced_is ahead_is
-    right_is left_is long are_told v row inside =
+told_row g whole h y m d lies corner rule above here below forced ahead right left out around forced_is
+    ahead_is right_is left_is long are_told v row inside =
     let below_last : v.x < length out - 2 = grind (arith, nat_tests) in
     let can = row_legal g whole h y above here below around d corner rule v row in
     let legal = legal_by corner above here below d v.x in
     are_told v.x below_last
-    (short_entries g whole h v d m forced ahead right left legal can in_row forced_is ahead_is right_is left_is)
+    (short_entries g whole h v d m forced ahead right left legal can in_row forced_is ahead_is right_is
+    left_is)
     ∙ told_entry g whole h v d m forced ahead right left legal can in_row forced_is ahead_is right_is left_is
   where
     -- the next cell lies in the row ahead

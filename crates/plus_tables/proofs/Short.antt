@@ -16,7 +16,8 @@ use Rattle.pruning.proofs.Lengths.{run_length-few}
 -- a first mark lies on the run
 pub first_mark-few : (g : GridData) (x : Cell) (d : Dir) (k : ℕ) → first_mark g x d ≡ Some k
     → k ≤ g.width + g.height
-first_mark-few g x d k e = let holds = (first_mark-least g x d k e).holds in grind (arith, nat_tests, run_short)
+first_mark-few g x d k e =
+    let holds = (first_mark-least g x d k e).holds in grind (arith, nat_tests, run_short)
 
 short_mark : (k : ℕ) → k ≤ 8192 → IsShort (pos k)
 short_mark k h = record { low = omega (arith, ints); high = omega (arith, ints) }

@@ -8,10 +8,8 @@ use Rattle.grid_moves.specs.declared.Cell.{Cell}
 use Rattle.grid_moves.specs.declared.Corner.{Corner}
 use Rattle.grid_moves.specs.declared.Corner.TheVariants.{Never, Both}
 use Rattle.grid_moves.specs.declared.Dir.{Dir}
-use Rattle.grid_moves.specs.declared.Dir.TheVariants.{N, NE, E, SE, S, SW, W, NW}
 use Rattle.grid_moves.specs.Grid.{GridData, is_free}
 use Rattle.grid_moves.specs.Move.{all_dirs, is_dir, is_open, legal_ahead, may_cut, opposite}
-use Rattle.grid_moves.specs.declared.ring.Ring.{Ring}
 use Rattle.grid_moves.specs.Ring.{ring_told, is_free_on, is_shut, leads_on}
 use Rattle.grid_moves.proofs.Besides.{told_on}
 use Rattle.grid_moves.proofs.Legal.{legal_is, by_cut}
@@ -83,14 +81,6 @@ allowed_cut r entry at by h = grind (arith, nat_tests)
 pub allowed_uncut : (r : Corner) (entry : Cell → Dir → ℤ) (at : Cell) (by : Arrival) → may_cut r ≡ false
     → allowed_by r entry at by ≡ allowed_by Never entry at by
 allowed_uncut r entry at by h = grind (arith, nat_tests)
-
--- a ring of which each cell was told by another test that agrees
-pub ring_told_by : (test free : Dir → Bool) → ((e : Dir) → test e ≡ free e) → (n ne e se s sw w nw : Bool)
-    → n ≡ test N → ne ≡ test NE → e ≡ test E → se ≡ test SE → s ≡ test S → sw ≡ test SW → w ≡ test W
-    → nw ≡ test NW
-    → (let r : Ring = record { n = n; ne = ne; e = e; se = se; s = s; sw = sw; w = w; nw = nw } in r)
-    ≡ ring_told free
-ring_told_by test free same n ne e se s sw w nw h i j k l m o p = grind (arith, same)
 
 -- the cell before
 pub cell_before : (g : GridData) (u at : Cell) (d : Dir) → legal_ahead g u d ≡ Some at
@@ -200,7 +190,7 @@ module _ (t : TablesData) (g : GridData) (right : AreTablesOf t g) where
 
   started : (at : Cell) → is_free g at ≡ true
       → allowed_by g.corner (entry_at t) at Start ≡ allowed_dirs g at Start
-  started at f = search (rules, all_told, told_here, legal_told)
+  started at f = search (rules, all_told, legal_told)
 
   -- by any arrival
   pub allowed_by_tables : (at : Cell) (by : Arrival) → is_free g at ≡ true → CanArrive g at by

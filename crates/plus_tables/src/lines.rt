@@ -282,13 +282,15 @@ fn tell_ahead<T: Terrain>(
 }
 
 // The entries of a row for E or W.
+#[tactic(auto, using(crate::proofs::Fitting::bordered))]
 fn tell_one_along<T: Terrain>(t: &T, rows: Three, d: Dir, forced: &mut [bool], out: &mut [i16])
     requires whole { IsGrid (T.grid t.now) }
     requires along { spec.is_along d ≡ true }
     requires forced { length forced.old ≡ (T.grid t.now).width + 2 }
     requires out { length out.old ≡ (T.grid t.now).width + 2 }
     requires rows { AreLong ((T.grid t.now).width + 2) rows.ahead.now rows.here.now rows.behind.now }
-    ensures { (h : Heading) (y : ℕ) → spec.AreRowsSeen (T.grid t.now) h y rows.entry.ahead.now rows.entry.here.now
+    ensures { (h : Heading) (y : ℕ) → spec.AreRowsSeen (T.grid t.now) h y
+        rows.entry.ahead.now rows.entry.here.now
         rows.entry.behind.now → spec.IsEntryRow (T.grid t.now) y d out.new }
 {
     force(t.corner(), rows.ahead, rows.here, rows.behind, d, forced);
@@ -358,6 +360,7 @@ pub fn bring_along<T: Terrain>(
 /// A sweep that heads down sees the map upside down: what is ahead of it counts as above, and its E and W
 /// stay. No move and no forced neighbour is another one so.
 #[inline(never)]
+#[tactic(auto, using(crate::proofs::Lining::row_set, crate::proofs::Lining::row_long))]
 pub fn tell<T: Terrain>(t: &T, band: &Band, last: &Line, forced: &mut [bool], this: &mut Line)
     requires whole { IsGrid (T.grid t.now) }
     requires ready { (h : Heading) × (y : ℕ) × lines.IsReady (T.grid t.now) h y band.now last.now

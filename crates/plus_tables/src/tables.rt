@@ -228,6 +228,7 @@ impl Tables {
     ///
     /// The grid has the sides and the corner rule of the tables.
     #[inline(always)]
+    #[tactic(auto, using(crate::proofs::Short::entry_stored, crate::proofs::Short::same_value))]
     pub fn refresh<T: Terrain, L: Ledger>(
         &mut self,
         t: &T,

@@ -78,6 +78,7 @@ fn is_free_past<L: Ledger>(tables: &Tables, at: Cell, d: Dir, e: Dir, steps: &mu
 
 // The allowed directions after a straight move where no corner is cut, in increasing order. Eight steps.
 #[inline(always)]
+#[tactic(auto, using(crate::proofs::Turning::told_past))]
 fn allowed_past<L: Ledger>(tables: &Tables, at: Cell, d: Dir, steps: &mut Steps<L>) -> Packed
     requires straight { is_diagonal d ≡ false }
     requires at { is_on tables.now at ≡ true }
@@ -102,6 +103,7 @@ fn allowed_past<L: Ledger>(tables: &Tables, at: Cell, d: Dir, steps: &mut Steps<
 // The allowed directions otherwise, in increasing order: each cell counts as free where the move to it is
 // legal. The rule is one by which they are told. Eight steps.
 #[inline(always)]
+#[tactic(auto, using(crate::proofs::Turning::told_here))]
 fn allowed_here<L: Ledger>(
     corner: Corner,
     tables: &Tables,

@@ -22,8 +22,8 @@ returns-then-are_alike g c =
 pub returns-in-Upwards : goal.returns-in-Upwards
 returns-in-Upwards g c =
     let band = c.args.band.now in
-    let around = seen_as (g.T.Terrain.grid c.args.t.now) c.args.heading c.args.y band.next.items band.here.items
-    band.back.items _ _ _ c.deref.ensures.value c.deref-in-Upwards.ensures.value
+    let around = seen_as (g.T.Terrain.grid c.args.t.now) c.args.heading c.args.y band.next.items
+    band.here.items band.back.items _ _ _ c.deref.ensures.value c.deref-in-Upwards.ensures.value
     c.deref-in-Upwards-2.ensures.value c.requires.ready.1 in (
       c.tell_one_along.ensures c.args.heading c.args.y around,
       c.tell_one_along-in-Upwards.ensures c.args.heading c.args.y around,

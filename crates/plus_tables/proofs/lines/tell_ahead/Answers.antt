@@ -38,6 +38,6 @@ returns g c = λ h y ready around.
     (part c.args.d c.args.d (upward_ahead c.args.d c.requires.ahead) refl _ c.part.ensures)
     (part (turn Right c.args.d) c.turn.result (upward_beside Right c.args.d c.requires.ahead) c.turn.ensures _
     c.part-2.ensures)
-    (part (turn Left c.args.d) c.turn-2.result (upward_beside Left c.args.d c.requires.ahead) c.turn-2.ensures _
-    c.part-3.ensures)
+    (part (turn Left c.args.d) c.turn-2.result (upward_beside Left c.args.d c.requires.ahead) c.turn-2.ensures
+    _ c.part-3.ensures)
     (omega (arith, c.requires.out)) c.across.ensures

@@ -6,7 +6,8 @@ use Rattle.jump_plain.proofs.Forcing.{is_forced-there}
 use Rattle.plus_tables.proofs.onward.is_forced_next.Goals as goal
 
 pub of-requires-else-is_diagonal-clause-free : goal.of-requires-else-is_diagonal-clause-free
-of-requires-else-is_diagonal-clause-free g c = legal_ahead-free _ c.args.at c.args.next c.args.d c.requires.legal
+of-requires-else-is_diagonal-clause-free g c =
+    legal_ahead-free _ c.args.at c.args.next c.args.d c.requires.legal
 
 pub forced-requires : goal.forced-requires
 forced-requires g c = record { free = legal_ahead-free _ c.args.at c.args.next c.args.d c.requires.legal }
