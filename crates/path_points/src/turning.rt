@@ -1,6 +1,6 @@
 //! The points of a way: its ends and its turns.
 
-ghost use Rattle.std.specs.Prelude.{◌≡◌, ◌+◌, ◌*◌, IfOk, OnOk, if◌then◌else◌, [], ◌∷◌, ◌++◌};
+ghost use Rattle.std.specs.Prelude.{◌≡◌, ◌+◌, ◌*◌, IfOk, OnErr, OnOk, if◌then◌else◌, [], ◌∷◌, ◌++◌};
 ghost use Rattle.path_points.specs.Corners as spec;
 
 use crate::{NoMemory, Points};
@@ -17,8 +17,9 @@ fn goes_straight(u: Cell, v: Cell, w: Cell) -> bool
 
 /// Appends the middle one of three cells where the way turns there.
 pub fn push_turn(points: &mut Points, before: Cell, at: Cell, next: Cell) -> Result<(), NoMemory>
-    ensures { OnOk result (points.new ≡
+    ensures turned { OnOk result (points.new ≡
         (if spec.goes_straight before at next then points.old else points.old ++ at ∷ [])) }
+    ensures unchanged { OnErr result (points.new ≡ points.old) }
 {
     if goes_straight(before, at, next) {
         Ok(())

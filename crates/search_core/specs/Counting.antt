@@ -23,7 +23,8 @@ pub record IsCounted (most : Option StepsByCall) (fewest n old new : ℕ) : Type
   pub at_least : old + n * fewest ≤ new
 
 -- and one that went on from all states that it took but the last
-pub record IsCountedSoFar (most : Option StepsByCall) (fewest : ℕ) (taken : List ℕ) (old new : ℕ) : Type 0 where
+pub record IsCountedSoFar (most : Option StepsByCall) (fewest : ℕ) (taken : List ℕ) (old new : ℕ)
+    : Type 0 where
   pub gone_on : ℕ
   pub one_more : length taken ≡ suc gone_on
   pub counted : IsCounted most fewest gone_on old new

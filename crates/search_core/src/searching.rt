@@ -90,7 +90,8 @@ fn advance<J: JumpSource, L: Ledger, M: Ledger>(
     ensures same { IfOk result (λ next. IfNone next (taken.new ≡ taken.old)) }
     ensures layout { space.new.layout ≡ space.old.layout }
     ensures places { space.new.places ≡ space.old.places }
-    ensures counted { IfOk result (λ _. IsCounted (J.most j.now) (J.fewest j.now).allowed 1 steps.old steps.new) }
+    ensures counted { IfOk result
+        (λ _. IsCounted (J.most j.now) (J.fewest j.now).allowed 1 steps.old steps.new) }
 {
     space.reserve()?;
     let last = last_at(space, query.to, at);

@@ -9,8 +9,8 @@ abbrev pub invariant-taking : goal.invariant-taking
 invariant-taking g l = record {
   reached : OnEach (g.J.JumpSource.StandsFor l.j) l.query.from l.query.to
       (λ x. HasReached l.query.layout x l.query.from l.query.to l.at l.space l.taken);
-  counted : IsCountedSoFar (g.J.JumpSource.most l.j) (g.J.JumpSource.fewest l.j).allowed l.taken l.initial.steps
-      l.steps;
+  counted : IsCountedSoFar (g.J.JumpSource.most l.j) (g.J.JumpSource.fewest l.j).allowed l.taken
+      l.initial.steps l.steps;
   places : l.space.places ≡ l.initial.space.places;
 }
 
