@@ -241,6 +241,7 @@ fn stop_aimed<L: Ledger>(
     requires goal { is_on tables.now goal ≡ true }
     requires entry { entry ≡ entry_at tables.now at d }
     ensures is { result ≡ spec.stop_told (entry_at tables.now) at d goal }
+    ensures straight { turns.is_diagonal d ≡ false → steps.new ≡ steps.old }
     ensures most { steps.new ≤ steps.old + 1 }
     ensures fewest { steps.old ≤ steps.new }
 {
@@ -256,7 +257,7 @@ fn stop_aimed<L: Ledger>(
     }
 }
 
-/// After how many moves a jump stops. One step or two. Where the direction does not lead to where the goal
+/// After how many moves a jump stops. One step, or two by a diagonal. Where the direction does not lead to where the goal
 /// lies, the entry alone tells it.
 #[inline(always)]
 pub fn stop_told<L: Ledger>(
@@ -269,6 +270,7 @@ pub fn stop_told<L: Ledger>(
     requires at { is_on tables.now at ≡ true }
     requires goal { is_on tables.now goal ≡ true }
     ensures is { result ≡ spec.stop_told (entry_at tables.now) at d goal }
+    ensures straight { turns.is_diagonal d ≡ false → steps.new ≡ steps.old + 1 }
     ensures most { steps.new ≤ steps.old + 2 }
     ensures fewest { steps.old + 1 ≤ steps.new }
 {

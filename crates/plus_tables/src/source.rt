@@ -1,6 +1,10 @@
 //! The tables of a grid as a source of jumps.
 
-ghost use Rattle.std.specs.Prelude.{◌≡◌, Some};
+ghost use Rattle.std.specs.Prelude.{◌≡◌, ◌+◌, ◌≤◌, false, IsTrue, Some};
+ghost use Rattle.grid_moves.specs.Grid.{GridData, is_free};
+ghost use Rattle.pruning.specs.Source.{IsWithin};
+ghost use Rattle.pruning.specs.Stop.{IsFirstStop};
+ghost use Rattle.pruning.specs.Turns.{is_diagonal};
 ghost use Rattle.plus_tables.specs.Tables.{AreTablesOf};
 
 use crate::jumps::stop_told;
@@ -32,7 +36,16 @@ impl<'a> JumpSource for PlusJumps<'a> {
         self.tables.height()
     }
 
-    fn stop<L: Ledger>(&self, at: Cell, d: Dir, goal: Cell, steps: &mut Steps<L>) -> Option<u16> {
+    /// A straight jump reads one entry, a diagonal one at most two.
+    fn stop<L: Ledger>(&self, at: Cell, d: Dir, goal: Cell, steps: &mut Steps<L>) -> Option<u16>
+        requires { (g : GridData) × AreTablesOf self.now.tables.now g × IsTrue (is_free g at)
+            × IsTrue (is_free g goal) }
+        ensures first { (g : GridData) → AreTablesOf self.now.tables.now g → IsTrue (is_free g at)
+            → IsTrue (is_free g goal) → IsFirstStop g goal at d result }
+        ensures most { IsWithin (Some (record { stop = 2; allowed = 8 })) (λ told. told.stop) steps.old steps.new }
+        ensures straight { is_diagonal d ≡ false → steps.new ≡ steps.old + 1 }
+        ensures fewest { steps.old + 1 ≤ steps.new }
+    {
         stop_told(self.tables, at, d, goal, steps)
     }
 
