@@ -1,7 +1,3 @@
-use Rattle.std.proofs.Common.{◌<◌, ◌^◌, sym, subst}
-use Rattle.best_first.specs.declared.node.Offer.{Offer}
-use Rattle.best_first.specs.Space.{IsPlaced}
-use Rattle.best_first.specs.Table.{ClosedBelow, node_for}
 use Rattle.search_core.proofs.Serving.{free_there, ready_on, jumped_on, stays_on}
 use Rattle.search_core.proofs.jumping.offer_jump.Goals as goal
 

@@ -1,13 +1,11 @@
 use Rattle.std.proofs.lemmas.Bool.Decides.{nat_tests}
 use Rattle.std.proofs.lemmas.Grind.{common_steps}
-use Rattle.std.proofs.Common.{◌≡◌, ◌∙◌, ◌+◌, ◌-◌, ◌<◌, ◌≤◌, ℕ, List, length, subst, arith}
-use Rattle.std.specs.Prelude.{Option, IfSome, IfOk}
+use Rattle.std.proofs.Common.{◌≡◌, ◌∙◌, ◌+◌, ◌-◌, ◌<◌, ◌≤◌, ℕ, List, length, arith}
+use Rattle.std.specs.Prelude.{Option, IfOk}
 use Rattle.std.proofs.lemmas.Option.{slice_get_within}
 use Rattle.std.specs.declared.result.Result.{Result}
 use Rattle.pruning.specs.Source.{MostSteps}
 use Rattle.search_core.specs.Counting.{IsCountedSoFar, IsWithinTaken}
-use Rattle.search_core.specs.Jumping.{GoesOnFrom}
-use Rattle.search_core.specs.Serving.{OnEach}
 use Rattle.best_first.specs.declared.found.Found.{Found}
 use Rattle.search_core.proofs.Counting.{counted_further, within_taken}
 use Rattle.search_core.proofs.Serving.{differs_there, same_there}
