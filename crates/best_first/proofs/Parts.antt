@@ -44,8 +44,8 @@ seen_cell layout width places s p = subst (λ (c : Cell). IsPlaced width places 
 module _ {layout : Layout} {width : ℕ} {nodes : List Node} {heads : List ℕ} {records : List Record}
     (a : AreParts layout width nodes heads records) where
   -- with one node more
-  pub parts_added : (n : Node) (s : State) {after : List Node} {later_heads : List ℕ} {later_records : List Record}
-      {entry : ℕ} → width ≤ 4096 → IsPlaced width (length heads) s.cell
+  pub parts_added : (n : Node) (s : State) {after : List Node} {later_heads : List ℕ}
+      {later_records : List Record} {entry : ℕ} → width ≤ 4096 → IsPlaced width (length heads) s.cell
       → n.place ≡ place_of s → lookup layout nodes (state_in layout s) ≡ None → after ≡ nodes ++ n ∷ []
       → entry ≡ suc (length nodes)
       → IsPut layout heads later_heads records later_records (cell_number width s.cell)
@@ -59,8 +59,8 @@ module _ {layout : Layout} {width : ℕ} {nodes : List Node} {heads : List ℕ} 
       (cell_number width (state_of layout n).cell) (arrival_number (state_of layout n).arrival)
       (suc (length nodes)) = rw (← entry_is) (rw (state, in_cell layout s) put) in
       record {
-        exact = rw after_is (exact_added a.exact n at_state (rw state (seen_cell layout width (length heads) s p))
-            (rw state new) (l ∙ ap (λ (k : ℕ). records_for layout k) entry_is));
+        exact = rw after_is (exact_added a.exact n at_state
+            (rw state (seen_cell layout width (length heads) s p)) (rw state new) (l ∙ ap (λ (k : ℕ). records_for layout k) entry_is));
         few_cells = (let e = put.as_many in let f = a.few_cells in omega arith);
       }
 

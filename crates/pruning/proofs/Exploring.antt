@@ -13,7 +13,7 @@ use Rattle.grid_moves.specs.declared.Cell.{Cell}
 use Rattle.grid_moves.specs.declared.Dir.{Dir}
 use Rattle.grid_moves.specs.Grid.{GridData, is_free}
 use Rattle.grid_moves.specs.Move.{is_legal, is_same, dir_cost, move_cost}
-use Rattle.grid_moves.specs.Walk.{IsWalk, IsLeastWalk, is_walk, cost_of, last_of}
+use Rattle.grid_moves.specs.Walk.{IsWalk, is_walk, cost_of, last_of}
 use Rattle.grid_moves.proofs.Costs.{cost_there}
 use Rattle.grid_moves.proofs.Legal.{and_both, legal_is, is_same-cell, is_same-itself}
 use Rattle.grid_moves.proofs.Walks.{Goes, last_free, last-joined, walk-joined, cost-joined}

@@ -47,7 +47,8 @@ counted_one n few first then low on = record {
     times : (n s : ℕ) → n ≤ 8 → n * s ≤ 8 * s
     times n s h = grind arith
 
-module _ {layout : Layout} {Stands : GridData → Type 0} {s t : Cell} {at : ℕ} {old mid : SpaceData} {taken : List ℕ}
+module _ {layout : Layout} {Stands : GridData → Type 0} {s t : Cell} {at : ℕ} {old mid : SpaceData}
+    {taken : List ℕ}
     (reached : OnEach Stands s t (λ g. HasReached layout g s t at old taken)) (shape : KeepsShape old mid)
     (table : mid.table ≡ old.table) where
   pub ranked : OnSome Stands s t → (n : Node) → slice_get mid.table.nodes at ≡ Some n
@@ -119,5 +120,5 @@ module _ {layout : Layout} {Stands : GridData → Type 0} {s t : Cell} {at : ℕ
                 → {after : List ℕ} → after ≡ taken ++ number ∷ []
                 → OnEach Stands s t (λ g. HasReached layout g s t id new after)
             reached_on shape_last closed is pushed g v =
-                reached_next v (same_shape (same_shape (reached g v).of shape) shape_on) shape_last (next g v) closed
-                (pushed ∙ ap (λ (n : ℕ). taken ++ n ∷ []) (is g v.stands))
+                reached_next v (same_shape (same_shape (reached g v).of shape) shape_on) shape_last
+                (next g v) closed (pushed ∙ ap (λ (n : ℕ). taken ++ n ∷ []) (is g v.stands))

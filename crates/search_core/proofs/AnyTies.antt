@@ -1,6 +1,6 @@
 -- With one state for each cell a search that always takes a cell of a least sum ends right, however ties are
--- broken: sums never fall, so no taken cell is offered at less, and one state for each cell suffices. A cell is
--- taken once, so it takes no more than the map has.
+-- broken: sums never fall, so no taken cell is offered at less, and one state for each cell suffices. A cell
+-- is taken once, so it takes no more than the map has.
 use Rattle.std.proofs.lemmas.Bool.Decides.{nat_tests}
 use Rattle.std.proofs.lemmas.Grind.{common_steps}
 use Rattle.std.proofs.lemmas.List.{length-map}

@@ -86,12 +86,14 @@ module _ {layout : Layout} {Stands : GridData → Type 0} {s t : Cell} {last : L
         made ∙ ap (λ (q : Option ℕ). option_map_or (λ m. offered layout t (offer_after last d m) k) q k)
         (sym (computed (Some n) a g v))
 
-    pub stays_on : Answers None → OnEach Stands s t (λ g. space.table ≡ jumped_in layout g t last d space.table)
+    pub stays_on : Answers None
+        → OnEach Stands s t (λ g. space.table ≡ jumped_in layout g t last d space.table)
     stays_on a g v = let k = space.table in
         ap (λ (o : Option ℕ). option_map_or (λ m. offered layout t (offer_after last d m) k) o k)
         (sym (computed None a g v))
 
--- after some of the directions: the jumps in those that are left lead to what all lead to, within what all count
+-- after some of the directions: the jumps in those that are left lead to what all lead to, within what all
+-- count
 pub record IsSoFar (layout : Layout) (Stands : GridData → Type 0) (s t : Cell) (last : Last)
     (most : Option StepsByCall) (dirs left : List Dir) (old new : SpaceData) (before after : ℕ) : Type 0 where
   pub offering : OnEach Stands s t (λ g. IsOffering layout g s t last new)
@@ -141,11 +143,13 @@ module _ {layout : Layout} {Stands : GridData → Type 0} {s t : Cell} {last : L
       one_more n s = omega arith
 
   -- none is left
-  pub at_last : {left : List Dir} → IsSoFar layout Stands s t last most dirs left old mid before at → left ≡ []
+  pub at_last : {left : List Dir} → IsSoFar layout Stands s t last most dirs left old mid before at
+      → left ≡ []
       → OnEach Stands s t (λ g. mid.table ≡ jumped layout g t last dirs old.table)
       × IsWithin most (λ told. length dirs * told.stop) before at
   at_last so none =
-      let all = subst (λ (ds : List Dir). IsSoFar layout Stands s t last most dirs ds old mid before at) none so in
+      let all =
+      subst (λ (ds : List Dir). IsSoFar layout Stands s t last most dirs ds old mid before at) none so in
       (λ g v. all.jumped g v, all.within at (within_none most (λ told. 0 * told.stop) at))
 
 -- the cell of a node that was read differs from t or not: so does that of whatever node stands there

@@ -71,8 +71,8 @@ pub record IsOver (g : GridData) (t : Cell) (taken : List Reached) : Type 0 wher
   pub not_there : ¬ HasCell taken t
   pub nothing : (x : Reached) → ¬ IsOffered g t taken x
 
--- the answer is that of such a search at its end: it shows what was taken, in order, and t was taken at the cost
--- of its walk; where it has none, the search is over without t
+-- the answer is that of such a search at its end: it shows what was taken, in order, and t was taken at the
+-- cost of its walk; where it has none, the search is over without t
 pub record IsBySuch (g : GridData) (s t : Cell) (f : Found) : Type 0 where
   pub taken : List Reached
   pub are : AreTaken g t s taken
