@@ -86,8 +86,8 @@ fn refuse_word<E: Sink>(alloc: Global, number: u32, err: &mut E) -> u8
 ///
 /// `words` are the program's words without its own name. Files are read by their names, a script
 /// that comes in from `input`; `out` gets the output and `err` the line of a refusal or a fault.
-/// `steps` counts what the session counts, and by `scen` with first moves a step for each move of a walk, or
-/// one where there is none (of these the clauses say only that the counter does not fall).
+/// `steps` counts what the session counts, and by `scen` with first moves a step for each move of a walk,
+/// and one where a first move is looked for in vain (of these the clauses say only that the counter does not fall).
 ///
 /// Statuses: 0 done; 1 done, and a scenario has a row that is neither agree nor near, or `judge` or
 /// `check` refuses, or `prove` has no ends that are free and on one layer of the map, or `draw` none that are

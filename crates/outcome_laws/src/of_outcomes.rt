@@ -20,10 +20,10 @@ pub fn jump_engines_print_the_same()
     ensures { JumpEnginesPrintTheSame }
 {}
 
-/// Two calls of `scen` that don't show counts of taken states, or two of `drill`, come to the same outcome
+/// Two calls of `drill`, or two of `scen` that don't show counts of taken states, come to the same outcome
 /// whatever engines they pick, and however many states of a cell they ask for, where the files and the input
-/// are told, and if these engines take the same maps (`boxes` and `moves` take small ones alone), or neither
-/// call is refused, or the text for the map of `scen` is that of a small one, or of none.
+/// are told. Of `scen` this asks that these engines take the same maps (`boxes` and `moves` take small ones
+/// alone), or that neither call is refused, or that the text for the map is that of a small one, or of none.
 pub fn engines_print_the_same_costs()
     ensures { EnginesPrintTheSameCosts }
 {}

@@ -215,7 +215,7 @@ impl Answerer {
     }
 
     /// Answers a query. A session counts what its engine counts, first moves a step for each move of
-    /// the walk, or one where there is none.
+    /// the walk, and one where a first move is looked for in vain.
     pub fn query<L: Ledger>(
         &mut self,
         alloc: Global,
