@@ -42,7 +42,8 @@ impl<'a> JumpSource for PlusJumps<'a> {
             × IsTrue (is_free g goal) }
         ensures first { (g : GridData) → AreTablesOf self.now.tables.now g → IsTrue (is_free g at)
             → IsTrue (is_free g goal) → IsFirstStop g goal at d result }
-        ensures most { IsWithin (Some (record { stop = 2; allowed = 8 })) (λ told. told.stop) steps.old steps.new }
+        ensures most { IsWithin (Some (record { stop = 2; allowed = 8 })) (λ known. known.stop)
+            steps.old steps.new }
         ensures straight { is_diagonal d ≡ false → steps.new ≡ steps.old + 1 }
         ensures fewest { steps.old + 1 ≤ steps.new }
     {
