@@ -12,7 +12,7 @@ ghost use Rattle.first_moves.specs.Row.{AreMoves, IsRow};
 
 use cost_waves::CostWaves;
 use first_moves::{Moves, Row, Run};
-use goal_boxes::{Boxes, CellBoxes, NO_BOXES, boxes_told};
+use goal_boxes::{Boxes, CellBoxes, NO_BOXES, boxes_of_waves};
 use grid_moves::{Cell, Terrain};
 use path_points::push_item;
 pub use std::alloc::AllocError as NoMemory;
@@ -48,8 +48,8 @@ fn both_at<T: Terrain, L: Ledger>(
     if t.free(c) {
         passes.tick();
         lent.waves.pass(t, c)?;
-        let row = Row::told(alloc, &mut lent.runs, &lent.waves)?;
-        Ok((boxes_told(&lent.waves), row))
+        let row = Row::of_waves(alloc, &mut lent.runs, &lent.waves)?;
+        Ok((boxes_of_waves(&lent.waves), row))
     } else {
         let row = Row::without_moves(alloc)?;
         Ok((NO_BOXES, row))

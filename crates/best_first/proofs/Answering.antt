@@ -15,7 +15,7 @@ use Rattle.best_first.specs.declared.node.Node.{Node}
 use Rattle.best_first.specs.declared.state.State.{State}
 use Rattle.best_first.specs.declared.state.Layout.{Layout}
 use Rattle.best_first.specs.Answer.{AnswersAre, AnswersExist, IsAnswer, IsFound, RunsAreOne}
-use Rattle.best_first.specs.Made.{answer_of, found_of, states_on_map, told}
+use Rattle.best_first.specs.Made.{answer_of, found_of, states_on_map, answered}
 use Rattle.best_first.specs.Node.{state_of}
 use Rattle.best_first.specs.Progress.{HasTaken, IsExhausted}
 use Rattle.best_first.specs.Rule.{AreLinks, IsSearch, Links, search_rule}
@@ -44,7 +44,7 @@ module _ (width height : ℕ) (goal : Cell) (link : Links) (links : AreLinks wid
         ends = record { is_run = is.run; ended = inl goal_met };
         answers =
             rw (is.along, is.priced, is.numbered) refl
-            ∙ ap (told width height goal link shown start (is.last ∷ is.earlier)) (sym goal_met);
+            ∙ ap (answered width height goal link shown start (is.last ∷ is.earlier)) (sym goal_met);
       }
     where
       met : (c : Cell) (b : Bool) → c ≡ goal → (is_same c goal || b) ≡ true
@@ -55,7 +55,7 @@ module _ (width height : ℕ) (goal : Cell) (link : Links) (links : AreLinks wid
   exhausted_ends taken is = record {
     run = is.run;
     ends = record { is_run = is.is_run; ended = inr is.none_waits };
-    answers = rw is.numbered refl ∙ ap (told width height goal link shown start is.run) (sym is.no_goal);
+    answers = rw is.numbered refl ∙ ap (answered width height goal link shown start is.run) (sym is.no_goal);
   }
 
   ends_with : (walk : Option Walk) (taken : List ℕ)
@@ -100,7 +100,7 @@ module _ (width height : ℕ) (goal : Cell) (link : Links) (links : AreLinks wid
   -- the answer of a run that ended
   by_end : (run : List (Taken State)) → IsEndedRun (search_rule width goal link) (start_at start) run → (b : Bool)
       → has_goal (search_rule width goal link) run ≡ b
-      → IsAnswer width goal link shown start (told width height goal link shown start run b)
+      → IsAnswer width goal link shown start (answered width height goal link shown start run b)
   by_end [] e b h = absurd e.is_run
   by_end (x ∷ earlier) e true h = record {
     earlier = earlier;

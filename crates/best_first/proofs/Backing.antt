@@ -16,7 +16,7 @@ use Rattle.search_run.proofs.Leastness.{least_offer-from}
 use Rattle.best_first.specs.declared.node.Node.{Node}
 use Rattle.best_first.specs.declared.state.State.{State}
 use Rattle.best_first.specs.declared.state.Layout.{Layout}
-use Rattle.best_first.specs.State.{is_same_state, start_at, state_told}
+use Rattle.best_first.specs.State.{is_same_state, start_at, state_of_place}
 use Rattle.best_first.specs.Rule.{Links, search_rule, IsSearch}
 use Rattle.best_first.specs.Node.{state_of}
 use Rattle.best_first.specs.Table.{Table}
@@ -59,7 +59,7 @@ module _ {layout : Layout} {width height : ℕ} {start goal : Cell} {link : Link
     (fit : IsSearch width height start goal link) {last : Taken State} {before : List (Taken State)} {at : ℕ}
     {best : Offers} {k : Table} (i : IsSearching layout width goal link start last before at best k) where
   cell_is : (n : Node) (s : State) → state_of layout n ≡ s → node_cell n ≡ s.cell
-  cell_is n s e = sym (in_cell layout (state_told n.place)) ∙ ap (λ (u : State). u.cell) e
+  cell_is n s e = sym (in_cell layout (state_of_place n.place)) ∙ ap (λ (u : State). u.cell) e
 
   -- what is left of a key is the rank of the cost
   pub left_is : (id : ℕ) (n : Node) → slice_get k.nodes id ≡ Some n → (u : Taken State)

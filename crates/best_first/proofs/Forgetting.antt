@@ -7,7 +7,7 @@ use Rattle.best_first.specs.declared.index.Record.{Record}
 use Rattle.best_first.specs.declared.node.Node.{Node}
 use Rattle.best_first.specs.declared.state.Layout.TheVariants.{ByCell}
 use Rattle.best_first.specs.Index.{cell_of_node, AreLed, AreBlank, IsExact}
-use Rattle.best_first.specs.State.{state_told}
+use Rattle.best_first.specs.State.{state_of_place}
 use Rattle.best_first.proofs.Lists.{got-set}
 use Rattle.best_first.proofs.Records.{head-is}
 
@@ -30,9 +30,9 @@ module _ (cell_of : ℕ → ℕ) (count : ℕ) where
   led_none first heads a n c r h = let l = a c r h in omega (arith, l.0, l.1)
 
 -- the number of a node's cell
-pub node-told : (width : ℕ) (nodes : List Node) (id : ℕ) (n : Node) → slice_get nodes id ≡ Some n
-    → cell_of_node width nodes id ≡ cell_number width (state_told n.place).cell
-node-told width nodes id n e = rw e refl
+pub node-cell : (width : ℕ) (nodes : List Node) (id : ℕ) (n : Node) → slice_get nodes id ≡ Some n
+    → cell_of_node width nodes id ≡ cell_number width (state_of_place n.place).cell
+node-cell width nodes id n e = rw e refl
 
 -- where a cell has one state, a head leads to its node
 pub led_by_nodes : (width : ℕ) (nodes : List Node) (heads : List ℕ) (records : List Record)

@@ -9,7 +9,7 @@ use Rattle.search_run.proofs.Leastness.{or_true}
 use Rattle.best_first.specs.declared.node.Node.{Node}
 use Rattle.best_first.specs.declared.state.State.{State}
 use Rattle.best_first.specs.declared.state.Layout.{Layout}
-use Rattle.best_first.specs.State.{is_same_state, state_told}
+use Rattle.best_first.specs.State.{is_same_state, state_of_place}
 use Rattle.best_first.specs.Rule.{Links, search_rule}
 use Rattle.best_first.specs.Node.{state_of}
 use Rattle.best_first.specs.Table.{Table, lookup}
@@ -43,7 +43,7 @@ module _ {layout : Layout} {width : ℕ} {goal : Cell} {link : Links} where
   module _ {run : List (Taken State)} {best : Offers} {k l : Table} {v : State} {id : ℕ} {n : Node}
       (m : Mirrors layout width goal link run best k) (ch : Changed layout v id n k l)
       (untaken : is_taken (search_rule width goal link) run v ≡ false)
-      (column : (state_told n.place).cell.x < width) where
+      (column : (state_of_place n.place).cell.x < width) where
     -- the slot is no taken state's
     not_here : (j : ℕ) (p : Node) → slice_get k.nodes j ≡ Some p
         → is_taken (search_rule width goal link) run (state_of layout p) ≡ true → j ≢ id
@@ -61,7 +61,7 @@ module _ {layout : Layout} {width : ℕ} {goal : Cell} {link : Links} where
 
     module _ (after : Offers) {o : Offer State} (keeps : Keeps layout width goal link l.nodes n o)
         (source : is_taken (search_rule width goal link) run o.from ≡ true)
-        (led : link.led o.from (state_told n.place) ≡ true) (at_v : after v ≡ Some o)
+        (led : link.led o.from (state_of_place n.place) ≡ true) (at_v : after v ≡ Some o)
         (at_others : (s : State) → is_same_state v s ≡ false → after s ≡ best s) where
       at_id : (j : ℕ) → (j ≡ id) ⊎ (j ≢ id)
       at_id j = grind arith

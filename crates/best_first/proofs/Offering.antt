@@ -20,14 +20,14 @@ use Rattle.best_first.specs.declared.node.Offer.{Offer as Way}
 use Rattle.best_first.specs.declared.state.State.{State}
 use Rattle.best_first.specs.declared.state.Layout.{Layout}
 use Rattle.best_first.specs.declared.state.Layout.TheVariants.{ByCell, ByArrival}
-use Rattle.best_first.specs.State.{is_same_state, place_of, state_in, state_told}
+use Rattle.best_first.specs.State.{is_same_state, place_of, state_in, state_of_place}
 use Rattle.best_first.specs.Rule.{Links, search_rule}
 use Rattle.best_first.specs.Node.{state_of}
 use Rattle.best_first.specs.Table.{Table, lookup, node_for, added, replaced, is_bettered, offered, offered_at}
 use Rattle.best_first.specs.Mirror.{Offers, with_offer, Keeps, Mirrors}
 use Rattle.open_list.proofs.Changes.{get-append_left, get_pushed, get_pushed_other}
 use Rattle.best_first.proofs.Lists.{get-set_same, get-set_other}
-use Rattle.best_first.proofs.States.{is_same_state-state, is_same_state-itself, same_or_not, told-place}
+use Rattle.best_first.proofs.States.{is_same_state-state, is_same_state-itself, same_or_not, place-again}
 use Rattle.best_first.proofs.Lookup.{lookup-found, none_found}
 use Rattle.best_first.proofs.Mirrors.{Changed, mirrors_changed, some_node}
 
@@ -105,14 +105,14 @@ module _ {layout : Layout} {width : ℕ} {goal : Cell} {link : Links} {run : Lis
     abbrev pub now : Offer State
     now = record { cost = cost; from = state_of layout p }
 
-    place_told : state_told (place_of way.to) ≡ way.to
-    place_told = told-place way.to (let a = w.column in let b = w.narrow in omega arith)
+    place_again : state_of_place (place_of way.to) ≡ way.to
+    place_again = place-again way.to (let a = w.column in let b = w.narrow in omega arith)
 
     pub new_state : state_of layout new ≡ to
-    new_state = ap (λ (s : State). state_in layout s) place_told
+    new_state = ap (λ (s : State). state_in layout s) place_again
 
-    new_column : (state_told new.place).cell.x < width
-    new_column = subst (λ (s : State). s.cell.x < width) (sym place_told) w.column
+    new_column : (state_of_place new.place).cell.x < width
+    new_column = subst (λ (s : State). s.cell.x < width) (sym place_again) w.column
 
     pub new_key : new.key ≡ rank_of (sum_at (search_rule width goal link) to cost)
     new_key = ap (λ (r : ℕ). r + rank_of (estimate way.to.cell goal)) w.ranked
@@ -204,11 +204,11 @@ module _ {layout : Layout} {width : ℕ} {goal : Cell} {link : Links} {run : Lis
     greater a b h l = grind (arith, nat_tests)
 
     -- the node that the state has has a greater key
-    by_lesser_key : link.led (state_of layout p) (state_told new.place) ≡ true → (id : ℕ) (n : Node)
+    by_lesser_key : link.led (state_of layout p) (state_of_place new.place) ≡ true → (id : ℕ) (n : Node)
         → slice_get k.nodes id ≡ Some n → state_of layout n ≡ to
         → is_taken (search_rule width goal link) run to ≡ false → nat_lt new.key n.key ≡ true
         → Mirrors layout width goal link run (with_offer best to now) (replaced id new k)
-    by_lesser_key told id n h e z t =
+    by_lesser_key is_led id n h e z t =
         let old = m.in_order id n h in
         let apart : way.parent ≢ id = λ i. let
         y : is_taken (search_rule width goal link) run (state_of layout p) ≡ false =
@@ -220,14 +220,14 @@ module _ {layout : Layout} {width : ℕ} {goal : Cell} {link : Links} {run : Lis
         let less : is_less cost old.offer.cost ≡ true = sym (test_is id n h e) ∙ t in
         mirrors_changed m (changed_by_replacing id n h e z) z new_column (with_offer best to now)
         (new_keeps (replaced id new k) (get-set_other k.nodes way.parent id new apart ∙ w.parent_is))
-        w.parent_taken told (at_v (Some old.offer) (best_at id n h e z) ∙ rw less refl) at_others
+        w.parent_taken is_led (at_v (Some old.offer) (best_at id n h e z) ∙ rw less refl) at_others
 
     -- an offer keeps the run, where it betters no taken state
     pub offered_keeps : ((id : ℕ) (n : Node) → slice_get k.nodes id ≡ Some n → state_of layout n ≡ to
         → is_taken (search_rule width goal link) run to ≡ true → n.key ≤ new.key)
-        → link.led (state_of layout p) (state_told new.place) ≡ true
+        → link.led (state_of layout p) (state_of_place new.place) ≡ true
         → Mirrors layout width goal link run (with_offer best to now) (offered layout goal way k)
-    offered_keeps least told = by_lookup (lookup layout k.nodes to) refl
+    offered_keeps least is_led = by_lookup (lookup layout k.nodes to) refl
       where
         kept : (id : ℕ) (n : Node) → slice_get k.nodes id ≡ Some n → state_of layout n ≡ to
             → nat_lt new.key n.key ≡ false → Mirrors layout width goal link run (with_offer best to now) k
@@ -245,7 +245,7 @@ module _ {layout : Layout} {width : ℕ} {goal : Cell} {link : Links} {run : Lis
             → nat_lt new.key n.key ≡ true → (b : Bool) → is_taken (search_rule width goal link) run to ≡ b
             → Mirrors layout width goal link run (with_offer best to now) (replaced id new k)
         by_taken id n h e t true y = absurd (greater new.key n.key t (least id n h e y))
-        by_taken id n h e t false z = by_lesser_key told id n h e z t
+        by_taken id n h e t false z = by_lesser_key is_led id n h e z t
 
         by_key : (id : ℕ) (n : Node) → slice_get k.nodes id ≡ Some n → state_of layout n ≡ to → (b : Bool)
             → nat_lt new.key n.key ≡ b
@@ -260,7 +260,8 @@ module _ {layout : Layout} {width : ℕ} {goal : Cell} {link : Links} {run : Lis
         by_lookup None e =
             let z = m.known to e in
             mirrors_changed m (changed_by_adding e) z.0 new_column (with_offer best to now)
-            (new_keeps (added new k) (get-append_left k.nodes (new ∷ []) way.parent p w.parent_is)) w.parent_taken told
+            (new_keeps (added new k) (get-append_left k.nodes (new ∷ []) way.parent p w.parent_is))
+            w.parent_taken is_led
             (at_v None z.1) at_others
         by_lookup (Some id) e =
             let f = lookup-found layout k.nodes to id e in

@@ -12,11 +12,11 @@ use Rattle.best_first.specs.declared.state.Layout.TheVariants.{ByCell, ByArrival
 use Rattle.best_first.specs.Index.{entry_for, entry_in, records_for, AreBlank, AreReset, IsPut, AreParts}
 use Rattle.best_first.specs.Node.{state_of}
 use Rattle.best_first.specs.Space.{IsPlaced}
-use Rattle.best_first.specs.State.{arrival_number, state_in, state_told, place_of}
+use Rattle.best_first.specs.State.{arrival_number, state_in, state_of_place, place_of}
 use Rattle.best_first.specs.Table.{lookup, is_bettered}
 use Rattle.best_first.proofs.Exact.{exact_blank, exact_added, exact_replaced, entry_found, few_nodes}
 use Rattle.best_first.proofs.Offering.{in_cell}
-use Rattle.best_first.proofs.States.{told-place}
+use Rattle.best_first.proofs.States.{place-again}
 use Rattle.best_first.proofs.Tables.{bettered_node}
 
 -- heads that are 0 lead nowhere in either layout
@@ -34,8 +34,8 @@ parts_blank layout b n r l = record { exact = rw (n, r) (exact_blank layout b); 
 pub node_state : (layout : Layout) (width places : ℕ) (n : Node) (s : State) → width ≤ 4096
     → IsPlaced width places s.cell → n.place ≡ place_of s → state_of layout n ≡ state_in layout s
 node_state layout width places n s narrow p e =
-    ap (λ (q : _). state_in layout (state_told q)) e
-    ∙ ap (λ (t : State). state_in layout t) (told-place s (let c = p.column in omega arith))
+    ap (λ (q : _). state_in layout (state_of_place q)) e
+    ∙ ap (λ (t : State). state_in layout t) (place-again s (let c = p.column in omega arith))
 
 seen_cell : (layout : Layout) (width places : ℕ) (s : State) → IsPlaced width places s.cell
     → IsPlaced width places (state_in layout s).cell

@@ -9,7 +9,7 @@ use Rattle.search_run.specs.Run.{Taken, here, way_to}
 use Rattle.best_first.specs.declared.node.Node.{Node}
 use Rattle.best_first.specs.declared.state.State.{State}
 use Rattle.best_first.specs.declared.state.Layout.{Layout}
-use Rattle.best_first.specs.State.{state_number, start_at, state_told}
+use Rattle.best_first.specs.State.{state_number, start_at, state_of_place}
 use Rattle.best_first.specs.Mirror.{Offers, IsSearching}
 use Rattle.best_first.specs.Rule.{Links, search_rule, IsSearch}
 use Rattle.best_first.specs.Node.{state_of}
@@ -31,7 +31,7 @@ numbers-next width link x run = reverse-append (state_number width (link.arrived
 -- a number is that of the state of a node, told by its place and with how it was come to, whatever from
 abbrev pub IsShown : Layout → ℕ → Links → Node → ℕ → Type 0
 IsShown layout width link node number =
-    (p : State) → link.led p (state_told node.place) ≡ true
+    (p : State) → link.led p (state_of_place node.place) ≡ true
     → number ≡ state_number width (link.arrived p (state_of layout node))
 
 pub reverse-twice : {X : Type 0} (xs : List X) → reverse (reverse xs) ≡ xs
@@ -43,11 +43,11 @@ reverse-twice (x ∷ xs) = ap reverse (reverse-append (x ∷ []) xs) ∙ reverse
 pub last_led : {layout : Layout} {width : ℕ} {goal : Cell} {link : Links} {start : Cell} {x : Taken State}
     {earlier : List (Taken State)} {at : ℕ} {best : Offers} {k : Table}
     (i : IsSearching layout width goal link start x earlier at best k)
-    → link.led x.parent (state_told i.node.place) ≡ true
+    → link.led x.parent (state_of_place i.node.place) ≡ true
 last_led {link = link} {x = x} {earlier = earlier} {at = at} i =
     let o = i.mirrors.in_order at i.node i.node_is in
     let from = (o.taken_by x (here earlier) (sym i.state)).1 in
-    ap (λ (s : State). link.led s (state_told i.node.place)) from ∙ o.led
+    ap (λ (s : State). link.led s (state_of_place i.node.place)) from ∙ o.led
 
 -- where states are printed as they are, a number is that of the node's state
 pub shown_plainly : (layout : Layout) (width : ℕ) (link : Links) (node : Node) (number : ℕ)
@@ -80,8 +80,8 @@ module _ {layout : Layout} {width height : ℕ} {start goal : Cell} {link : Link
       let one : node ≡ on.1.node = some_node node on.1.node (sym read ∙ on.1.node_is) in
       let state : state_of layout node ≡ on.0.state =
       ap (λ (x : Node). state_of layout x) one ∙ on.1.state in
-      let led : link.led on.0.parent (state_told node.place) ≡ true =
-      ap (λ (x : Node). link.led on.0.parent (state_told x.place)) one ∙ last_led on.1 in
+      let led : link.led on.0.parent (state_of_place node.place) ≡ true =
+      ap (λ (x : Node). link.led on.0.parent (state_of_place x.place)) one ∙ last_led on.1 in
       record {
         last = on.0;
         earlier = h.last ∷ h.earlier;

@@ -21,7 +21,7 @@ use Rattle.best_first.specs.declared.node.Offer.{Offer as Way}
 use Rattle.best_first.specs.declared.state.State.{State}
 use Rattle.best_first.specs.declared.state.Layout.{Layout}
 use Rattle.best_first.specs.declared.state.Layout.TheVariants.{ByCell, ByArrival}
-use Rattle.best_first.specs.State.{is_same_state, start_at, state_in, state_told, place_of}
+use Rattle.best_first.specs.State.{is_same_state, start_at, state_in, state_of_place, place_of}
 use Rattle.best_first.specs.Rule.{Links, search_rule, LiesOn, IsPosed, IsSearch}
 use Rattle.best_first.specs.Node.{state_of}
 use Rattle.best_first.specs.Table.{Table, lookup, node_for, begun, offered, closed_at, IsFirstNode, NoneOpen}
@@ -32,7 +32,7 @@ use Rattle.best_first.specs.Progress.{IsExhausted, numbers_of}
 use Rattle.best_first.proofs.Links.{consistent, short_sum, short_link}
 use Rattle.best_first.proofs.Mirrors.{some_node}
 use Rattle.best_first.proofs.Offering.{IsFitting, in_cell, rank-add_costs, new_key, offered_keeps, same_best}
-use Rattle.best_first.proofs.States.{is_same_state-itself, told-place}
+use Rattle.best_first.proofs.States.{is_same_state-itself, place-again}
 use Rattle.best_first.proofs.Tables.{offered_slot}
 use Rattle.best_first.proofs.Taking.{next, is_next, mirrors_on, none_open}
 
@@ -204,10 +204,10 @@ module _ {width height : ℕ} {start goal : Cell} {link : Links}
       origin_taken : is_taken rule run (state_of layout i.origin) ≡ true
       origin_taken = rw i.origin_state (start_taken fit.posed run i.run)
 
-      told : link.led (state_of layout i.node) (state_told (place_of o.to)) ≡ true
-      told = ap (λ (s : State). link.led s (state_told (place_of o.to))) i.state
+      is_led : link.led (state_of layout i.node) (state_of_place (place_of o.to)) ≡ true
+      is_led = ap (λ (s : State). link.led s (state_of_place (place_of o.to))) i.state
           ∙ ap (λ (s : State). link.led x.state s)
-          (told-place o.to (let a = fits.column in let b = fit.posed.narrow in omega arith)) ∙ over.led
+          (place-again o.to (let a = fits.column in let b = fit.posed.narrow in omega arith)) ∙ over.led
 
       -- which leaves the node of the taken state
       pub node_stays : slice_get (offered layout goal o k).nodes at ≡ Some i.node
@@ -223,7 +223,7 @@ module _ {width height : ℕ} {start goal : Cell} {link : Links}
             if is_same_state to v then lesser (best v) (Some (record { cost = total; from = s })) else best v)
             (offered layout goal o k)) i.state
             (offered_keeps i.mirrors fits (λ id n h e y. below_new id n h
-            (ap (λ (s : State). is_taken rule run s) e ∙ y)) told);
+            (ap (λ (s : State). is_taken rule run s) e ∙ y)) is_led);
         node = i.node;
         node_is = node_stays;
         state = i.state;
@@ -283,12 +283,12 @@ module _ (layout : Layout) {width height : ℕ} {start goal : Cell} {link : Link
   seen_start ByCell = refl
   seen_start ByArrival = refl
 
-  told_start : state_told first_node.place ≡ start_at start
-  told_start = told-place (start_at start) (let a = fit.posed.start_on.0 in let b = fit.posed.narrow in
+  start_again : state_of_place first_node.place ≡ start_at start
+  start_again = place-again (start_at start) (let a = fit.posed.start_on.0 in let b = fit.posed.narrow in
       omega arith)
 
   first_state : state_of layout first_node ≡ start_at start
-  first_state = ap (λ (s : State). state_in layout s) told_start ∙ seen_start layout
+  first_state = ap (λ (s : State). state_in layout s) start_again ∙ seen_start layout
 
   start_key : first_node.key ≡ rank_of (sum_at (rule fit) (start_at start) no_cost)
   start_key = sym (rank-add_costs no_cost (estimate start goal))
@@ -304,7 +304,7 @@ module _ (layout : Layout) {width height : ℕ} {start goal : Cell} {link : Link
       (begun goal start) 0
       first_node
   start_order = record {
-    column = subst (λ (s : State). s.cell.x < width) (sym told_start) fit.posed.start_on.0;
+    column = subst (λ (s : State). s.cell.x < width) (sym start_again) fit.posed.start_on.0;
     opened = rw first_state (rw first_taken refl);
     offer = record { cost = no_cost; from = start_at start };
     keeps = record {
@@ -315,7 +315,7 @@ module _ (layout : Layout) {width height : ℕ} {start goal : Cell} {link : Link
       parent_is = refl;
       from = first_state;
     };
-    led = ap (λ (s : State). link.led (start_at start) s) told_start ∙ fit.posed.links.starts start;
+    led = ap (λ (s : State). link.led (start_at start) s) start_again ∙ fit.posed.links.starts start;
     source = first_taken;
     best_is =
         λ z. absurd (let y : is_taken (rule fit) (at_start start ∷ []) (state_of layout first_node) ≡ true =

@@ -12,7 +12,7 @@ use Rattle.best_first.specs.declared.state.Layout.{Layout}
 use Rattle.best_first.specs.declared.state.Layout.TheVariants.{ByCell, ByArrival}
 use Rattle.best_first.specs.declared.place.Place.{Place}
 use Rattle.best_first.specs.State.{arrival_number, state_number, is_same_state, state_in, place_of}
-use Rattle.best_first.specs.State.{state_told}
+use Rattle.best_first.specs.State.{state_of_place}
 
 arrival_of : ℕ → Option Dir
 arrival_of n = slice_get all_dirs n
@@ -44,13 +44,13 @@ pub same_or_not : (b : Bool) → (b ≡ true) ⊎ (b ≡ false)
 same_or_not b = grind (arith, nat_tests)
 
 -- a place tells its state
-pub told-place : (s : State) → s.cell.x < 4096 → state_told (place_of s) ≡ s
-unfolding place_of state_told arrival_of
-told-place s h = grind (arith, nat_tests, arrival_small, same_state, same_cell, arrival_of, arrival_again)
+pub place-again : (s : State) → s.cell.x < 4096 → state_of_place (place_of s) ≡ s
+unfolding place_of state_of_place arrival_of
+place-again s h = grind (arith, nat_tests, arrival_small, same_state, same_cell, arrival_of, arrival_again)
 
 -- the number that is told of an arrival, where 8 and more stand for the start
-arrival_told : (n : ℕ) → arrival_number (slice_get all_dirs n) ≡ min n 8
-arrival_told n = grind (arith, nat_tests)
+arrival_kept : (n : ℕ) → arrival_number (slice_get all_dirs n) ≡ min n 8
+arrival_kept n = grind (arith, nat_tests)
 
 -- rows first, then columns, then arrivals
 numbers_rise : (w x y a z t b : ℕ) → x < w → z < w → a ≤ 8 → b ≤ 8
@@ -70,11 +70,11 @@ parts_rise : (m n : ℕ) → m ≤ n
 parts_rise m n l = grind (arith, nat_tests)
 
 -- a state of no greater place has no greater number
-pub places_order : (layout : Layout) (width : ℕ) (p q : Place) → (state_told p).cell.x < width
-    → (state_told q).cell.x < width → p.bits ≤ q.bits
-    → state_number width (state_in layout (state_told p))
-    ≤ state_number width (state_in layout (state_told q))
-unfolding state_told
+pub places_order : (layout : Layout) (width : ℕ) (p q : Place) → (state_of_place p).cell.x < width
+    → (state_of_place q).cell.x < width → p.bits ≤ q.bits
+    → state_number width (state_in layout (state_of_place p))
+    ≤ state_number width (state_in layout (state_of_place q))
+unfolding state_of_place
 places_order ByCell width p q h k l =
     numbers_rise width (p.bits / 16 % 4096) (p.bits / 65536) 8 (q.bits / 16 % 4096) (q.bits / 65536) 8 h k
     (omega arith) (omega arith) (whole (parts_rise p.bits q.bits l))
@@ -82,7 +82,7 @@ places_order ByCell width p q h k l =
     whole : {A B C D : Type 0} {a b : ℕ} → A ⊎ B ⊎ (C × D × (a ≤ b)) → A ⊎ B ⊎ (C × D × (8 ≤ 8))
     whole h1 = grind (arith, nat_tests)
 places_order ByArrival width p q h k l =
-    rw (arrival_told (p.bits % 16), arrival_told (q.bits % 16))
+    rw (arrival_kept (p.bits % 16), arrival_kept (q.bits % 16))
     (numbers_rise width (p.bits / 16 % 4096) (p.bits / 65536) (min (p.bits % 16) 8) (q.bits / 16 % 4096)
     (q.bits / 65536) (min (q.bits % 16) 8) h k (omega arith) (omega arith)
     (least (p.bits % 16) (q.bits % 16) (parts_rise p.bits q.bits l)))

@@ -8,7 +8,7 @@ use Rattle.best_first.specs.declared.index.Record.{Record}
 use Rattle.best_first.specs.declared.node.Node.{Node}
 use Rattle.best_first.specs.declared.state.Layout.{Layout}
 use Rattle.best_first.specs.declared.state.Layout.TheVariants.{ByCell, ByArrival}
-use Rattle.best_first.specs.State.{arrival_number, state_told}
+use Rattle.best_first.specs.State.{arrival_number, state_of_place}
 use Rattle.best_first.specs.Node.{state_of}
 use Rattle.best_first.specs.Space.{IsPlaced, HasRoom}
 
@@ -89,7 +89,7 @@ pub record IsNodeAt (layout : Layout) (width : ℕ) (nodes : List Node) (cell ar
 -- the number of a node's cell
 abbrev pub cell_of_node : ℕ → List Node → ℕ → ℕ
 cell_of_node width nodes id =
-    option_map_or (λ n. cell_number width (state_told n.place).cell) (slice_get nodes id) 0
+    option_map_or (λ n. cell_number width (state_of_place n.place).cell) (slice_get nodes id) 0
 
 -- a head but 0 leads to a number from `first` on and below `count`, which tells the head's cell
 abbrev pub AreLed : (ℕ → ℕ) → ℕ → ℕ → List ℕ → Type 0

@@ -40,13 +40,13 @@ module _ (width height : ℕ) (goal : Cell) (link : Links) (shown : List Cell �
   })
 
   -- what a run answers that took the goal, last, or did not
-  abbrev pub told : List (Taken State) → Bool → Found
-  told run true = record { walk = walk_to_last run; taken = numbers_of width link run }
-  told run false = record { walk = None; taken = numbers_of width link run }
+  abbrev pub answered : List (Taken State) → Bool → Found
+  answered run true = record { walk = walk_to_last run; taken = numbers_of width link run }
+  answered run false = record { walk = None; taken = numbers_of width link run }
 
   -- what a run answers
   abbrev pub answer_of : List (Taken State) → Found
-  answer_of run = told run (has_goal (search_rule width goal link) run)
+  answer_of run = answered run (has_goal (search_rule width goal link) run)
 
   -- what the run from the start on a map of these sides answers
   unfoldable pub found_of : Found

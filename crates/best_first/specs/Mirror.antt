@@ -8,7 +8,7 @@ use Rattle.search_run.specs.Run.{Taken, Offer, IsIn, lesser, is_taken, has_goal,
 use Rattle.best_first.specs.declared.node.Node.{Node}
 use Rattle.best_first.specs.declared.state.State.{State}
 use Rattle.best_first.specs.declared.state.Layout.{Layout}
-use Rattle.best_first.specs.State.{is_same_state, start_at, state_told}
+use Rattle.best_first.specs.State.{is_same_state, start_at, state_of_place}
 use Rattle.best_first.specs.Rule.{Links, search_rule}
 use Rattle.best_first.specs.Node.{state_of}
 use Rattle.best_first.specs.Table.{Table, lookup}
@@ -35,12 +35,12 @@ module _ (layout : Layout) (width : ℕ) (goal : Cell) (link : Links) where
   -- one by which the state was taken
   pub record IsInOrder (run : List (Taken State)) (best : Offers) (k : Table) (id : ℕ) (n : Node)
       : Type 0 where
-    pub column : (state_told n.place).cell.x < width
+    pub column : (state_of_place n.place).cell.x < width
     pub opened : slice_get k.open_at id
         ≡ Some (not (is_taken (search_rule width goal link) run (state_of layout n)))
     pub offer : Offer State
     pub keeps : Keeps k.nodes n offer
-    pub led : link.led offer.from (state_told n.place) ≡ true
+    pub led : link.led offer.from (state_of_place n.place) ≡ true
     pub source : is_taken (search_rule width goal link) run offer.from ≡ true
     pub best_is : is_taken (search_rule width goal link) run (state_of layout n) ≡ false
         → best (state_of layout n) ≡ Some offer

@@ -68,8 +68,8 @@ unfoldable pub place_of : State → Place
 place_of s = record { bits = s.cell.y * 65536 + (s.cell.x * 16 + arrival_number s.arrival) }
 
 -- what such a number tells
-unfoldable pub state_told : Place → State
-state_told p = record {
+unfoldable pub state_of_place : Place → State
+state_of_place p = record {
   cell = record { x = p.bits / 16 % 4096; y = p.bits / 65536 };
   arrival = slice_get all_dirs (p.bits % 16);
 }
@@ -91,11 +91,11 @@ pub printed_by_cell : state_number 3 (arrived_in ByCell (start_at (record { x = 
 printed_by_cell = refl
 
 -- column 5 of row 2, come to from the north
-pub told_again :
-    state_told (place_of (record { cell = record { x = 5; y = 2 }; arrival = Some S }))
+pub place_and_back :
+    state_of_place (place_of (record { cell = record { x = 5; y = 2 }; arrival = Some S }))
     ≡ record { cell = record { x = 5; y = 2 }; arrival = Some S }
-unfolding place_of state_told
-told_again = refl
+unfolding place_of state_of_place
+place_and_back = refl
 
 -- the same cell as a start, on a map of 7 columns: 9 · 19 + 8
 pub start_number : state_number 7 (start_at (record { x = 5; y = 2 })) ≡ 179

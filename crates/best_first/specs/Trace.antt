@@ -8,11 +8,11 @@ use Rattle.root2_cost.specs.Sums.{add_costs, no_cost}
 use Rattle.grid_moves.specs.declared.Cell.{Cell}
 use Rattle.grid_moves.specs.Points.{estimate}
 use Rattle.best_first.specs.declared.node.Node.{Node}
-use Rattle.best_first.specs.State.{state_told}
+use Rattle.best_first.specs.State.{state_of_place}
 
 -- the cell of a node
 abbrev pub node_cell : Node → Cell
-node_cell n = (state_told n.place).cell
+node_cell n = (state_of_place n.place).cell
 
 -- the rank of a node's cost: its key less the rank of the estimate
 abbrev pub rank_left : Cell → Node → ℕ

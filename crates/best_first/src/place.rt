@@ -1,7 +1,7 @@
 //! States in 32 bits, ordered as their numbers are.
 
 ghost use Rattle.std.specs.Prelude.{◌≡◌, ◌<◌};
-ghost use Rattle.best_first.specs.State.{place_of, state_told};
+ghost use Rattle.best_first.specs.State.{place_of, state_of_place};
 
 use crate::State;
 use crate::state::number_of_arrival;
@@ -30,9 +30,9 @@ impl Place {
 
     /// The cell of the state.
     #[inline(always)]
-    #[tactic(auto, unfolding(crate::specs::State::state_told))]
+    #[tactic(auto, unfolding(crate::specs::State::state_of_place))]
     pub fn cell(self) -> Cell
-        ensures { result ≡ (state_told self).cell }
+        ensures { result ≡ (state_of_place self).cell }
     {
         Cell {
             x: (self.bits / 16 % 4096) as u16,
@@ -42,9 +42,9 @@ impl Place {
 
     /// The state's arrival.
     #[inline(always)]
-    #[tactic(auto, unfolding(crate::specs::State::state_told))]
+    #[tactic(auto, unfolding(crate::specs::State::state_of_place))]
     pub fn arrival(self) -> Option<Dir>
-        ensures { result ≡ (state_told self).arrival }
+        ensures { result ≡ (state_of_place self).arrival }
     {
         match self.bits % 16 {
             0 => Some(Dir::N),

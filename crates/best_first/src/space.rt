@@ -4,7 +4,7 @@ ghost use Rattle.std.specs.Prelude.{◌≡◌, ℕ, suc, ◌+◌, ◌-◌, ◌*�
 ghost use Rattle.best_first.specs.Index.{entry_for, cell_of_node, AreBlank, AreReset, AreLed, IsExact};
 ghost use Rattle.best_first.specs.Node.{state_of, ranks_before};
 ghost use Rattle.best_first.specs.Space.{SpaceData, IsPlaced, KeepsShape, HasRoomFor, HasRoom, layout_by};
-ghost use Rattle.best_first.specs.State.{state_in, state_told, place_of, start_at};
+ghost use Rattle.best_first.specs.State.{state_in, state_of_place, place_of, start_at};
 ghost use Rattle.best_first.specs.Table.{Table, lookup, node_for, added, replaced, is_bettered, offered, begun, closed_at, IsFirstNode, NoneOpen, ClosedBelow};
 ghost use Rattle.grid_moves.specs.Grid.{cell_number};
 ghost use Rattle.grid_moves.specs.Points.{estimate};
@@ -74,7 +74,7 @@ fn node_for(goal: Cell, offer: Offer) -> Node
 fn clear_by_nodes(pool: &Pool<Node>, heads: &mut [u32], width: u16)
     requires led { AreLed (cell_of_node width pool.now.nodes) 0 (length pool.now.nodes) heads.old }
     requires inside { (id : ℕ) (n : _) → slice_get pool.now.nodes id ≡ Some n
-        → IsPlaced width (length heads.old) (state_told n.place).cell }
+        → IsPlaced width (length heads.old) (state_of_place n.place).cell }
     ensures blank { AreBlank heads.new }
     ensures as_many { length heads.new ≡ length heads.old }
 {
@@ -256,10 +256,10 @@ impl Space {
         grow(&mut self.pool, &mut self.index, &mut self.room)
     }
 
-    // 0 where a state has no node, or the number of its node and one; told the number of its cell.
+    // 0 where a state has no node, or the number of its node and one; given the number of its cell.
     #[inline(always)]
     fn find<const BY_CELL: bool>(&self, number: u32, state: State) -> u32
-        requires told { layout_by BY_CELL ≡ self.now.layout }
+        requires given { layout_by BY_CELL ≡ self.now.layout }
         requires narrow { self.now.width ≤ 4096 }
         requires placed { IsPlaced self.now.width self.now.places state.cell }
         requires number { number ≡ cell_number self.now.width state.cell }
@@ -269,7 +269,7 @@ impl Space {
         self.index.entry(layout_by(BY_CELL), number, state)
     }
 
-    // Adds a node for a state that has none, told the number of the state's cell.
+    // Adds a node for a state that has none, given the number of the state's cell.
     #[inline(always)]
     fn add<const BY_CELL: bool, L: Ledger>(
         &mut self,
@@ -278,7 +278,7 @@ impl Space {
         node: Node,
         steps: &mut Steps<L>,
     )
-        requires told { layout_by BY_CELL ≡ self.old.layout }
+        requires given { layout_by BY_CELL ≡ self.old.layout }
         requires narrow { self.old.width ≤ 4096 }
         requires placed { IsPlaced self.old.width self.old.places state.cell }
         requires number { number ≡ cell_number self.old.width state.cell }
@@ -293,8 +293,8 @@ impl Space {
         self.index.put(layout_by(BY_CELL), number, state, id + 1);
     }
 
-    // The same, told the parts of the node: a node would be handed over in memory, these are in registers. The
-    // number of the cell, which was found before, is not made again, and the place tells the state.
+    // The same, given the parts of the node: a node would be handed over in memory, these are in registers.
+    // The number of the cell, which was found before, is not made again, and the place tells the state.
     #[inline(never)]
     fn add_parts<const BY_CELL: bool, L: Ledger>(
         &mut self,
@@ -304,13 +304,13 @@ impl Space {
         parent: u32,
         steps: &mut Steps<L>,
     )
-        requires told { layout_by BY_CELL ≡ self.old.layout }
+        requires given { layout_by BY_CELL ≡ self.old.layout }
         requires narrow { self.old.width ≤ 4096 }
-        requires placed { IsPlaced self.old.width self.old.places (state_told place).cell }
-        requires number { number ≡ cell_number self.old.width (state_told place).cell }
-        requires made { place ≡ place_of (state_told place) }
+        requires placed { IsPlaced self.old.width self.old.places (state_of_place place).cell }
+        requires number { number ≡ cell_number self.old.width (state_of_place place).cell }
+        requires made { place ≡ place_of (state_of_place place) }
         requires new { lookup self.old.layout self.old.table.nodes
-            (state_in self.old.layout (state_told place)) ≡ None }
+            (state_in self.old.layout (state_of_place place)) ≡ None }
         requires room { 1 ≤ self.old.spare }
         ensures table { self.new.table ≡ added (record { key = key; parent = parent; place = place })
             self.old.table }
@@ -338,7 +338,7 @@ impl Space {
         self.pool.lower(id, node, steps);
     }
 
-    // The same, told the parts of the node.
+    // The same, given the parts of the node.
     #[inline(never)]
     fn lower_parts<L: Ledger>(
         &mut self,
@@ -374,7 +374,7 @@ impl Space {
         offer: Offer,
         steps: &mut Steps<L>,
     )
-        requires told { layout_by BY_CELL ≡ self.old.layout }
+        requires given { layout_by BY_CELL ≡ self.old.layout }
         requires narrow { self.old.width ≤ 4096 }
         requires placed { IsPlaced self.old.width self.old.places offer.to.cell }
         requires fits { offer.rank < 2 ^ 63 }

@@ -104,7 +104,7 @@ impl Lines {
         })
     }
 
-    // The columns, told the rows: so many columns of so many cells.
+    // The columns, given the rows: so many columns of so many cells.
     pub(crate) fn turned(&self, alloc: Global, columns: u16, cells: u16) -> Result<Lines, NoMemory>
         requires columns { columns ≤ 4096 }
         requires cells { cells ≤ 4096 }

@@ -87,7 +87,7 @@ fn take_bytes_for(strip: &mut [u8], down: &[u64], column: usize)
     }
 }
 
-/// The words of columns, told those of so many rows: for each of the first so many columns so many words.
+/// The words of columns, given those of so many rows: for each of the first so many columns so many words.
 pub(crate) fn turned(
     alloc: Global,
     words: &[u64],

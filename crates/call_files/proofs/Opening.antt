@@ -3,10 +3,10 @@ use Rattle.std.proofs.Common.{◌≡◌, ◌∙◌, ap, append-nil, append_assoc
 use Rattle.std.proofs.Common.{ℕ, arith}
 use Rattle.std.specs.Prelude.{Result, IsErrAnd}
 use Rattle.io_edge.specs.Causes.{NoneFell}
-use Rattle.io_edge.specs.Told.{Disk, Held}
+use Rattle.io_edge.specs.Known.{Disk, Held}
 use Rattle.call_files.specs.Files.{File, IsAccepted, AreAccepted, ComesTo, IsRefused}
 use Rattle.call_files.specs.Reading.{open_stops, read_stops}
-use Rattle.line_work.specs.Stops.{Stops, StopsSo, Ends}
+use Rattle.line_work.specs.Stops.{Stops, StopsSo, EndsOrStops}
 use Rattle.line_work.specs.declared.stop.Stop.{Stop}
 use Rattle.line_work.proofs.Pieces.{rose-since}
 use Rattle.line_work.proofs.Stopping.{Follow, ends-on, passed}
@@ -79,12 +79,14 @@ module _ (disk : Disk) (files : List File) (file : File) (comes : ComesTo disk.h
   }
 
   pub reading-stops : {X : Type 0} (Done : X → Type 0) (result : Result X Stop) (stop : Stop)
-      → StopsSo stops-at stop → IsErrAnd result (λ s. s ≡ stop) → Ends Done (open_stops disk now files) result
+      → StopsSo stops-at stop → IsErrAnd result (λ s. s ≡ stop)
+      → EndsOrStops Done (open_stops disk now files) result
   reading-stops Done result stop known m =
       passed Done stops-at (open_stops disk now files) result stop m known reading-follows
 
-  pub reading-ends : {X : Type 0} (Done : X → Type 0) (result : Result X Stop) → Ends Done stops-at result
-      → Ends Done (open_stops disk now files) result
+  pub reading-ends : {X : Type 0} (Done : X → Type 0) (result : Result X Stop)
+      → EndsOrStops Done stops-at result
+      → EndsOrStops Done (open_stops disk now files) result
   reading-ends Done result e = ends-on Done Done stops-at (open_stops disk now files) result (λ x d. d)
       reading-follows e
 

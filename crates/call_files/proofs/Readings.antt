@@ -6,7 +6,7 @@ use Rattle.grid_moves.specs.Layers.{Layers, layers_of}
 use Rattle.grid_moves.specs.declared.Corner.{Corner}
 use Rattle.map_text.specs.Map.{Map}
 use Rattle.word_list.specs.declared.request.Settings.{Settings}
-use Rattle.io_edge.specs.Told.{Held}
+use Rattle.io_edge.specs.Known.{Held}
 use Rattle.io_edge.specs.Whole.{IsWhole}
 use Rattle.call_files.specs.Files.{faulty}
 use Rattle.call_files.specs.FaultLines.{large_line, map_line}
@@ -18,14 +18,15 @@ use Rattle.call_files.specs.declared.kind.Extent.TheVariants.{Any, Small}
 use Rattle.map_text.specs.Faults.{map_of, plain}
 use Rattle.map_text.specs.declared.fault.MapFault.{MapFault}
 use Rattle.map_text.specs.declared.map.MapText.{MapText}
-use Rattle.call_files.specs.declared.kind.Kind.{Kind}
-use Rattle.call_files.specs.declared.kind.Kind.TheVariants as kind
+use Rattle.call_files.specs.declared.kind.TextKind.{TextKind}
+use Rattle.call_files.specs.declared.kind.TextKind.TheVariants as kind
 use Rattle.call_files.specs.declared.tables.MapTables.{MapTables}
 use Rattle.line_work.specs.declared.stop.Stop.{Stop}
 use Rattle.line_work.specs.declared.stop.Stop.TheVariants as stop
 
 -- a file whose whole text was read so was itself read so
-pub file-read : {X : Type 0} (IsBehind : List (List ℕ) → Type 0) (Spells : List ℕ → X → Type 0) (kind : Kind)
+pub file-read : {X : Type 0} (IsBehind : List (List ℕ) → Type 0) (Spells : List ℕ → X → Type 0)
+    (kind : TextKind)
     (held : Held) (text : List ℕ) (faults faults_now : ℕ) (result : Result X Stop)
     → IsWhole held (limit_of kind) text → ReadsText IsBehind Spells kind text result
     → Reads IsBehind Spells kind held faults faults_now result

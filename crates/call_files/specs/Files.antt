@@ -1,27 +1,27 @@
 -- The files of a request: which texts they hold, and the first one that is refused.
 use Rattle.std.specs.Prelude.{◌≡◌, ℕ, List, [], ◌∷◌, ◌++◌, ⊤, Some, None}
-use Rattle.io_edge.specs.Told.{Disk, Held}
+use Rattle.io_edge.specs.Known.{Disk, Held}
 use Rattle.io_edge.specs.Causes.{Rose}
 use Rattle.io_edge.specs.Whole.{IsWhole, IsLonger}
 use Rattle.call_files.specs.FaultLines.{long_line}
 use Rattle.call_files.specs.Kinds.{kind_word, limit_of, refusal_of}
-use Rattle.call_files.specs.declared.kind.Kind.{Kind}
+use Rattle.call_files.specs.declared.kind.TextKind.{TextKind}
 
 -- a file that a request names, and the kind of text that it is to hold
 pub record File : Type 0 where
-  pub kind : Kind
+  pub kind : TextKind
   pub name : List ℕ
 
 -- a file of this kind and name
-abbrev pub file_of : Kind → List ℕ → File
+abbrev pub file_of : TextKind → List ℕ → File
 file_of kind name = record { kind = kind; name = name }
 
 -- the file holds this text, which is accepted behind the texts before it
-abbrev pub IsAccepted : List (List ℕ) → Kind → Held → List ℕ → Type 0
+abbrev pub IsAccepted : List (List ℕ) → TextKind → Held → List ℕ → Type 0
 IsAccepted earlier kind held text = IsWhole held (limit_of kind) text × (refusal_of kind earlier text ≡ None)
 
 -- the file holds too long a text, or one that is refused behind the texts before it, and the line says so
-pub data IsRefused (earlier : List (List ℕ)) (kind : Kind) (held : Held) (line : List ℕ) : Type 0 where
+pub data IsRefused (earlier : List (List ℕ)) (kind : TextKind) (held : Held) (line : List ℕ) : Type 0 where
   too_long : IsLonger held (limit_of kind) → line ≡ long_line (kind_word kind)
       → IsRefused earlier kind held line
   faulty : (text : List ℕ) → IsWhole held (limit_of kind) text → refusal_of kind earlier text ≡ Some line

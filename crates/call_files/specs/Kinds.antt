@@ -19,13 +19,14 @@ use Rattle.word_list.specs.declared.request.Pick.{Pick}
 use Rattle.word_list.specs.Settings.{is_for_small_maps}
 use Rattle.call_files.specs.FaultLines.{cert_line, map_line, script_line, scen_line, walks_line, large_line}
 use Rattle.call_files.specs.FaultLines.{tables_line}
-use Rattle.call_files.specs.declared.kind.Kind.{Kind}
-use Rattle.call_files.specs.declared.kind.Kind.TheVariants.{Map, Script, Scen, Cert, Walks, SmallMap, Tables}
+use Rattle.call_files.specs.declared.kind.TextKind.{TextKind}
+use Rattle.call_files.specs.declared.kind.TextKind.TheVariants.{Map, Script, Scen, Cert, Walks, SmallMap}
+use Rattle.call_files.specs.declared.kind.TextKind.TheVariants.{Tables}
 use Rattle.call_files.specs.declared.kind.Extent.{Extent}
 use Rattle.call_files.specs.declared.kind.Extent.TheVariants.{Any, Small}
 
 -- the word of a kind in fault lines
-abbrev pub kind_word : Kind → List ℕ
+abbrev pub kind_word : TextKind → List ℕ
 kind_word Map = codes "map"
 kind_word SmallMap = codes "map"
 kind_word Script = codes "script"
@@ -35,7 +36,7 @@ kind_word Walks = codes "walks"
 kind_word (Tables corner) = codes "tables"
 
 -- the longest text of a kind, in bytes
-abbrev pub limit_of : Kind → ℕ
+abbrev pub limit_of : TextKind → ℕ
 limit_of Map = 2 ^ 26
 limit_of SmallMap = 2 ^ 26
 limit_of Script = 2 ^ 26
@@ -60,7 +61,7 @@ entries_in (map ∷ scen ∷ others) = count_in (scen_of scen)
 entries_in others = 0
 
 -- the kind of the maps that a call takes
-abbrev pub kind_for : Extent → Kind
+abbrev pub kind_for : Extent → TextKind
 kind_for Any = Map
 kind_for Small = SmallMap
 
@@ -91,7 +92,7 @@ tables_refusal corner (Ok m) text = option_map tables_line
 tables_refusal corner (Err fault) text = None
 
 -- the line with which a text is refused behind the texts before it, if it is
-abbrev pub refusal_of : Kind → List (List ℕ) → List ℕ → Option (List ℕ)
+abbrev pub refusal_of : TextKind → List (List ℕ) → List ℕ → Option (List ℕ)
 refusal_of Map earlier text = fault_in map_line (map_of text)
 refusal_of SmallMap earlier text = small_refusal (map_of text)
 refusal_of Script earlier text = fault_in script_line (script_of text)

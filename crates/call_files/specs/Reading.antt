@@ -5,7 +5,7 @@ use Rattle.map_text.specs.Map.{Map}
 use Rattle.map_text.specs.Faults.{map_of, plain}
 use Rattle.map_text.specs.declared.map.MapText.{MapText}
 use Rattle.script_text.specs.Faults.{script_of}
-use Rattle.script_text.specs.declared.command.Command.{Command}
+use Rattle.script_text.specs.declared.command.ScriptCommand.{ScriptCommand}
 use Rattle.scen_text.specs.Faults.{scen_of}
 use Rattle.scen_text.specs.Lengths.{IsKept}
 use Rattle.scen_text.specs.declared.entry.Entry.{Entry}
@@ -14,26 +14,26 @@ use Rattle.potential_check.specs.declared.certificate.Certificate.{Certificate}
 use Rattle.grid_moves.specs.Layers.{Layers, layers_of}
 use Rattle.walk_judge.specs.Telling.{IsFit}
 use Rattle.walk_judge.specs.Walks.{walks_of}
-use Rattle.walk_judge.specs.declared.telling.Told.{Told}
+use Rattle.walk_judge.specs.declared.telling.Claimed.{Claimed}
 use Rattle.word_list.specs.declared.request.Settings.{Settings}
 use Rattle.call_files.specs.Layered.{layers_on}
 use Rattle.std.specs.Prelude.{None, ⊤, Result}
 use Rattle.io_edge.specs.Causes.{Rose}
-use Rattle.io_edge.specs.Told.{Disk, Held}
+use Rattle.io_edge.specs.Known.{Disk, Held}
 use Rattle.call_files.specs.Files.{AreAccepted, File, FileRose, HasRefused, IsAccepted, IsRefused}
 use Rattle.call_files.specs.Kinds.{first_text, refusal_of, takes}
-use Rattle.line_work.specs.Stops.{Stops, Ends}
+use Rattle.line_work.specs.Stops.{Stops, EndsOrStops}
 use Rattle.call_files.specs.declared.kind.Extent.{Extent}
 use Rattle.grid_moves.specs.declared.Corner.{Corner}
 use Rattle.plus_tables.specs.Tables.{AreTablesOf}
-use Rattle.call_files.specs.declared.kind.Kind.{Kind}
+use Rattle.call_files.specs.declared.kind.TextKind.{TextKind}
 use Rattle.call_files.specs.declared.files.Scenario.{Scenario}
 use Rattle.call_files.specs.declared.layers.SmallLayers.{SmallLayers}
 use Rattle.call_files.specs.declared.tables.MapTables.{MapTables}
 use Rattle.line_work.specs.declared.stop.Stop.{Stop}
 
 -- a text was read as this value: the held bytes spell it, and are accepted behind the texts before it
-pub record IsRead {X : Type 0} (Spells : List ℕ → X → Type 0) (earlier : List (List ℕ)) (kind : Kind)
+pub record IsRead {X : Type 0} (Spells : List ℕ → X → Type 0) (earlier : List (List ℕ)) (kind : TextKind)
     (held : Held) (value : X) : Type 0 where
   pub text : List ℕ
   pub accepted : IsAccepted earlier kind held text
@@ -60,17 +60,18 @@ abbrev pub IsFirst : List (List ℕ) → Type 0
 IsFirst earlier = ⊤
 
 -- a file of this kind was read as a value, or the reading stopped, behind all texts of which that is known
-abbrev pub Reads : {X : Type 0} → (List (List ℕ) → Type 0) → (List ℕ → X → Type 0) → Kind → Held → ℕ → ℕ
+abbrev pub Reads : {X : Type 0} → (List (List ℕ) → Type 0) → (List ℕ → X → Type 0) → TextKind → Held → ℕ → ℕ
     → Result X Stop → Type 0
-Reads IsBehind Spells kind held faults faults_now result = (earlier : List (List ℕ)) → IsBehind earlier → Ends
+Reads IsBehind Spells kind held faults faults_now result =
+    (earlier : List (List ℕ)) → IsBehind earlier → EndsOrStops
     (IsRead Spells earlier kind held)
     (read_stops (IsRefused earlier kind held) faults faults_now) result
 
 -- a text was read as a value that it spells and accepted, or it is refused, behind all texts of which that is
 -- known
-abbrev pub ReadsText : {X : Type 0} → (List (List ℕ) → Type 0) → (List ℕ → X → Type 0) → Kind → List ℕ
+abbrev pub ReadsText : {X : Type 0} → (List (List ℕ) → Type 0) → (List ℕ → X → Type 0) → TextKind → List ℕ
     → Result X Stop → Type 0
-ReadsText IsBehind Spells kind text result = (earlier : List (List ℕ)) → IsBehind earlier → Ends
+ReadsText IsBehind Spells kind text result = (earlier : List (List ℕ)) → IsBehind earlier → EndsOrStops
     (λ value. (refusal_of kind earlier text ≡ None) × Spells text value)
     (record {
       Refused = λ line. refusal_of kind earlier text ≡ Some line;
@@ -145,7 +146,7 @@ pub record AreBothRead {X Y : Type 0} (Spells : List ℕ → X → Type 0) (Spel
 abbrev pub AreKept : List Entry → Type 0
 AreKept entries = (k : ℕ) (entry : Entry) → slice_get entries k ≡ Some entry → IsKept entry.length
 
-abbrev pub SpellsScript : List ℕ → Vec Command → Type 0
+abbrev pub SpellsScript : List ℕ → Vec ScriptCommand → Type 0
 SpellsScript text commands = script_of text ≡ Ok commands.items
 
 -- the text spells these entries, and their lengths can be judged; they are no more than bytes
@@ -161,11 +162,11 @@ SpellsScenario text s = SpellsScen text s.entries × (s.text.items ≡ text)
 abbrev pub SpellsCert : List ℕ → Certificate → Type 0
 SpellsCert text c = certificate_of text ≡ Ok (claimed_by c)
 
--- each told walk can be judged
-abbrev pub AreFit : List Told → Type 0
-AreFit walks = (k : ℕ) (told : Told) → slice_get walks k ≡ Some told → IsFit told
+-- each claimed walk can be judged
+abbrev pub AreFit : List Claimed → Type 0
+AreFit walks = (k : ℕ) (claimed : Claimed) → slice_get walks k ≡ Some claimed → IsFit claimed
 
 -- the text tells these walks, one for each of so many entries, and they can be judged
-abbrev pub SpellsWalks : ℕ → List ℕ → Vec Told → Type 0
+abbrev pub SpellsWalks : ℕ → List ℕ → Vec Claimed → Type 0
 SpellsWalks entries text walks =
     (walks_of text entries ≡ Ok walks.items) × AreFit walks.items × (length walks.items ≡ entries)

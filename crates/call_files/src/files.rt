@@ -8,33 +8,33 @@ ghost use Rattle.call_files.specs.Reading.{AreBothRead, IsFirst, IsMade, IsRead,
 ghost use Rattle.call_files.specs.Kinds.{kind_for, kind_word, limit_of};
 ghost use Rattle.call_files.specs.Files.{file_of};
 ghost use Rattle.map_text.specs.Faults.{plain};
-ghost use Rattle.line_work.specs.Stops.{Ends};
+ghost use Rattle.line_work.specs.Stops.{EndsOrStops};
 
 use crate::NoMemory;
 use crate::faults::{
     cert_line, large_line, long_line, map_line, scen_line, script_line, walks_line,
 };
-use crate::kind::{Extent, Kind};
+use crate::kind::{Extent, TextKind};
 use io_edge::{Files, ReadStop, read_whole};
 use line_work::Stop;
 use map_text::{MapText, read_map};
 use potential_check::{Certificate, read_certificate};
 use scen_text::{Entry, read_scen};
-use script_text::{Command, read_script};
+use script_text::{ScriptCommand, read_script};
 use std::alloc::Global;
-use walk_judge::{Told, read_walks};
+use walk_judge::{Claimed, read_walks};
 use word_list::Settings;
 
 /// What a text is read as.
 pub trait Text: Drop + Sized {
     ghost use Rattle.std.specs.Prelude.{ℕ, List};
-    ghost use Rattle.call_files.specs.declared.kind.Kind.{Kind};
+    ghost use Rattle.call_files.specs.declared.kind.TextKind.{TextKind};
 
     /// What these texts are judged by: what the call asks of them, and what was read before them.
     type Context;
 
     /// The kind of these texts, by their context.
-    ghost kind_of_text: { Self.Context → Kind };
+    ghost kind_of_text: { Self.Context → TextKind };
 
     /// The context tells what these texts before say.
     ghost is_behind: { Self.Context → List (List ℕ) → Type 0 };
@@ -43,7 +43,7 @@ pub trait Text: Drop + Sized {
     ghost spells: { Self.Context → List ℕ → Self → Type 0 };
 
     /// The kind of these texts.
-    fn kind(context: &Self::Context) -> Kind
+    fn kind(context: &Self::Context) -> TextKind
         ensures { result ≡ kind_of_text context.now };
 
     /// The value that the text spells.
@@ -65,7 +65,7 @@ impl Text for MapText {
 
     ghost spells = { SpellsWithin };
 
-    fn kind(context: &Extent) -> Kind {
+    fn kind(context: &Extent) -> TextKind {
         context.kind()
     }
 
@@ -83,9 +83,9 @@ impl Text for MapText {
     }
 }
 
-impl Text for Vec<Command> {
+impl Text for Vec<ScriptCommand> {
     ghost use Rattle.call_files.specs.Reading.{SpellsScript};
-    ghost use Rattle.call_files.specs.declared.kind.Kind.TheVariants.{Script};
+    ghost use Rattle.call_files.specs.declared.kind.TextKind.TheVariants.{Script};
 
     type Context = ();
 
@@ -95,11 +95,11 @@ impl Text for Vec<Command> {
 
     ghost spells = { λ _. SpellsScript };
 
-    fn kind(_context: &()) -> Kind {
-        Kind::Script
+    fn kind(_context: &()) -> TextKind {
+        TextKind::Script
     }
 
-    fn of_text(alloc: Global, text: Vec<u8>, _context: &()) -> Result<Vec<Command>, Stop> {
+    fn of_text(alloc: Global, text: Vec<u8>, _context: &()) -> Result<Vec<ScriptCommand>, Stop> {
         match read_script(alloc, text.as_slice()) {
             Ok(commands) => Ok(commands),
             Err(fault) => Err(Stop::Text(script_line(alloc, fault)?)),
@@ -109,7 +109,7 @@ impl Text for Vec<Command> {
 
 impl Text for Vec<Entry> {
     ghost use Rattle.call_files.specs.Reading.{SpellsScen};
-    ghost use Rattle.call_files.specs.declared.kind.Kind.TheVariants.{Scen};
+    ghost use Rattle.call_files.specs.declared.kind.TextKind.TheVariants.{Scen};
 
     type Context = ();
 
@@ -119,8 +119,8 @@ impl Text for Vec<Entry> {
 
     ghost spells = { λ _. SpellsScen };
 
-    fn kind(_context: &()) -> Kind {
-        Kind::Scen
+    fn kind(_context: &()) -> TextKind {
+        TextKind::Scen
     }
 
     fn of_text(alloc: Global, text: Vec<u8>, _context: &()) -> Result<Vec<Entry>, Stop> {
@@ -140,7 +140,7 @@ pub struct Scenario {
 
 impl Text for Scenario {
     ghost use Rattle.call_files.specs.Reading.{SpellsScenario};
-    ghost use Rattle.call_files.specs.declared.kind.Kind.TheVariants.{Scen};
+    ghost use Rattle.call_files.specs.declared.kind.TextKind.TheVariants.{Scen};
 
     type Context = ();
 
@@ -150,8 +150,8 @@ impl Text for Scenario {
 
     ghost spells = { λ _. SpellsScenario };
 
-    fn kind(_context: &()) -> Kind {
-        Kind::Scen
+    fn kind(_context: &()) -> TextKind {
+        TextKind::Scen
     }
 
     fn of_text(alloc: Global, text: Vec<u8>, _context: &()) -> Result<Scenario, Stop> {
@@ -164,7 +164,7 @@ impl Text for Scenario {
 
 impl Text for Certificate {
     ghost use Rattle.call_files.specs.Reading.{SpellsCert};
-    ghost use Rattle.call_files.specs.declared.kind.Kind.TheVariants.{Cert};
+    ghost use Rattle.call_files.specs.declared.kind.TextKind.TheVariants.{Cert};
 
     type Context = ();
 
@@ -174,8 +174,8 @@ impl Text for Certificate {
 
     ghost spells = { λ _. SpellsCert };
 
-    fn kind(_context: &()) -> Kind {
-        Kind::Cert
+    fn kind(_context: &()) -> TextKind {
+        TextKind::Cert
     }
 
     fn of_text(alloc: Global, text: Vec<u8>, _context: &()) -> Result<Certificate, Stop> {
@@ -186,11 +186,11 @@ impl Text for Certificate {
     }
 }
 
-impl Text for Vec<Told> {
+impl Text for Vec<Claimed> {
     ghost use Rattle.std.specs.Prelude.{◌≡◌};
     ghost use Rattle.call_files.specs.Kinds.{entries_in};
     ghost use Rattle.call_files.specs.Reading.{SpellsWalks};
-    ghost use Rattle.call_files.specs.declared.kind.Kind.TheVariants.{Walks};
+    ghost use Rattle.call_files.specs.declared.kind.TextKind.TheVariants.{Walks};
 
     // how many entries the scenario has
     type Context = u32;
@@ -201,11 +201,11 @@ impl Text for Vec<Told> {
 
     ghost spells = { SpellsWalks };
 
-    fn kind(_context: &u32) -> Kind {
-        Kind::Walks
+    fn kind(_context: &u32) -> TextKind {
+        TextKind::Walks
     }
 
-    fn of_text(alloc: Global, text: Vec<u8>, context: &u32) -> Result<Vec<Told>, Stop> {
+    fn of_text(alloc: Global, text: Vec<u8>, context: &u32) -> Result<Vec<Claimed>, Stop> {
         match read_walks(alloc, text.as_slice(), *context) {
             Ok(walks) => Ok(walks),
             Err(fault) => Err(Stop::Text(walks_line(alloc, fault)?)),
@@ -217,10 +217,11 @@ impl Text for Vec<Told> {
 fn read_text<F: Files>(
     alloc: Global,
     files: &mut F,
-    kind: Kind,
+    kind: TextKind,
     name: &str,
 ) -> Result<Vec<u8>, Stop>
-    ensures read { Ends (λ text. IsWhole ((F.disk files.old).holds name.now) (limit_of kind) text.items)
+    ensures read { EndsOrStops (λ text. IsWhole ((F.disk files.old).holds name.now)
+        (limit_of kind) text.items)
         (read_stops (λ line. IsLonger ((F.disk files.old).holds name.now) (limit_of kind)
         × (line ≡ line_of_long (kind_word kind))) ((F.disk files.old).faults name.now) ((F.disk files.new).faults name.now))
         result }
@@ -301,7 +302,7 @@ pub fn open_one<F: Files, M: OfMap>(
     map: &str,
     settings: Settings,
 ) -> Result<M, Stop>
-    ensures read { Ends (IsRead (IsMade (M.is_of_map settings)) [] (kind_for (M.extent_of settings))
+    ensures read { EndsOrStops (IsRead (IsMade (M.is_of_map settings)) [] (kind_for (M.extent_of settings))
         ((F.disk files.old).holds map.now))
         (open_stops (F.disk files.old) (F.disk files.new) (file_of (kind_for (M.extent_of settings)) map.now ∷ []))
         result }
@@ -323,7 +324,8 @@ pub fn open_two<F: Files, M: OfMap, T: Text>(
     context: &T::Context,
 ) -> Result<(M, T), Stop>
     requires { (text : List ℕ) → T.is_behind context.now (text ∷ []) }
-    ensures read { Ends (AreBothRead (IsMade (M.is_of_map settings)) (T.spells context.now) (F.disk files.old).holds
+    ensures read { EndsOrStops (AreBothRead (IsMade (M.is_of_map settings)) (T.spells context.now)
+        (F.disk files.old).holds
         (file_of (kind_for (M.extent_of settings)) map.now) (file_of (T.kind_of_text context.now) second.now))
         (open_stops (F.disk files.old) (F.disk files.new)
         (file_of (kind_for (M.extent_of settings)) map.now ∷ file_of (T.kind_of_text context.now) second.now ∷ [])) result }

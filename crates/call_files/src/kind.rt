@@ -16,7 +16,7 @@ const LONGEST_MADE: u32 = 1 << 30;
 
 /// A kind of text.
 #[derive(Clone, Copy, Debug)]
-pub enum Kind {
+pub enum TextKind {
     /// A map of any size.
     Map,
     /// A map of at most 2^14 cells.
@@ -54,12 +54,12 @@ impl Extent {
     }
 
     /// The kind of these maps.
-    pub fn kind(self) -> Kind
+    pub fn kind(self) -> TextKind
         ensures { result ≡ kind_for self }
     {
         match self {
-            Extent::Any => Kind::Map,
-            Extent::Small => Kind::SmallMap,
+            Extent::Any => TextKind::Map,
+            Extent::Small => TextKind::SmallMap,
         }
     }
 
@@ -74,18 +74,18 @@ impl Extent {
     }
 }
 
-impl Kind {
+impl TextKind {
     /// Its word in fault lines.
     pub fn word(self) -> &'static [u8]
         ensures { result.now ≡ kind_word self }
     {
         match self {
-            Kind::Map | Kind::SmallMap => b"map",
-            Kind::Script => b"script",
-            Kind::Scen => b"scen",
-            Kind::Cert => b"cert",
-            Kind::Walks => b"walks",
-            Kind::Tables(_) => b"tables",
+            TextKind::Map | TextKind::SmallMap => b"map",
+            TextKind::Script => b"script",
+            TextKind::Scen => b"scen",
+            TextKind::Cert => b"cert",
+            TextKind::Walks => b"walks",
+            TextKind::Tables(_) => b"tables",
         }
     }
 
@@ -94,8 +94,8 @@ impl Kind {
         ensures { result ≡ limit_of self }
     {
         match self {
-            Kind::Map | Kind::SmallMap | Kind::Script | Kind::Scen => LONGEST,
-            Kind::Cert | Kind::Walks | Kind::Tables(_) => LONGEST_MADE,
+            TextKind::Map | TextKind::SmallMap | TextKind::Script | TextKind::Scen => LONGEST,
+            TextKind::Cert | TextKind::Walks | TextKind::Tables(_) => LONGEST_MADE,
         }
     }
 }

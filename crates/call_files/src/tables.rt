@@ -4,11 +4,11 @@ ghost use Rattle.std.specs.Prelude.{◌≡◌};
 ghost use Rattle.io_edge.specs.Causes.{NoneFell};
 ghost use Rattle.map_text.specs.Faults.{plain};
 ghost use Rattle.call_files.specs.Reading.{AreMapTables, IsBehind, Reads};
-ghost use Rattle.call_files.specs.declared.kind.Kind.TheVariants as kinds;
+ghost use Rattle.call_files.specs.declared.kind.TextKind.TheVariants as kinds;
 
 use crate::faults::tables_line;
 use crate::files::{Text, read_file};
-use crate::kind::Kind;
+use crate::kind::TextKind;
 use crate::layers::{layers_of, load_tables};
 use grid_moves::{Layers, Terrain};
 use io_edge::Files;
@@ -29,7 +29,7 @@ pub struct MapTables {
 
 impl Text for MapTables {
     ghost use Rattle.call_files.specs.Reading.{AreBehindMap, AreTablesOn};
-    ghost use Rattle.call_files.specs.declared.kind.Kind.TheVariants as kinds;
+    ghost use Rattle.call_files.specs.declared.kind.TextKind.TheVariants as kinds;
 
     /// The map's two grids.
     type Context = Layers;
@@ -40,8 +40,8 @@ impl Text for MapTables {
 
     ghost spells = { λ ls _. AreTablesOn ls };
 
-    fn kind(context: &Layers) -> Kind {
-        Kind::Tables(context.land().corner())
+    fn kind(context: &Layers) -> TextKind {
+        TextKind::Tables(context.land().corner())
     }
 
     fn of_text(alloc: Global, text: Vec<u8>, context: &Layers) -> Result<MapTables, Stop> {

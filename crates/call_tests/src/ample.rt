@@ -4,7 +4,7 @@
 //! tables do.
 
 ghost use Rattle.std.specs.Prelude.{None};
-ghost use Rattle.io_edge.specs.Told.{untold};
+ghost use Rattle.io_edge.specs.Known.{unknown};
 
 use crate::calls::{
     Call, ENGINES, OPEN, RULES, check, check_writes, compare, on_map, run_counting, status_of,
@@ -55,7 +55,7 @@ struct Endless<'a> {
 }
 
 impl<'a> Files for Endless<'a> {
-    ghost disk = { λ _. record { holds = λ _. untold; faults = λ _. 0 } };
+    ghost disk = { λ _. record { holds = λ _. unknown; faults = λ _. 0 } };
 
     fn read_at(&mut self, name: &str, place: u64, buf: &mut [u8]) -> Result<usize, Failed> {
         let held = match name {

@@ -142,9 +142,9 @@ pub(crate) fn status_of<I: Source, O: Sink>(
 }
 
 // The status and what was written are these.
-pub(crate) fn compare(rt: &impl Abort, told: (u8, &[u8]), expected: (u8, &[u8])) {
-    assert_eq!(rt; told.0, expected.0);
-    assert_eq!(rt; told.1, expected.1);
+pub(crate) fn compare(rt: &impl Abort, printed: (u8, &[u8]), expected: (u8, &[u8])) {
+    assert_eq!(rt; printed.0, expected.0);
+    assert_eq!(rt; printed.1, expected.1);
 }
 
 // A call has this status, this output and this line.

@@ -42,7 +42,7 @@ version, streams | --version => 0 jps 1.2.0
 ";
 
 #[test]
-fn cells_are_told_under_each_rule(rt: HostRuntime) -> Result<(), Fail> {
+fn cells_are_printed_under_each_rule(rt: HostRuntime) -> Result<(), Fail> {
     check_table(rt.alloc(), &rt, CELLS)
 }
 

@@ -1,6 +1,6 @@
-//! The commands besides `query`, `solve` and `live`, by whole calls: certificates, told walks, counted rows,
-//! tables, costs, boxes, first moves and pictures. Lines are counted on squared paper or written by hand from
-//! the format's description.
+//! The commands besides `query`, `solve` and `live`, by whole calls: certificates, claimed walks, counted
+//! rows, tables, costs, boxes, first moves and pictures. Lines are counted on squared paper or written by
+//! hand from the format's description.
 
 use crate::calls::{
     Call, OPEN, PILLAR, RULES, SHORE, TOUCHING, check, check_done, check_reads, check_with,
@@ -62,7 +62,7 @@ const SIX: &[u8] = b"version 1
 0 m 3 3 0 0 2 2 4
 ";
 
-const TOLD: &[u8] =
+const CLAIMED: &[u8] =
     b"0,0 2,0 2,2\n0,0 1,0 2,0 2,1 2,2\n\n0,0 1,1 2,2\nnone\n0,0 1,0 0,0 2,0 2,2\n0,0 2,0\n";
 
 const JUDGED: &[u8] = b"row 1 accepted 4 0
@@ -75,24 +75,24 @@ sum 6 accepted 2 refused 4 other 0
 ";
 
 // Besides: on the map `.WW/.W@` entries of another size, with an end outside, with a blocked end, with ends
-// apart, and with a told walk between ends apart.
+// apart, and with a claimed walk between ends apart.
 #[test]
-fn told_walks_are_judged_row_by_row(rt: HostRuntime) -> Result<(), Fail> {
+fn claimed_walks_are_judged_row_by_row(rt: HostRuntime) -> Result<(), Fail> {
     let alloc = rt.alloc();
     let cove = b"type octile\nheight 2\nwidth 3\nmap\n.WW\n.W@\n";
     let entries = b"version 1\n0 m 3 3 0 0 2 1 1\n0 m 3 2 0 0 3 0 1\n0 m 3 2 0 0 2 1 1\n\
         0 m 3 2 1 0 0 0 1\n0 m 3 2 0 0 1 0 1\n";
-    let told = b"none\n0,0 1,0\n0,0 2,1\nnone\n0,0 1,0\n";
+    let claimed = b"none\n0,0 1,0\n0,0 2,1\nnone\n0,0 1,0\n";
     let rows =
         b"row 1 scale\nrow 2 outside\nrow 3 blocked\nrow 4 accepted none\nrow 5 refused walk 1\n\
         sum 5 accepted 1 refused 1 other 3\n";
     let five = b"none\nnone\n\nnone\nnone\nnone\n";
     let misspelt = b"none\nnone\n0,0 1;1\n";
     let table: [(&[u8], &[u8], &[u8], u8, &[u8], &[u8]); 4] = [
-        (PILLAR, SIX, TOLD, 1, JUDGED, b""),
+        (PILLAR, SIX, CLAIMED, 1, JUDGED, b""),
         (PILLAR, SIX, five, 3, b"", b"jps: walks K2 line 7\n"),
         (PILLAR, SIX, misspelt, 3, b"", b"jps: walks K1 line 3\n"),
-        (cove, entries, told, 1, rows, b""),
+        (cove, entries, claimed, 1, rows, b""),
     ];
     for (map, second, third, status, output, line) in table {
         let made = Call {
@@ -155,7 +155,7 @@ fn tables_are_written_byte_by_byte(rt: HostRuntime) -> Result<(), Fail> {
 }
 
 #[test]
-fn cells_are_told(rt: HostRuntime) -> Result<(), Fail> {
+fn cells_are_printed(rt: HostRuntime) -> Result<(), Fail> {
     let alloc = rt.alloc();
     let pool = b"type octile\nheight 1\nwidth 3\nmap\n.W@\n";
     let areas = b"box N none\nbox NE none\nbox E 1 0 2 1\nbox SE 1 1 2 2\nbox S 0 1 1 2\n\

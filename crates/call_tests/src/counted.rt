@@ -6,7 +6,7 @@ ghost use Rattle.std.specs.Prelude.{◌<◌};
 use crate::ample::{DRILLS, LONG, LONGEST};
 use crate::calls::{RULES, check, on_map, strings};
 use crate::cells::{CELLS, PICTURES, UNDRAWN, check_pictures};
-use crate::judged::{CHECKED, PROVED, SCENARIOS, TOLD};
+use crate::judged::{CHECKED, CLAIMED, PROVED, SCENARIOS};
 use crate::queries::{QUERIES, SCRIPTS};
 use crate::refused::REFUSED;
 use crate::scenarios::MADE;
@@ -20,7 +20,7 @@ use std::test::Fail;
 use word_list::{Pick, SessionEngine, SmallEngine, States, command_name, read_words};
 
 const TABLES: [&str; 15] = [
-    QUERIES, SCRIPTS, SCENARIOS, TOLD, PROVED, CHECKED, CELLS, PICTURES, UNDRAWN, MADE, REFUSED,
+    QUERIES, SCRIPTS, SCENARIOS, CLAIMED, PROVED, CHECKED, CELLS, PICTURES, UNDRAWN, MADE, REFUSED,
     DRILLS, LONG, LONGEST, REASONS,
 ];
 
@@ -358,7 +358,7 @@ fn each_read_and_write_of_a_script_fails_in_turn(rt: HostRuntime) -> Result<(), 
 
 #[test]
 fn each_read_and_write_of_a_file_fails_in_turn(rt: HostRuntime) -> Result<(), Fail> {
-    for table in [SCENARIOS, TOLD, PROVED, CHECKED, CELLS, MADE] {
+    for table in [SCENARIOS, CLAIMED, PROVED, CHECKED, CELLS, MADE] {
         check_rows(rt.alloc(), &rt, table, Trial::Failing)?;
     }
     Ok(())

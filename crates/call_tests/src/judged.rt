@@ -73,7 +73,7 @@ fn scenarios_are_judged_by_each_engine_under_each_rule(rt: HostRuntime) -> Resul
 }
 
 // Walks on the row `..@.W`, and round the land cell of the bay.
-pub(crate) const TOLD: &str = "
+pub(crate) const CLAIMED: &str = "
 accepted, none, apart, point, water, done, streams | judge m s t rule=any | ..@.W \
     | version 1/0 m 5 1 0 0 1 0 1/0 m 5 1 0 0 3 0 3/0 m 5 1 4 0 4 0 0/0 m 5 1 0 0 4 0 4 \
     | 0,0 1,0/none/4,0/none \
@@ -104,8 +104,8 @@ K2 | judge m s t rule=any | .. | version 1/0 m 2 1 0 0 1 0 1/0 m 2 1 0 0 1 0 1 |
 ";
 
 #[test]
-fn told_walks_are_judged_under_each_rule(rt: HostRuntime) -> Result<(), Fail> {
-    check_table(rt.alloc(), &rt, TOLD)
+fn claimed_walks_are_judged_under_each_rule(rt: HostRuntime) -> Result<(), Fail> {
+    check_table(rt.alloc(), &rt, CLAIMED)
 }
 
 // Listed are the cells whose sum is below the least cost; of the pillar see docs/FORMATS.md.

@@ -15,7 +15,7 @@
 //! diagonal ones under each rule: each wall is left straight ahead. The high map is the wide one, turned over.
 
 ghost use Rattle.std.specs.Prelude.{None};
-ghost use Rattle.io_edge.specs.Told.{untold};
+ghost use Rattle.io_edge.specs.Known.{unknown};
 
 use crate::calls::{RULES, run_counting, stream, strings};
 use crate::table::{engines_of, rules_of, spelled};
@@ -185,7 +185,7 @@ impl<'a> Made<'a> {
 }
 
 impl<'a> Files for Made<'a> {
-    ghost disk = { λ _. record { holds = λ _. untold; faults = λ _. 0 } };
+    ghost disk = { λ _. record { holds = λ _. unknown; faults = λ _. 0 } };
 
     fn read_at(&mut self, name: &str, place: u64, buf: &mut [u8]) -> Result<usize, Failed> {
         let size = buf.len();
@@ -208,10 +208,10 @@ fn output_of(alloc: Global, rt: &impl Abort, made: Made<'_>, words: &str) -> Res
     let mut input = SureSource::new(made.second.whole(alloc)?);
     let mut out = MemSink::new(alloc, ROOM, ROOM, Vec::new(alloc))?;
     let mut err = stream(alloc, 0)?;
-    let told = strings(alloc, words)?;
+    let given = strings(alloc, words)?;
     let status = run_counting::<Made<'_>, SureSource, MemSink, Brand>(
         alloc,
-        told.as_slice(),
+        given.as_slice(),
         &mut files,
         &mut input,
         &mut out,
@@ -373,7 +373,7 @@ fn scenarios_of_large_maps_agree(rt: HostRuntime) -> Result<(), Fail> {
 // So many bytes wait before they are written.
 const PIECE: usize = 65_536;
 
-// So many equal commands, entries and told walks.
+// So many equal commands, entries and claimed walks.
 const TIMES: u64 = 8000;
 
 #[test]

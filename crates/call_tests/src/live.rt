@@ -35,7 +35,7 @@ fn live(words: &str) -> Call<'_> {
 fn check_pieces(
     alloc: Global,
     rt: &impl Abort,
-    told: (&str, &[u8]),
+    given: (&str, &[u8]),
     piece: usize,
     failing: u64,
     status: u8,
@@ -44,10 +44,10 @@ fn check_pieces(
 ) -> Result<(), Fail>
     requires { 1 ≤ piece }
 {
-    let script = Vec::from_slice(alloc, told.1)?;
+    let script = Vec::from_slice(alloc, given.1)?;
     let mut input = MemSource::new(script, piece, numbers(alloc, failing)?);
     let mut out = stream(alloc, 0)?;
-    let answer = status_of(alloc, rt, live(told.0), &mut input, &mut out, line)?;
+    let answer = status_of(alloc, rt, live(given.0), &mut input, &mut out, line)?;
     compare(rt, (answer, out.bytes()), (status, output));
     Ok(())
 }

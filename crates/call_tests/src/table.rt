@@ -296,9 +296,9 @@ fn map_of(alloc: Global, rows: &str) -> Result<Vec<u8>, AllocError> {
 }
 
 // The third file: a text, or the tables of three cells, under the rule, with a byte changed or cut off.
-fn third_of(alloc: Global, told: &str, rule: &str) -> Result<Vec<u8>, AllocError> {
-    let Some(change) = told.strip_prefix("%") else {
-        return text_of(alloc, told);
+fn third_of(alloc: Global, given: &str, rule: &str) -> Result<Vec<u8>, AllocError> {
+    let Some(change) = given.strip_prefix("%") else {
+        return text_of(alloc, given);
     };
     let cells = if change == "water" {
         SHORE_CELLS
@@ -353,7 +353,7 @@ fn check_call(
     rt: &impl Abort,
     row: Row<'_>,
     by: (&str, &str),
-    told: (&[u8], &[u8]),
+    printed: (&[u8], &[u8]),
     trial: Trial,
 ) -> Result<(), Fail> {
     let map = map_of(alloc, row.map)?;
@@ -371,10 +371,10 @@ fn check_call(
     let output = if row.lines == "%" {
         third.as_slice()
     } else {
-        told.0
+        printed.0
     };
     match trial {
-        Trial::Whole => check(alloc, rt, made, row.status, output, told.1),
+        Trial::Whole => check(alloc, rt, made, row.status, output, printed.1),
         Trial::Failing => check_failing(alloc, rt, made, output),
     }
 }
@@ -420,7 +420,7 @@ pub(crate) fn check_calls(
     alloc: Global,
     rt: &impl Abort,
     row: Row<'_>,
-    told: (&[u8], &[u8]),
+    printed: (&[u8], &[u8]),
     trial: Trial,
 ) -> Result<(), Fail> {
     let calls = calls_of(alloc, row)?;
@@ -428,7 +428,7 @@ pub(crate) fn check_calls(
         for engine in engines_of(call.as_str()) {
             for rule in rules_of(call.as_str()) {
                 let words = spelled(alloc, call.as_str(), engine, rule)?;
-                check_call(alloc, rt, row, (words.as_str(), rule), told, trial)?;
+                check_call(alloc, rt, row, (words.as_str(), rule), printed, trial)?;
             }
         }
     }
@@ -449,8 +449,8 @@ pub(crate) fn check_rows(
         if trial == Trial::Whole || is_shown(row, "streams") {
             let output = written(alloc, row.lines, false)?;
             let line = written(alloc, row.lines, true)?;
-            let told = (output.as_slice(), line.as_slice());
-            check_calls(alloc, rt, row, told, trial)?;
+            let printed = (output.as_slice(), line.as_slice());
+            check_calls(alloc, rt, row, printed, trial)?;
         }
     }
     Ok(())

@@ -7,6 +7,6 @@ mod ends;
 mod reading;
 
 pub use cells::{dir_text, put_cell, put_points, put_state};
-pub use ends::Ends;
+pub use ends::AskedEnds;
 pub use reading::{first_number, first_two, point, two_numbers};
 pub use std::alloc::AllocError as NoMemory;

@@ -16,7 +16,7 @@ use Rattle.grid_moves.proofs.Dirs.{one_dir}
 use Rattle.cost_waves.specs.declared.front.Source.{Source}
 use Rattle.cost_waves.specs.Front.{Front, spread, dir_rank}
 use Rattle.cost_waves.specs.Rank.{far, rank_limit}
-use Rattle.cost_waves.specs.Told.{has_dir}
+use Rattle.cost_waves.specs.Stored.{has_dir}
 use Rattle.cost_waves.specs.Wave.{rank_at, dirs_at, known_count, Way, WayBy, Waits, AllWait, Held, in_now}
 use Rattle.cost_waves.specs.Wave.{Keeps, IsSettled, IsReady}
 use Rattle.grid_moves.proofs.Places.{IsOn, is_on, free_on, same_or_apart}
@@ -94,7 +94,7 @@ module _ (g : GridData) (s : Cell) (whole : IsGrid g) (free : is_free g s ≡ tr
     quiet = none at;
     ways = at_start (λ c r. Way g s c r) (way_nowhere g s free);
     begins = λ c d i e. absurd (empty c d e);
-    told = λ c d i e. absurd (empty c d e);
+    stored = λ c d i e. absurd (empty c d e);
     held = at_start (λ c r. Held 0 only [] [] c r) (in_now (omega arith) (record { place = 0; is = refl }));
     bounded = at_start (λ c r. r + diagonal_rank ≤ diagonal_rank * known_count f0.ranks)
         (let o = one_known in omega arith);
@@ -142,7 +142,7 @@ module _ (g : GridData) (s : Cell) (whole : IsGrid g) (free : is_free g s ≡ tr
           (λ d v e. h.relaxed d v (in_all d) e)
       settled_start (suc j) u q p = absurd (omega arith)
 
-  -- the same, told by what the code has
+  -- the same, from what the code has
   pub begun_by : (f : Front) (place : ℕ) (next after : List Cell) → place ≡ cell_number g.width s → next ≡ []
       → after ≡ [] → f ≡ spread g (2 * straight_rank) source all_dirs
       (record { ranks = set ranks place 0; firsts = firsts; next = next; after = after })

@@ -12,7 +12,7 @@ use Rattle.grid_moves.specs.Grid.{GridData, IsGrid, cell_number, is_inside}
 use Rattle.grid_moves.proofs.Places.{free_below}
 use Rattle.cost_waves.specs.Front.{Front, entered}
 use Rattle.cost_waves.specs.Rank.{far, rank_limit}
-use Rattle.cost_waves.specs.Told.{has_dir}
+use Rattle.cost_waves.specs.Stored.{has_dir}
 use Rattle.cost_waves.specs.Wave.{rank_at, dirs_at, known_count, Way, WayBy, Among, Waits, AllWait, Held}
 use Rattle.cost_waves.specs.Wave.{before, in_now, in_next, in_after, Keeps}
 use Rattle.cost_waves.proofs.Keeping.{lowered, joined, Effect, lowers, joins, passes, effect}
@@ -83,11 +83,11 @@ module _ (g : GridData) (s : Cell) (whole : IsGrid g) (floor : ℕ) (now : List 
           (joined_way d (ap (λ (v : Cell). has_dir (dirs_at g with_dirs.firsts v) d) (sym h) ∙ e))
     ]
 
-    joined_told : (c : Cell) (d : Dir) → is_inside g c ≡ true → has_dir (dirs_at g with_dirs.firsts c) d
+    joined_stored : (c : Cell) (d : Dir) → is_inside g c ≡ true → has_dir (dirs_at g with_dirs.firsts c) d
         ≡ true
         → rank_at g f.ranks c < rank_limit
-    joined_told c d h1 h2 = elim (same_or_apart g c to (is_on g c h1) on) [
-      | inr n ↦ k.told c d h1 (ap (λ (m : ℕ). has_dir m d) (sym (dirs_there c n)) ∙ h2)
+    joined_stored c d h1 h2 = elim (same_or_apart g c to (is_on g c h1) on) [
+      | inr n ↦ k.stored c d h1 (ap (λ (m : ℕ). has_dir m d) (sym (dirs_there c n)) ∙ h2)
       | inl e ↦
           let r : rank_at g f.ranks c ≡ old = ap (λ (v : Cell). rank_at g f.ranks v) e in
           let l = short in
@@ -103,7 +103,7 @@ module _ (g : GridData) (s : Cell) (whole : IsGrid g) (floor : ℕ) (now : List 
       quiet = dirs_there s (not_start (omega arith)) ∙ k.quiet;
       ways = k.ways;
       begins = joined_begins;
-      told = joined_told;
+      stored = joined_stored;
       held = k.held;
       bounded = k.bounded;
       wait_now = k.wait_now;
@@ -310,8 +310,8 @@ module _ (g : GridData) (s : Cell) (whole : IsGrid g) (floor : ℕ) (now : List 
       ways = λ c i. entry (λ v r m. r < rank_limit → Way g s v r) (λ h. o.way) c (is_on g c i) (k.ways c i);
       begins = λ c d i. entry (λ v r m. has_dir m d ≡ true → WayBy g s v d r) (o.sound d) c (is_on g c i)
           (k.begins c d i);
-      told = λ c d i. entry (λ v r m. has_dir m d ≡ true → r < rank_limit) (λ h. short) c (is_on g c i)
-          (k.told c d i);
+      stored = λ c d i. entry (λ v r m. has_dir m d ≡ true → r < rank_limit) (λ h. short) c (is_on g c i)
+          (k.stored c d i);
       held = λ c i. entry (λ v r m. r < rank_limit → Held floor now with_rank.next with_rank.after v r)
           (λ h. held_to) c (is_on g c i) (λ h. held_on c (rank_at g f.ranks c) (k.held c i h));
       bounded = λ c i. entry (λ v r m. r < rank_limit

@@ -11,7 +11,7 @@ use Rattle.grid_moves.proofs.Short.{few_cells}
 use Rattle.grid_moves.proofs.Places.{IsOn}
 use Rattle.cost_waves.specs.Front.{Front, entered, next_with, after_with}
 use Rattle.cost_waves.specs.Rank.{far}
-use Rattle.cost_waves.specs.Told.{has_dir}
+use Rattle.cost_waves.specs.Stored.{has_dir}
 use Rattle.cost_waves.specs.Wave.{rank_at, dirs_at, known_count, Way, WayBy}
 use Rattle.cost_waves.proofs.Lists.{count_low}
 

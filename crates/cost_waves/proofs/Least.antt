@@ -1,4 +1,4 @@
--- When no cell waits, known ranks are those of least walks, and told directions those of their first moves.
+-- When no cell waits, known ranks are those of least walks, and stored directions those of their first moves.
 use Rattle.std.proofs.lemmas.Bool.{cases_Bool}
 use Rattle.std.proofs.Common.{◌≡◌, ℕ, ◌+◌, ◌*◌, ◌^◌, ◌<◌, ◌≤◌, inl, inr, arith, refl, ap, sym, ◌∙◌, subst}
 use Rattle.std.proofs.Common.{Bool, true, false, List, [], ◌∷◌}
@@ -22,7 +22,7 @@ use Rattle.grid_moves.proofs.Legal.{and_both, legal_is}
 use Rattle.cost_waves.specs.Begin.{IsCostTo, Begins}
 use Rattle.cost_waves.specs.Front.{Front, dir_rank}
 use Rattle.cost_waves.specs.Rank.{rank_limit}
-use Rattle.cost_waves.specs.Told.{has_dir, Tells}
+use Rattle.cost_waves.specs.Stored.{has_dir, Tells}
 use Rattle.cost_waves.specs.Wave.{rank_at, dirs_at, Among, Held, before, in_now, in_next, in_after, Keeps}
 use Rattle.cost_waves.specs.Wave.{IsSettled, IsSwept, ended}
 use Rattle.root2_cost.proofs.Decoding.{cost-rank}
@@ -166,16 +166,16 @@ module _ (g : GridData) (s : Cell) (whole : IsGrid g) (ranks firsts : List ℕ)
       let h : rank_limit ≤ rank_at g ranks t = grind (arith, nat_tests) in
       omega arith
 
-  -- a told direction begins a least walk
-  told_begins : (t : Cell) (d : Dir) → is_inside g t ≡ true → has_dir (dirs_at g firsts t) d ≡ true
+  -- a stored direction begins a least walk
+  stored_begins : (t : Cell) (d : Dir) → is_inside g t ≡ true → has_dir (dirs_at g firsts t) d ≡ true
       → Begins g s t d
-  told_begins t d i e =
+  stored_begins t d i e =
       let way = k.begins t d i e in
       record {
         next = way.next;
         ahead = way.ahead;
         cells = way.cells;
-        least = is_least t (way.next ∷ way.cells) i (k.told t d i e) way.walk way.ranked;
+        least = is_least t (way.next ∷ way.cells) i (k.stored t d i e) way.walk way.ranked;
       }
 
   -- along a walk on which no rank is saved, directions are handed on
@@ -195,10 +195,10 @@ module _ (g : GridData) (s : Cell) (whole : IsGrid g) (ranks firsts : List ℕ)
       let e = rank-on u v a.0 cells a.1 in
       handed_on d v cells parts.1 inside known (omega arith) (r.same d (omega arith) has)
 
-  -- the first move of a least walk is told
-  begins_told : (t : Cell) (d : Dir) → is_inside g t ≡ true → Begins g s t d
+  -- the first move of a least walk is stored
+  begins_stored : (t : Cell) (d : Dir) → is_inside g t ≡ true → Begins g s t d
       → has_dir (dirs_at g firsts t) d ≡ true
-  begins_told t d i b =
+  begins_stored t d i b =
       let walk = b.least.walk in
       let end = from_start t (b.next ∷ b.cells) walk in
       let most = least_rank t (b.next ∷ b.cells) i end.known b.least in
@@ -226,5 +226,5 @@ module _ (g : GridData) (s : Cell) (whole : IsGrid g) (ranks firsts : List ℕ)
       (record { width = n; height = height; ranks = ranks; firsts = firsts }))
       (sym e) (record {
         costs = λ t i. cost_is t i (nat_lt (rank_at g ranks t) rank_limit) refl;
-        firsts = λ t d i. (told_begins t d i, begins_told t d i);
+        firsts = λ t d i. (stored_begins t d i, begins_stored t d i);
       })

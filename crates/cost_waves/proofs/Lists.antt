@@ -12,7 +12,7 @@ use Rattle.grid_moves.specs.declared.Dir.{Dir}
 use Rattle.grid_moves.specs.Move.{dir_number}
 use Rattle.grid_moves.proofs.Bits.{bit_in_either}
 use Rattle.cost_waves.specs.Rank.{rank_limit}
-use Rattle.cost_waves.specs.Told.{has_dir}
+use Rattle.cost_waves.specs.Stored.{has_dir}
 use Rattle.cost_waves.specs.Wave.{Among, known_count, is_known}
 
 one_longer : (xs : List Cell) (c : Cell) → length (xs ++ (c ∷ [])) ≡ length xs + 1

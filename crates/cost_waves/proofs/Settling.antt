@@ -13,7 +13,7 @@ use Rattle.grid_moves.proofs.Dirs.{In, first, later}
 use Rattle.cost_waves.specs.declared.front.Source.{Source}
 use Rattle.cost_waves.specs.Front.{Front, offered, spread, dir_rank, first_over}
 use Rattle.cost_waves.specs.Rank.{rank_limit}
-use Rattle.cost_waves.specs.Told.{has_dir}
+use Rattle.cost_waves.specs.Stored.{has_dir}
 use Rattle.cost_waves.specs.Wave.{rank_at, dirs_at, Way, WayBy, Keeps, IsRelaxed, IsSettled}
 use Rattle.cost_waves.proofs.Entering.{HasEntered, has_entered}
 use Rattle.cost_waves.proofs.Keeping.{IsOffer, Follows, follows_nothing}

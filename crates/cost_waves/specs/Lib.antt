@@ -1,6 +1,6 @@
 pub mod Rank
 pub mod Begin
-pub mod Told
+pub mod Stored
 pub mod Kept
 pub mod Front
 pub mod Shape

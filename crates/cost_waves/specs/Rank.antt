@@ -12,8 +12,8 @@ abbrev pub far : ℕ
 far = 18446744073709551615
 
 -- the cost that an entry tells, if it tells one
-abbrev pub cost_told : ℕ → Option Cost
-cost_told rank = if nat_lt rank rank_limit then Some (cost_of_rank rank) else None
+abbrev pub cost_known : ℕ → Option Cost
+cost_known rank = if nat_lt rank rank_limit then Some (cost_of_rank rank) else None
 
-pub far_tells_nothing : cost_told far ≡ None
+pub far_tells_nothing : cost_known far ≡ None
 far_tells_nothing = refl

@@ -10,7 +10,7 @@ use Rattle.grid_moves.specs.Walk.{IsWalk, cost_of}
 use Rattle.cost_waves.specs.declared.front.Source.{Source}
 use Rattle.cost_waves.specs.Front.{Front, dir_rank, spread}
 use Rattle.cost_waves.specs.Rank.{far, rank_limit}
-use Rattle.cost_waves.specs.Told.{has_dir}
+use Rattle.cost_waves.specs.Stored.{has_dir}
 
 -- the rank of a cell
 abbrev pub rank_at : GridData → List ℕ → Cell → ℕ
@@ -68,7 +68,7 @@ pub data Held (floor : ℕ) (now next after : List Cell) (c : Cell) (rank : ℕ)
       → rank < floor + straight_rank + straight_rank + straight_rank → Among after c
       → Held floor now next after c rank
 
--- Of a pass from s, in the wave whose ranks begin at `floor`: each known rank is that of a walk, each told
+-- Of a pass from s, in the wave whose ranks begin at `floor`: each known rank is that of a walk, each stored
 -- direction that of a walk of this rank, and each known cell is settled or waits.
 pub record Keeps (g : GridData) (s : Cell) (floor : ℕ) (now : List Cell) (f : Front) : Type 0 where
   pub ranked : length f.ranks ≡ g.height * g.width
@@ -80,7 +80,7 @@ pub record Keeps (g : GridData) (s : Cell) (floor : ℕ) (now : List Cell) (f : 
       → Way g s c (rank_at g f.ranks c)
   pub begins : (c : Cell) (d : Dir) → is_inside g c ≡ true → has_dir (dirs_at g f.firsts c) d ≡ true
       → WayBy g s c d (rank_at g f.ranks c)
-  pub told : (c : Cell) (d : Dir) → is_inside g c ≡ true → has_dir (dirs_at g f.firsts c) d ≡ true
+  pub stored : (c : Cell) (d : Dir) → is_inside g c ≡ true → has_dir (dirs_at g f.firsts c) d ≡ true
       → rank_at g f.ranks c < rank_limit
   pub held : (c : Cell) → is_inside g c ≡ true → rank_at g f.ranks c < rank_limit
       → Held floor now f.next f.after c (rank_at g f.ranks c)

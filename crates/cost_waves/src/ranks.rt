@@ -15,8 +15,8 @@ const RANK_LIMIT: u64 = 4_611_686_018_427_387_904;
 
 /// The cost that an entry tells, if it tells one.
 #[tactic(auto, unfolding(root2_cost::specs::Rank::cost_of_rank))]
-pub(crate) fn cost_told(rank: u64) -> Option<Cost>
-    ensures { result ≡ spec.cost_told rank }
+pub(crate) fn cost_known(rank: u64) -> Option<Cost>
+    ensures { result ≡ spec.cost_known rank }
 {
     if rank < RANK_LIMIT {
         Some(Cost::of_rank(rank))
@@ -26,8 +26,8 @@ pub(crate) fn cost_told(rank: u64) -> Option<Cost>
 }
 
 /// The costs that entries tell.
-pub(crate) fn costs_told(alloc: Global, ranks: &[u64]) -> Result<Vec<Option<Cost>>, NoMemory>
-    ensures { IfOk result (λ costs. costs.items ≡ map spec.cost_told ranks.now) }
+pub(crate) fn costs_known(alloc: Global, ranks: &[u64]) -> Result<Vec<Option<Cost>>, NoMemory>
+    ensures { IfOk result (λ costs. costs.items ≡ map spec.cost_known ranks.now) }
 {
-    ranks.iter().map(|rank| cost_told(*rank)).collect(alloc)
+    ranks.iter().map(|rank| cost_known(*rank)).collect(alloc)
 }

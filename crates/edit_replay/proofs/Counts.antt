@@ -74,9 +74,9 @@ found_plainly g s t None taken from to run = rw (from, to) run
 pub none_within : (most : Option ℕ) (old : ℕ) (reason : Unsearched)
     → RoseWithin most old old (reply_without reason)
 none_within None old reason = tt
-none_within (Some told) old why.Outside = omega arith
-none_within (Some told) old why.Blocked = omega arith
-none_within (Some told) old (why.Apart ends) = omega arith
+none_within (Some known) old why.Outside = omega arith
+none_within (Some known) old why.Blocked = omega arith
+none_within (Some known) old (why.Apart ends) = omega arith
 
 pub none_away : (fewest old : ℕ) (reason : Unsearched) → RoseByStates fewest old old (reply_without reason)
 none_away fewest old why.Outside = omega arith

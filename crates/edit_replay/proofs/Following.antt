@@ -79,32 +79,32 @@ tables_follow old new g h changes changed steps steps_now whole of_old of_new e 
 )
 
 -- a test of two grounds is that of the specs, from either side
-pub told : (a b : Ground) → sameb the_type a b ≡ is_ground a b
-told ground.Blocked ground.Blocked = refl
-told ground.Blocked ground.Land = refl
-told ground.Blocked ground.Water = refl
-told ground.Land ground.Blocked = refl
-told ground.Land ground.Land = refl
-told ground.Land ground.Water = refl
-told ground.Water ground.Blocked = refl
-told ground.Water ground.Land = refl
-told ground.Water ground.Water = refl
+pub same_ground : (a b : Ground) → sameb the_type a b ≡ is_ground a b
+same_ground ground.Blocked ground.Blocked = refl
+same_ground ground.Blocked ground.Land = refl
+same_ground ground.Blocked ground.Water = refl
+same_ground ground.Land ground.Blocked = refl
+same_ground ground.Land ground.Land = refl
+same_ground ground.Land ground.Water = refl
+same_ground ground.Water ground.Blocked = refl
+same_ground ground.Water ground.Land = refl
+same_ground ground.Water ground.Water = refl
 
-told_back : (a b : Ground) → sameb the_type a b ≡ is_ground b a
-told_back ground.Blocked ground.Blocked = refl
-told_back ground.Blocked ground.Land = refl
-told_back ground.Blocked ground.Water = refl
-told_back ground.Land ground.Blocked = refl
-told_back ground.Land ground.Land = refl
-told_back ground.Land ground.Water = refl
-told_back ground.Water ground.Blocked = refl
-told_back ground.Water ground.Land = refl
-told_back ground.Water ground.Water = refl
+same_ground_back : (a b : Ground) → sameb the_type a b ≡ is_ground b a
+same_ground_back ground.Blocked ground.Blocked = refl
+same_ground_back ground.Blocked ground.Land = refl
+same_ground_back ground.Blocked ground.Water = refl
+same_ground_back ground.Land ground.Blocked = refl
+same_ground_back ground.Land ground.Land = refl
+same_ground_back ground.Land ground.Water = refl
+same_ground_back ground.Water ground.Blocked = refl
+same_ground_back ground.Water ground.Land = refl
+same_ground_back ground.Water ground.Water = refl
 
 -- a grid that was edited by a test of grounds
 pub edited_by : (g : GridData) {h : GridData} (c : Cell) {b : Bool} (of to : Ground) → h ≡ grid_with g c b
     → b ≡ sameb the_type to of → h ≡ grid_with g c (is_ground of to)
-edited_by g c of to e f = e ∙ ap (λ (b : Bool). grid_with g c b) (f ∙ told_back to of)
+edited_by g c of to e f = e ∙ ap (λ (b : Bool). grid_with g c b) (f ∙ same_ground_back to of)
 
 -- there are places for it still
 pub places_stay : (g : GridData) {h : GridData} (c : Cell) (b : Bool) {space : SpaceData}

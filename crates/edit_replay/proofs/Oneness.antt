@@ -12,7 +12,7 @@ use Rattle.edit_replay.specs.Found.{reply_with}
 use Rattle.edit_replay.specs.Kept.{states_of}
 use Rattle.edit_replay.specs.Replies.{answer_of, Exhausts, IsRunReply}
 use Rattle.edit_replay.specs.Session.{SessionData}
-use Rattle.edit_replay.specs.Told.{IsReplyOf, found_with, reply_as, reply_by, reply_of}
+use Rattle.edit_replay.specs.ReplyOf.{IsReplyOf, found_with, reply_as, reply_by, reply_of}
 use Rattle.edit_replay.specs.declared.reply.Reply.{Reply}
 use Rattle.edit_replay.specs.declared.reply.Reply.TheVariants.{Walk, None, Outside, Blocked}
 use Rattle.edit_replay.proofs.Grounds.{ends_free, ends_on}
@@ -45,11 +45,11 @@ module _ (d : SessionData) (are : AreLayers d.layers) (s t : Cell) where
   only Outside p = rw p.right refl
   only Blocked p = rw (p.right.0, p.right.1) refl
 
-  pub result_told : {E : Type 0} (result : Result Reply E)
+  pub result_known : {E : Type 0} (result : Result Reply E)
       → IfOk result (λ reply. IsRight d.layers s t (answer_of reply)) → IfOk result (IsRunReply d s t)
       → IfOk result (λ reply. reply ≡ reply_of d.engine d.layers s t)
-  result_told (Ok reply) right run = only reply (record { right = right; run = run })
-  result_told (Err fault) right run = tt
+  result_known (Ok reply) right run = only reply (record { right = right; run = run })
+  result_known (Err fault) right run = tt
 
 -- the replies of two sessions with the same layers, whose engines both jump with the same states or are both plain
 pub one_run_reply : (d e : SessionData) (s t : Cell) (one other : Reply) → d.layers ≡ e.layers

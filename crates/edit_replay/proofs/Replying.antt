@@ -16,7 +16,7 @@ use Rattle.edit_replay.specs.Found.{reply_with}
 use Rattle.edit_replay.specs.Kept.{states_of}
 use Rattle.edit_replay.specs.Replies.{Exhausts, Finds}
 use Rattle.edit_replay.specs.Session.{SessionData}
-use Rattle.edit_replay.specs.Told.{IsReplyOf, found_with, reply_as, reply_by, reply_of}
+use Rattle.edit_replay.specs.ReplyOf.{IsReplyOf, found_with, reply_as, reply_by, reply_of}
 use Rattle.edit_replay.specs.declared.engine.Engine.{Engine}
 use Rattle.edit_replay.specs.declared.engine.Engine.TheVariants as engine
 
@@ -58,7 +58,7 @@ module _ (d : SessionData) (s t : Cell) where
       by_found free one found.walk found.taken (are.run (query_grid d.layers s) s t)
       (are.least (query_grid d.layers s) s t from)
 
-  pub told : IsReplyOf d s t (reply_of d.engine d.layers s t)
+  pub is_reply : IsReplyOf d s t (reply_of d.engine d.layers s t)
   unfolding reply_by
-  told = by_ends (is_on_map d.layers s && is_on_map d.layers t) (are_free_ends d.layers s t)
+  is_reply = by_ends (is_on_map d.layers s && is_on_map d.layers t) (are_free_ends d.layers s t)
       (in_one_layer d.layers s t) refl refl refl

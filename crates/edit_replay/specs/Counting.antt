@@ -6,7 +6,7 @@ use Rattle.edit_replay.specs.declared.engine.Engine.TheVariants.{Plain, Jps, Blo
 use Rattle.edit_replay.specs.declared.reply.Reply.{Reply}
 use Rattle.edit_replay.specs.declared.reply.Reply.TheVariants.{Walk, None, Outside, Blocked}
 
--- the most steps that an engine counts for a state that it takes, where this is told
+-- the most steps that an engine counts for a state that it takes, where this is known
 abbrev pub most_of : Engine → Option ℕ
 most_of Plain = Some 0
 most_of (Jps layout) = Some 0
@@ -34,9 +34,9 @@ states_away (None taken) = length taken
 states_away Outside = 0
 states_away Blocked = 0
 
--- where a most is told, the counter rose by no more than that for each state that was taken
+-- where a most is known, the counter rose by no more than that for each state that was taken
 abbrev pub RoseWithin : Option ℕ → ℕ → ℕ → Reply → Type 0
-RoseWithin most old new reply = MatchOption most ⊤ (λ told. new ≤ old + states_taken reply * told)
+RoseWithin most old new reply = MatchOption most ⊤ (λ known. new ≤ old + states_taken reply * known)
 
 -- it rose by at least so much for each state that was taken away from the goal
 abbrev pub RoseByStates : ℕ → ℕ → ℕ → Reply → Type 0

@@ -6,4 +6,4 @@ pub mod Mended
 pub mod Counting
 pub mod Replies
 pub mod Found
-pub mod Told
+pub mod ReplyOf

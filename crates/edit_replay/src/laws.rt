@@ -1,12 +1,12 @@
 //! Laws of replies and of maps: each is the contract of a call that does nothing.
 
 ghost use Rattle.edit_replay.specs.Grounds.{TerrainHasGrounds};
-ghost use Rattle.edit_replay.specs.Told.{NoneElseReplies, RepliesAreOne, RepliesAreTold};
+ghost use Rattle.edit_replay.specs.ReplyOf.{NoneElseReplies, RepliesAreOne, RepliesExist};
 
 /// Whatever the engine, the grids and the ends, there is a reply that is right and the engine's run: a
 /// function of these tells it.
-pub fn replies_are_told()
-    ensures { RepliesAreTold }
+pub fn replies_exist()
+    ensures { RepliesExist }
 {}
 
 /// On the layers of one map no other reply is right and the run of the session's engine.

@@ -61,7 +61,7 @@ fn search_by_jumps<J: JumpSource, L: Ledger>(
     ensures right { IfOk result (IsRightOn _grid.now from to) }
     ensures run { IfOk result (IsJumpReply space.old.layout _grid.now from to) }
     ensures most { IfOk result (λ reply. IsWithin (J.most j.now)
-        (λ told. states_taken reply * most_for_state told) steps.old steps.new) }
+        (λ known. states_taken reply * most_for_state known) steps.old steps.new) }
     ensures fewest { IfOk result (RoseByStates (J.fewest j.now).allowed steps.old steps.new) }
     ensures layout { space.new.layout ≡ space.old.layout }
     ensures places { HasPlaces _grid.now space.new }

@@ -10,7 +10,7 @@ ghost use Rattle.edit_replay.specs.Counting.{RoseByStates, RoseWithin, fewest_of
 ghost use Rattle.edit_replay.specs.Edited.{edit_at, edit_reply};
 ghost use Rattle.edit_replay.specs.Mended.{IsEditCounted};
 ghost use Rattle.edit_replay.specs.Replies.{answer_of, AddsEdit, EditsSo, IsRunReply, IsShort};
-ghost use Rattle.edit_replay.specs.Told.{reply_of};
+ghost use Rattle.edit_replay.specs.ReplyOf.{reply_of};
 
 use crate::kept::{Both, Finder, Kept, space_of};
 use crate::parts::Parts;
@@ -170,7 +170,7 @@ impl Session {
     /// Where memory is wanting, the session stands for the same layers as before, and may be asked and
     /// edited again.
     ///
-    /// `steps` counts what the engine counts: by the most and the fewest that are told of it, for each
+    /// `steps` counts what the engine counts: by the most and the fewest that are known of it, for each
     /// state that was taken. `plain` counts none, and `jps` none where it answers.
     pub fn query<L: Ledger>(
         &mut self,
@@ -186,7 +186,7 @@ impl Session {
             (answer_of reply)) }
         ensures run { IfOk result
             (IsRunReply self.old (record { x = sx; y = sy }) (record { x = gx; y = gy })) }
-        ensures told { IfOk result (λ reply. reply
+        ensures known { IfOk result (λ reply. reply
             ≡ reply_of self.old.engine self.old.layers (record { x = sx; y = sy }) (record { x = gx; y = gy })) }
         ensures short { IfOk result (λ reply. IsShort (answer_of reply)) }
         ensures unchanged { self.new ≡ self.old }

@@ -100,9 +100,9 @@ reads s k m (x ∷ ms) n d h i r =
         ∙ sym (member_from k m (x ∷ ms) n above)
 
 -- a run of a list tells the members at its places
-pub told : (runs : List Run) (members : List (Option Dir)) (n i : ℕ) (d : Run) → runs ≡ runs_of members
+pub first_there : (runs : List Run) (members : List (Option Dir)) (n i : ℕ) (d : Run) → runs ≡ runs_of members
     → n < length members → IsRunOf runs n i d → (get_or runs i d).first ≡ get_or members n None
-told runs members n i d e h r =
+first_there runs members n i d e h r =
     ap (λ (l : List Run). (get_or l i d).first) e
     ∙ by_list members h (subst (λ (l : List Run). IsRunOf l n i d) e r)
   where

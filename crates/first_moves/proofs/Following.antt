@@ -160,7 +160,7 @@ stands g s t points cost f = record {
   priced = f.priced;
 }
 
--- the same, told by what the code has
+-- the same, from what the code has
 pub counts_one : (u v : Cell) (cost : Cost) → cost ≡ move_cost u v → cost.a + cost.b ≡ 1
 counts_one u v cost e = subst (λ (c : Cost). c.a + c.b ≡ 1) (sym e) (move_counts u v)
 

@@ -19,7 +19,7 @@ use Rattle.grid_moves.proofs.Legal.{and_both, free_inside, legal_is}
 use Rattle.grid_moves.proofs.Short.{least_rest, least_steps}
 use Rattle.grid_moves.proofs.Walks.{steps-cost_of}
 use Rattle.cost_waves.specs.Begin.{Begins, IsCostTo, IsLeastCost}
-use Rattle.cost_waves.specs.Told.{WaveData, cost_at}
+use Rattle.cost_waves.specs.Stored.{WaveData, cost_at}
 use Rattle.cost_waves.proofs.Falling.{least_by_move}
 use Rattle.std.specs.List.{find}
 use Rattle.first_moves.specs.First.{IsFirstMove}
@@ -35,7 +35,7 @@ same_cost p q h = same_parts p q (grind (arith, nat_tests)) (grind (arith, nat_t
 cost_itself : (p q : Cost) → p ≡ q → is_same_cost p q ≡ true
 cost_itself p q e = subst (λ (c : Cost). is_same_cost p c ≡ true) e (grind (arith, nat_tests))
 
--- a least walk costs what is told
+-- a least walk costs what is stored
 one_cost : (g : GridData) (s t : Cell) (cost : Cost) (cells : List Cell) → IsLeastCost g s t cost
     → IsLeastWalk g s t cells → cost_of (s ∷ cells) ≡ cost
 one_cost g s t cost cells l w =
@@ -52,7 +52,7 @@ pub few_cells : (g : GridData) → AreSides g.width g.height → g.height * g.wi
 few_cells g s = let p : g.height * g.width ≤ 4096 * 4096 = mul-le-mul s.low s.narrow in omega arith
 
 module _ (g : GridData) (goal : Cell) (w : WaveData) (p : IsPassFrom g goal w) where
-  -- what is told of a cell is what the goal costs from there
+  -- what is stored of a cell is what the goal costs from there
   cost_from : (c : Cell) → is_inside g c ≡ true → IsCostTo g c goal (cost_at w c)
   cost_from c i = cost_back g goal c (cost_at w c) (p.tells.costs c i)
 
@@ -121,7 +121,7 @@ module _ (g : GridData) (goal : Cell) (w : WaveData) (p : IsPassFrom g goal w) w
       first_is g c goal (leads g w c) (λ d. (leads_begins c d i, begins_leads c d i)) (cost_at w c)
       (cost_from c i)
 
-  -- told by what the code has
+  -- from what the code has
   pub inward_some : (c : Cell) (d : Dir) (o : Option Dir) (r : Option Cell) → is_inside g c ≡ true
       → o ≡ find (leads g w c) all_dirs → o ≡ Some d → r ≡ legal_ahead g c d → IsNext g c goal r
   inward_some c d o r i e h a =

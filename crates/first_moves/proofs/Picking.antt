@@ -12,9 +12,9 @@ use Rattle.grid_moves.specs.Walk.{IsLeastWalk, is_walk}
 use Rattle.grid_moves.proofs.Ahead.{legal_ahead-of}
 use Rattle.root2_cost.specs.declared.Cost.{Cost}
 use Rattle.cost_waves.specs.Begin.{Begins, IsCostTo}
-use Rattle.cost_waves.specs.Told.{WaveData, Tells, cost_at}
+use Rattle.cost_waves.specs.Stored.{WaveData, Tells, cost_at}
 use Rattle.std.specs.List.{find}
-use Rattle.cost_waves.specs.Told.{has_dir}
+use Rattle.cost_waves.specs.Stored.{has_dir}
 use Rattle.first_moves.specs.First.{IsFirstMove, first_in}
 use Rattle.first_moves.specs.declared.row.Run.{Run}
 use Rattle.first_moves.specs.Row.{IsRow}
@@ -39,10 +39,10 @@ none_more has k d n f before e h = elim (cases_lt (dir_number e) k) [
 -- of the directions with the property, one before which there is none is the first move
 found : (g : GridData) (s t : Cell) (has : Dir → Bool) → ((d : Dir) → IsTrue (has d) ↔ Begins g s t d)
     → (d : Dir) → has d ≡ true → NoneBefore has (dir_number d) → IsFirstMove g s t (Some d)
-found g s t has told d h before = (
-  (told d).0 h,
+found g s t has iff d h before = (
+  (iff d).0 h,
   λ e b. elim (cases_lt (dir_number e) (dir_number d)) [
-    | inl less ↦ absurd (let here = (told e).1 b in let none = before e less in cc)
+    | inl less ↦ absurd (let here = (iff e).1 b in let none = before e less in cc)
     | inr more ↦ more
   ],
 )
@@ -50,8 +50,8 @@ found g s t has told d h before = (
 -- where there is none at all, there is no first move
 not_found : (g : GridData) (s t : Cell) (has : Dir → Bool) → ((d : Dir) → IsTrue (has d) ↔ Begins g s t d)
     → (o : Option Cost) → IsCostTo g s t o → NoneBefore has 8 → IsFirstMove g s t None
-not_found g s t has told None cost none = inr cost
-not_found g s t has told (Some c) cost none = by_cells cost.cells cost.least
+not_found g s t has iff None cost none = inr cost
+not_found g s t has iff (Some c) cost none = by_cells cost.cells cost.least
   where
     by_cells : (cells : List Cell) → IsLeastWalk g s t cells → IsFirstMove g s t None
     by_cells [] l = inl l.walk.ends
@@ -59,7 +59,7 @@ not_found g s t has told (Some c) cost none = by_cells cost.cells cost.least
         let parts = and_both (is_legal g s v) (is_walk g (v ∷ cells)) l.walk.legal in
         let a = legal_ahead-of g s v parts.0 in
         let not = none a.0 (dir_number-few a.0) in
-        let is : has a.0 ≡ true = (told a.0).1 (record { next = v; ahead = a.1; cells = cells; least = l }) in
+        let is : has a.0 ≡ true = (iff a.0).1 (record { next = v; ahead = a.1; cells = cells; least = l }) in
         absurd (cc)
 
 -- these are the directions from a number on
@@ -68,17 +68,17 @@ are_from k [] = nat_eq k 8
 are_from k (d ∷ dirs) = nat_eq (dir_number d) k && are_from (suc k) dirs
 
 -- the first direction with the property is the first move, where those that have it begin least walks
-module _ (g : GridData) (s t : Cell) (has : Dir → Bool) (told : (d : Dir) → IsTrue (has d) ↔ Begins g s t d)
+module _ (g : GridData) (s t : Cell) (has : Dir → Bool) (iff : (d : Dir) → IsTrue (has d) ↔ Begins g s t d)
     (o : Option Cost) (cost : IsCostTo g s t o) where
   first_from : (k : ℕ) (dirs : List Dir) → are_from k dirs ≡ true → NoneBefore has k
       → IsFirstMove g s t (find has dirs)
   first_from k [] all before =
-      let end : k ≡ 8 = eqb-true k 8 all in not_found g s t has told o cost (λ e h. before e (omega arith))
+      let end : k ≡ 8 = eqb-true k 8 all in not_found g s t has iff o cost (λ e h. before e (omega arith))
   first_from k (d ∷ dirs) all before =
       let parts = and_both (nat_eq (dir_number d) k) (are_from (suc k) dirs) all in
       let here : dir_number d ≡ k = eqb-true (dir_number d) k parts.0 in
       elim (has d) as (λ b. has d ≡ b → IsFirstMove g s t (if b then Some d else find has dirs)) [
-        | true ↦ λ h. found g s t has told d h (λ e l. before e (omega arith))
+        | true ↦ λ h. found g s t has iff d h (λ e l. before e (omega arith))
         | false ↦ λ h. first_from (suc k) dirs parts.1 (none_more has k d here h before)
       ] refl
 

@@ -13,7 +13,7 @@ use Rattle.grid_moves.specs.Grid.{GridData, cell_number, is_free, is_inside}
 use Rattle.grid_moves.proofs.Legal.{and_both}
 use Rattle.grid_moves.proofs.Places.{one_cell, inside_below}
 use Rattle.grid_moves.proofs.Short.{walk_free}
-use Rattle.cost_waves.specs.Told.{Tells, WaveData}
+use Rattle.cost_waves.specs.Stored.{Tells, WaveData}
 use Rattle.first_moves.specs.declared.row.Run.{Run}
 use Rattle.first_moves.specs.First.{IsFirstMove}
 use Rattle.first_moves.specs.Kept.{AreRows}
@@ -50,15 +50,15 @@ pub if_without_moves : {E : Type 0} (g : GridData) (s : Cell) (o : Result (List 
 if_without_moves g s (Ok row) i b e = subst (λ (l : List Run). IsRow g s l) (sym e) (without_moves g s i b)
 if_without_moves g s (Err fault) i b e = tt
 
--- what is told of a pass from a cell is its row
-pub if_told : {E : Type 0} (g : GridData) (s : Cell) (w : WaveData) (o : Result (List Run) E)
+-- what is stored of a pass from a cell is its row
+pub if_row : {E : Type 0} (g : GridData) (s : Cell) (w : WaveData) (o : Result (List Run) E)
     → w.width ≡ g.width
     → w.height ≡ g.height → Tells g s w
     → IfOk o (λ row. (h : GridData) (u : Cell) → w.width ≡ h.width → w.height ≡ h.height → Tells h u w
     → IsRow h u row)
     → IfOk o (λ row. IsRow g s row)
-if_told g s w (Ok row) wide high tells all = all g s wide high tells
-if_told g s w (Err fault) wide high tells all = tt
+if_row g s w (Ok row) wide high tells all = all g s wide high tells
+if_row g s w (Err fault) wide high tells all = tt
 
 pub count_more : (xs ys : List (List Run)) (r : List Run) (k m : ℕ) → ys ≡ xs ++ (r ∷ []) → length xs ≡ k + m
     → length ys ≡ k + (m + 1)

@@ -8,7 +8,7 @@ use Rattle.grid_moves.specs.Grid.{GridData}
 use Rattle.grid_moves.specs.Move.{all_dirs, dir_number}
 use Rattle.grid_moves.specs.Walk.{NoWalk}
 use Rattle.cost_waves.specs.Begin.{Begins}
-use Rattle.cost_waves.specs.Told.{has_dir}
+use Rattle.cost_waves.specs.Stored.{has_dir}
 
 -- The first move from s to t: the direction of least number with which some least walk from s to t begins.
 -- There is none exactly where t is s or no walk leads from s to t, as where an end is blocked.

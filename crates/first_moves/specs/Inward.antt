@@ -1,6 +1,6 @@
 -- First moves by what a pass from the goal tells. No public clause cites this module.
 use Rattle.std.specs.Prelude.{◌≡◌, Bool, false, nat_eq, ◌&&◌, Option, Some, None}
-use Rattle.cost_waves.specs.Told.{WaveData, Tells, cost_at}
+use Rattle.cost_waves.specs.Stored.{WaveData, Tells, cost_at}
 use Rattle.grid_moves.specs.declared.Cell.{Cell}
 use Rattle.grid_moves.specs.declared.Dir.{Dir}
 use Rattle.grid_moves.specs.Grid.{GridData, AreSides}
@@ -24,7 +24,7 @@ pub record HasPass (g : GridData) (w : WaveData) : Type 0 where
 abbrev pub is_same_cost : Cost → Cost → Bool
 is_same_cost p q = nat_eq p.a q.a && nat_eq p.b q.b
 
--- told what the goal costs from both ends of a move, if anything: the move saves what it costs
+-- given what the goal costs from both ends of a move, if anything: the move saves what it costs
 abbrev pub is_saved : Option Cost → Option Cost → Cost → Bool
 is_saved None there move = false
 is_saved (Some here) None move = false

@@ -4,7 +4,7 @@
 //! a least walk exactly where the goal costs less from the cell ahead, by what the move costs.
 
 ghost use Rattle.std.specs.Prelude.{◌≡◌, ◌+◌, ◌<◌, ◌^◌, [], ◌∷◌, ℕ, true, IfSome};
-ghost use Rattle.cost_waves.specs.Told.{cost_at};
+ghost use Rattle.cost_waves.specs.Stored.{cost_at};
 ghost use Rattle.grid_moves.specs.declared.Cell.{Cell};
 ghost use Rattle.grid_moves.specs.Grid.{GridData, is_inside};
 ghost use Rattle.grid_moves.specs.Move.{all_dirs};

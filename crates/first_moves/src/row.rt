@@ -5,7 +5,7 @@ ghost use Rattle.grid_moves.specs.declared.Cell.{Cell};
 ghost use Rattle.grid_moves.specs.declared.Dir.{Dir};
 ghost use Rattle.grid_moves.specs.Grid.{GridData, is_free, is_inside};
 ghost use Rattle.std.specs.List.{find};
-ghost use Rattle.cost_waves.specs.Told.{Tells, IsBlank, has_dir};
+ghost use Rattle.cost_waves.specs.Stored.{Tells, IsBlank, has_dir};
 ghost use Rattle.first_moves.specs.First as spec;
 ghost use Rattle.first_moves.specs.Runs.{runs_of, is_same_move};
 ghost use Rattle.first_moves.specs.Row.{IsRow};
@@ -76,7 +76,7 @@ fn go_on(runs: &mut Vec<Run>, start: u16, before: u8, byte: u8) -> Result<(), No
     push_item(runs, Run { start, first })
 }
 
-// The runs of a row, told for each cell the directions with which least walks to it begin.
+// The runs of a row, given for each cell the directions with which least walks to it begin.
 fn fill(runs: &mut Vec<Run>, bytes: &[u8]) -> Result<(), NoMemory>
     requires { length bytes.now ≤ 16384 }
     ensures runs { OnOk result (runs.new.items ≡ runs_of (map spec.first_in bytes.now)) }
@@ -238,13 +238,17 @@ impl Row {
         ensures height { waves.new.height ≡ waves.old.height }
     {
         waves.pass(t, s)?;
-        Row::told(alloc, scratch, waves)
+        Row::of_waves(alloc, scratch, waves)
     }
 
     /// The first moves from the cell from which the last pass over a map of at most 2^14 cells went, by what
-    /// that pass told. `scratch` is memory for runs that is used again; the row takes as much memory as it
+    /// that pass stored. `scratch` is memory for runs that is used again; the row takes as much memory as it
     /// needs.
-    pub fn told(alloc: Global, scratch: &mut Vec<Run>, waves: &CostWaves) -> Result<Row, NoMemory>
+    pub fn of_waves(
+        alloc: Global,
+        scratch: &mut Vec<Run>,
+        waves: &CostWaves,
+    ) -> Result<Row, NoMemory>
         requires few { waves.now.height * waves.now.width ≤ 16384 }
         ensures { IfOk result (λ row. (g : GridData) (s : Cell) → waves.now.width ≡ g.width
             → waves.now.height ≡ g.height → Tells g s waves.now → IsRow g s row) }

@@ -8,7 +8,7 @@ use Rattle.best_first.specs.Made.{found_of}
 use Rattle.best_first.proofs.Answering.{found_answers}
 use Rattle.goal_boxes.specs.Answer.{IsBoxedRunOn}
 use Rattle.goal_boxes.specs.Rule.{boxed_links}
-use Rattle.goal_boxes.proofs.Existing.{all_boxes, all_told}
+use Rattle.goal_boxes.proofs.Existing.{all_boxes, all_right}
 use Rattle.goal_boxes.proofs.Moves.{boxed_are_links}
 use Rattle.goal_boxes.proofs.Right.{run_least}
 
@@ -19,6 +19,6 @@ has_answer g s t free =
     let run = found_answers g.width g.height t (boxed_links g b t) (boxed_are_links g b t) corners s in
     record {
       answer = found_of g.width g.height t (boxed_links g b t) corners s;
-      run = record { box = b; tells = all_told g; run = run };
-      least = run_least g b t (all_told g) s _ free run;
+      run = record { box = b; tells = all_right g; run = run };
+      least = run_least g b t (all_right g) s _ free run;
     }

@@ -108,9 +108,9 @@ box_if_free g u d false e = record { box = None; is = λ f. absurd (cc) }
 pub all_boxes : GridData → BoxTeller
 all_boxes g u d = (box_if_free g u d (is_free g u) refl).box
 
-pub all_told : (g : GridData) → TellsBoxes g (all_boxes g)
+pub all_right : (g : GridData) → TellsBoxes g (all_boxes g)
 unfolding all_boxes
-all_told g = record { boxes = λ u f d. (box_if_free g u d (is_free g u) refl).is f }
+all_right g = record { boxes = λ u f d. (box_if_free g u d (is_free g u) refl).is f }
 
 -- there is one box
 one_area : (a b : Area) → IsWithin a b → IsWithin b a → a ≡ b
@@ -119,7 +119,7 @@ one_area a b h1 h2 = grind (arith, nat_tests)
 pub one_box : (P : Cell → Type 0) (a b : Option Area) → IsAreaOf P a → IsAreaOf P b → a ≡ b
 one_box P a b h1 h2 = grind (arith, nat_tests, one_area)
 
--- so boxes of a cell are those that are told of it
+-- so boxes of a cell are those that are stored of it
 pub agree : (g : GridData) (box : BoxTeller) → TellsBoxes g box → (u : Cell) → is_free g u ≡ true
     → (boxes : CellBoxes) → AreBoxes g u boxes → Agree boxes box u
 agree g box tells u free boxes are =

@@ -12,11 +12,11 @@ use Rattle.grid_moves.proofs.Legal.{same_cell, free_inside}
 use Rattle.grid_moves.proofs.Walks.{end_free}
 use Rattle.grid_moves.proofs.Places.{inside_from}
 use Rattle.cost_waves.specs.Begin.{Begins}
-use Rattle.cost_waves.specs.Told.{WaveData, begins_with, Tells}
+use Rattle.cost_waves.specs.Stored.{WaveData, begins_with, Tells}
 use Rattle.goal_boxes.specs.declared.area.Area.{Area}
 use Rattle.goal_boxes.specs.Box.{holds, IsLeastArea, IsAreaOf, IsBox, box_in}
-use Rattle.goal_boxes.specs.Wide.{with_cell, widened, Scanned, IsTold, Seen, NoneTold, IsFirstTold}
-use Rattle.goal_boxes.specs.Wide.{IsLastTold}
+use Rattle.goal_boxes.specs.Wide.{with_cell, widened, Scanned, IsBegun, Met, NoneBegun, IsFirstBegun}
+use Rattle.goal_boxes.specs.Wide.{IsLastBegun}
 
 -- what it is to lie in a rectangle
 pub record LiesIn (a : Area) (c : Cell) : Type 0 where
@@ -179,27 +179,27 @@ module _ (width : ℕ) (P : Cell → Type 0) where
   none_scanned c s = elim s.before [ inl h ↦ omega arith | inr h ↦ (let l = h.1 in omega arith) ]
 
 module _ (w : WaveData) (d : Dir) where
-  told_at : (y : ℕ) (c : Cell) → c.y ≡ y → IsTold w d c → begins_with w (record { x = c.x; y = y }) d ≡ true
-  told_at y c e t = ap (λ (n : ℕ). begins_with w (record { x = c.x; y = n }) d) (sym e) ∙ t
+  begun_at : (y : ℕ) (c : Cell) → c.y ≡ y → IsBegun w d c → begins_with w (record { x = c.x; y = y }) d ≡ true
+  begun_at y c e t = ap (λ (n : ℕ). begins_with w (record { x = c.x; y = n }) d) (sym e) ∙ t
 
-  -- a row of which the direction is not told adds nothing
-  pub row_untold : (y : ℕ) → NoneTold w d y 0 w.width → (found : Option Area) → IsAreaOf (Seen w d y 0) found
-      → IsAreaOf (Seen w d (y + 1) 0) found
-  row_untold y none = same_area (Seen w d y 0) (Seen w d (y + 1) 0) (next_row w.width (IsTold w d) y 0)
+  -- a row of which the direction is not stored adds nothing
+  pub row_unbegun : (y : ℕ) → NoneBegun w d y 0 w.width → (found : Option Area) → IsAreaOf (Met w d y 0) found
+      → IsAreaOf (Met w d (y + 1) 0) found
+  row_unbegun y none = same_area (Met w d y 0) (Met w d (y + 1) 0) (next_row w.width (IsBegun w d) y 0)
       (λ c s. record {
         column = s.column;
         kind = s.kind;
-        before = elim (met_or_in_row w.width (IsTold w d) y c s) [
+        before = elim (met_or_in_row w.width (IsBegun w d) y c s) [
           | inl less ↦ inl less
           | inr same ↦ absurd (
-              let told = told_at y c same s.kind in
-              let untold = none c.x (omega arith) s.column in
+              let begun = begun_at y c same s.kind in
+              let unbegun = none c.x (omega arith) s.column in
               cc)
         ];
       })
 
   -- of another one its first cell and its last cell are enough
-  module _ (y first last : ℕ) (f : IsFirstTold w d y first) (l : IsLastTold w d y first last) where
+  module _ (y first last : ℕ) (f : IsFirstBegun w d y first) (l : IsLastBegun w d y first last) where
     abbrev at_first : Cell
     at_first = record { x = first; y = y }
 
@@ -208,25 +208,25 @@ module _ (w : WaveData) (d : Dir) where
 
     -- seen before, or one of these two
     abbrev With : Cell → Type 0
-    With c = (Seen w d y 0 c) ⊎ (c ≡ at_first)
+    With c = (Met w d y 0 c) ⊎ (c ≡ at_first)
 
     abbrev WithBoth : Cell → Type 0
     WithBoth c = With c ⊎ (c ≡ at_last)
 
-    first_seen : Seen w d (y + 1) 0 at_first
-    first_seen = record { column = f.within; kind = f.told; before = inl (omega arith) }
+    first_seen : Met w d (y + 1) 0 at_first
+    first_seen = record { column = f.within; kind = f.begun; before = inl (omega arith) }
 
-    last_seen : Seen w d (y + 1) 0 at_last
-    last_seen = record { column = l.within; kind = l.told; before = inl (omega arith) }
+    last_seen : Met w d (y + 1) 0 at_last
+    last_seen = record { column = l.within; kind = l.begun; before = inl (omega arith) }
 
     -- the cells of the row lie between the two
-    between : (c : Cell) → c.y ≡ y → c.x < w.width → IsTold w d c → (first ≤ c.x) × (c.x ≤ last)
-    between c h1 h2 h3 = grind (arith, nat_tests, cases_lt, told_at)
+    between : (c : Cell) → c.y ≡ y → c.x < w.width → IsBegun w d c → (first ≤ c.x) × (c.x ≤ last)
+    between c h1 h2 h3 = grind (arith, nat_tests, cases_lt, begun_at)
 
-    pub row_told : (found : Option Area) → IsAreaOf (Seen w d y 0) found
-        → IsAreaOf (Seen w d (y + 1) 0) (Some (with_cell (widened found at_first) at_last))
-    row_told found area =
-        let one = grown (Seen w d y 0) With (λ c s. inl s) at_first (inr refl) (λ c h. h) found area in
+    pub row_begun : (found : Option Area) → IsAreaOf (Met w d y 0) found
+        → IsAreaOf (Met w d (y + 1) 0) (Some (with_cell (widened found at_first) at_last))
+    row_begun found area =
+        let one = grown (Met w d y 0) With (λ c s. inl s) at_first (inr refl) (λ c h. h) found area in
         let a : Area = with_cell (widened found at_first) at_last in
         let two : IsLeastArea WithBoth a =
         grown With WithBoth (λ c s. inl s) at_last (inr refl) (λ c h. h)
@@ -234,19 +234,19 @@ module _ (w : WaveData) (d : Dir) where
         record {
           some = at_last;
           is_one = last_seen;
-          all = λ c s. elim (met_or_in_row w.width (IsTold w d) y c s) [
+          all = λ c s. elim (met_or_in_row w.width (IsBegun w d) y c s) [
             | inl less ↦ two.all c (inl
                 (inl (record { column = s.column; kind = s.kind; before = inl less })))
             | inr same ↦ in_row a two c s same
           ];
           least = λ b held. two.least b (λ c h. elim h [
-            | inl (inl s) ↦ held c (next_row w.width (IsTold w d) y 0 c s)
+            | inl (inl s) ↦ held c (next_row w.width (IsBegun w d) y 0 c s)
             | inl (inr e) ↦ subst (λ (k : Cell). holds b k ≡ true) (sym e) (held at_first first_seen)
             | inr e ↦ subst (λ (k : Cell). holds b k ≡ true) (sym e) (held at_last last_seen)
           ]);
         }
       where
-        in_row : (a : Area) → IsLeastArea WithBoth a → (c : Cell) → Seen w d (y + 1) 0 c → c.y ≡ y
+        in_row : (a : Area) → IsLeastArea WithBoth a → (c : Cell) → Met w d (y + 1) 0 c → c.y ≡ y
             → holds a c ≡ true
         in_row a two c s e =
             let p = between c e s.column s.kind in
@@ -273,8 +273,8 @@ end_of_walk g u t d b = end_free g u t (b.next ∷ b.cells) b.least.walk
 -- what was seen when all rows were is what begins so
 pub all_seen : (g : GridData) (u : Cell) (w : WaveData) → w.width ≡ g.width → w.height ≡ g.height
     → Tells g u w
-    → (d : Dir) (found : Option Area) → IsAreaOf (Seen w d w.height 0) found → IsBox g u d found
-all_seen g u w wide high tells d = same_area (Seen w d w.height 0) (λ t. Begins g u t d)
+    → (d : Dir) (found : Option Area) → IsAreaOf (Met w d w.height 0) found → IsBox g u d found
+all_seen g u w wide high tells d = same_area (Met w d w.height 0) (λ t. Begins g u t d)
     (λ c s. (tells.firsts c d (inside c s)).0 s.kind)
     (λ c b.
     let i = free_inside g c (end_of_walk g u c d b) in
@@ -286,7 +286,7 @@ all_seen g u w wide high tells d = same_area (Seen w d w.height 0) (λ t. Begins
       before = inl (omega arith);
     })
   where
-    inside : (c : Cell) → Seen w d w.height 0 c → is_inside g c ≡ true
+    inside : (c : Cell) → Met w d w.height 0 c → is_inside g c ≡ true
     inside c s =
         let x = s.column in
         inside_from g c (omega arith) (elim s.before [

@@ -20,7 +20,7 @@ use Rattle.goal_boxes.specs.declared.around.CellBoxes.{CellBoxes}
 use Rattle.goal_boxes.specs.Box.{BoxTeller, box_in}
 use Rattle.goal_boxes.specs.Rule.{is_toward}
 
--- the eight boxes are those that are told of the cell
+-- the eight boxes are those that are stored of the cell
 abbrev pub Agree : CellBoxes → BoxTeller → Cell → Type 0
 Agree boxes box c = (d : Dir) → box_in boxes d ≡ box c d
 

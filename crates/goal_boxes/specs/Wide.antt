@@ -3,7 +3,7 @@ use Rattle.std.specs.Prelude.{◌≡◌, ◌+◌, ◌<◌, ◌≤◌, ◌⊎◌,
 use Rattle.std.specs.Prelude.{None}
 use Rattle.grid_moves.specs.declared.Cell.{Cell}
 use Rattle.grid_moves.specs.declared.Dir.{Dir}
-use Rattle.cost_waves.specs.Told.{WaveData, begins_with}
+use Rattle.cost_waves.specs.Stored.{WaveData, begins_with}
 use Rattle.goal_boxes.specs.declared.area.Area.{Area}
 
 -- the least rectangle that holds a rectangle and a cell
@@ -27,27 +27,27 @@ pub record Scanned (width : ℕ) (P : Cell → Type 0) (y x : ℕ) (c : Cell) : 
   pub kind : P c
   pub before : (c.y < y) ⊎ ((c.y ≡ y) × (c.x < x))
 
--- the direction is told of the cell
-abbrev pub IsTold : WaveData → Dir → Cell → Type 0
-IsTold w d c = begins_with w c d ≡ true
+-- the direction is stored of the cell
+abbrev pub IsBegun : WaveData → Dir → Cell → Type 0
+IsBegun w d c = begins_with w c d ≡ true
 
 -- and a scan has met it
-abbrev pub Seen : WaveData → Dir → ℕ → ℕ → Cell → Type 0
-Seen w d y x c = Scanned w.width (IsTold w d) y x c
+abbrev pub Met : WaveData → Dir → ℕ → ℕ → Cell → Type 0
+Met w d y x c = Scanned w.width (IsBegun w d) y x c
 
--- the direction is told of no cell of row y from column `low` on and before column `high`
-abbrev pub NoneTold : WaveData → Dir → ℕ → ℕ → ℕ → Type 0
-NoneTold w d y low high = (x : ℕ) → low ≤ x → x < high → begins_with w (record { x = x; y = y }) d ≡ false
+-- the direction is stored of no cell of row y from column `low` on and before column `high`
+abbrev pub NoneBegun : WaveData → Dir → ℕ → ℕ → ℕ → Type 0
+NoneBegun w d y low high = (x : ℕ) → low ≤ x → x < high → begins_with w (record { x = x; y = y }) d ≡ false
 
--- the first column of row y of which it is told
-pub record IsFirstTold (w : WaveData) (d : Dir) (y first : ℕ) : Type 0 where
+-- the first column of row y of which it is stored
+pub record IsFirstBegun (w : WaveData) (d : Dir) (y first : ℕ) : Type 0 where
   pub within : first < w.width
-  pub told : IsTold w d (record { x = first; y = y })
-  pub none_before : NoneTold w d y 0 first
+  pub begun : IsBegun w d (record { x = first; y = y })
+  pub none_before : NoneBegun w d y 0 first
 
 -- and the last one
-pub record IsLastTold (w : WaveData) (d : Dir) (y first last : ℕ) : Type 0 where
+pub record IsLastBegun (w : WaveData) (d : Dir) (y first last : ℕ) : Type 0 where
   pub within : last < w.width
   pub ordered : first ≤ last
-  pub told : IsTold w d (record { x = last; y = y })
-  pub none_after : NoneTold w d y (last + 1) w.width
+  pub begun : IsBegun w d (record { x = last; y = y })
+  pub none_after : NoneBegun w d y (last + 1) w.width

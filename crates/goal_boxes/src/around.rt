@@ -3,9 +3,9 @@
 ghost use Rattle.std.specs.Prelude.{◌≡◌, ◌+◌, ◌<◌, true, MatchOption, OnOk, OnErr, IfOk};
 ghost use Rattle.grid_moves.specs.declared.Cell.{Cell};
 ghost use Rattle.grid_moves.specs.Grid.{GridData, is_free};
-ghost use Rattle.cost_waves.specs.Told.{Tells, IsBlank, begins_with};
+ghost use Rattle.cost_waves.specs.Stored.{Tells, IsBlank, begins_with};
 ghost use Rattle.goal_boxes.specs.Box.{IsAreaOf, AreBoxes, box_in};
-ghost use Rattle.goal_boxes.specs.Wide.{Seen, NoneTold, IsFirstTold, IsLastTold};
+ghost use Rattle.goal_boxes.specs.Wide.{Met, NoneBegun, IsFirstBegun, IsLastBegun};
 
 use crate::area::widened;
 use crate::{Area, NoMemory};
@@ -41,9 +41,9 @@ fn belongs(waves: &CostWaves, c: Cell, d: Dir) -> bool
 
 // The first column of a row that belongs in the box.
 #[inline(always)]
-fn first_told(waves: &CostWaves, d: Dir, y: u16) -> Option<u16>
+fn first_begun(waves: &CostWaves, d: Dir, y: u16) -> Option<u16>
     requires row { y < waves.now.height }
-    ensures { MatchOption result (NoneTold waves.now d y 0 waves.now.width) (IsFirstTold waves.now d y) }
+    ensures { MatchOption result (NoneBegun waves.now d y 0 waves.now.width) (IsFirstBegun waves.now d y) }
 {
     for x in 0..waves.width() {
         if belongs(waves, Cell { x, y }, d) {
@@ -53,12 +53,12 @@ fn first_told(waves: &CostWaves, d: Dir, y: u16) -> Option<u16>
     None
 }
 
-// The last column of the row that does, told the first one.
+// The last column of the row that does, given the first one.
 #[inline(always)]
-fn last_told(waves: &CostWaves, d: Dir, y: u16, first: u16) -> u16
+fn last_begun(waves: &CostWaves, d: Dir, y: u16, first: u16) -> u16
     requires row { y < waves.now.height }
-    requires first { IsFirstTold waves.now d y first }
-    ensures { IsLastTold waves.now d y first result }
+    requires first { IsFirstBegun waves.now d y first }
+    ensures { IsLastBegun waves.now d y first result }
 {
     let mut last = waves.width() - 1;
     while last != first && !belongs(waves, Cell { x: last, y }, d) {
@@ -71,20 +71,20 @@ fn last_told(waves: &CostWaves, d: Dir, y: u16, first: u16) -> u16
 #[inline(always)]
 fn over_row(waves: &CostWaves, d: Dir, y: u16, before: Option<Area>) -> Option<Area>
     requires row { y < waves.now.height }
-    ensures { IsAreaOf (Seen waves.now d y 0) before → IsAreaOf (Seen waves.now d (y + 1) 0) result }
+    ensures { IsAreaOf (Met waves.now d y 0) before → IsAreaOf (Met waves.now d (y + 1) 0) result }
 {
-    match first_told(waves, d, y) {
+    match first_begun(waves, d, y) {
         None => before,
         Some(first) => {
-            let last = last_told(waves, d, y, first);
+            let last = last_begun(waves, d, y, first);
             widened(widened(before, Cell { x: first, y }), Cell { x: last, y })
         }
     }
 }
 
-// The least rectangle that holds each cell of which the direction is told.
+// The least rectangle that holds each cell of which the direction is stored.
 fn box_toward(waves: &CostWaves, d: Dir) -> Option<Area>
-    ensures { IsAreaOf (Seen waves.now d waves.now.height 0) result }
+    ensures { IsAreaOf (Met waves.now d waves.now.height 0) result }
 {
     let mut found = None;
     for y in 0..waves.height() {
@@ -93,8 +93,8 @@ fn box_toward(waves: &CostWaves, d: Dir) -> Option<Area>
     found
 }
 
-/// The boxes of the cell from which the last pass over a map of these sides went, by what that pass told.
-pub fn boxes_told(waves: &CostWaves) -> CellBoxes
+/// The boxes of the cell from which the last pass over a map of these sides went, by what that pass stored.
+pub fn boxes_of_waves(waves: &CostWaves) -> CellBoxes
     ensures { (g : GridData) (u : Cell) → waves.now.width ≡ g.width → waves.now.height ≡ g.height
         → Tells g u waves.now → AreBoxes g u result }
 {
@@ -125,7 +125,7 @@ pub fn boxes_by<T: Terrain>(waves: &mut CostWaves, t: &T, u: Cell) -> Result<Cel
     ensures height { waves.new.height ≡ waves.old.height }
 {
     waves.pass(t, u)?;
-    Ok(boxes_told(waves))
+    Ok(boxes_of_waves(waves))
 }
 
 /// The boxes of a free cell: in each direction the least rectangle that holds every cell to which some least

@@ -34,7 +34,7 @@ use steps::Steps;
 
 // The ends of a search.
 #[derive(Clone, Copy)]
-struct Ends {
+struct SearchEnds {
     from: Cell,
     to: Cell,
 }
@@ -50,7 +50,7 @@ fn state_at<T: Terrain>(t: &T, c: Cell) -> u32
 // Takes the start.
 fn begin<K: Meant, T: Terrain, L: Ledger>(
     t: &T,
-    ends: Ends,
+    ends: SearchEnds,
     space: &mut Space,
     taken: &mut Taken,
     steps: &mut Steps<L>,
@@ -70,11 +70,12 @@ fn begin<K: Meant, T: Terrain, L: Ledger>(
     taken.push(state_at(t, ends.from))
 }
 
-// Makes the offers of the last taken state, told the boxes of its cell, and takes the next, if a state waits.
+// Makes the offers of the last taken state, given the boxes of its cell, and takes the next, if a state
+// waits.
 fn advance<K: Meant, T: Terrain, L: Ledger>(
     t: &T,
     boxes: CellBoxes,
-    ends: Ends,
+    ends: SearchEnds,
     space: &mut Space,
     at: u32,
     taken: &mut Taken,
@@ -110,7 +111,7 @@ fn advance<K: Meant, T: Terrain, L: Ledger>(
 fn found<K: Meant, T: Terrain>(
     alloc: Global,
     t: &T,
-    ends: Ends,
+    ends: SearchEnds,
     space: &Space,
     at: u32,
     taken: Taken,
@@ -142,7 +143,7 @@ fn run<K: Meant, B: BoxSource, T: Terrain, L: Ledger, M: Ledger>(
     alloc: Global,
     t: &T,
     source: &mut B,
-    ends: Ends,
+    ends: SearchEnds,
     space: &mut Space,
     steps: &mut Steps<L>,
     passes: &mut Steps<M>,
@@ -177,7 +178,7 @@ fn run_alone<K: Meant, B: BoxSource, T: Terrain, L: Ledger, M: Ledger>(
     alloc: Global,
     t: &T,
     source: &mut B,
-    ends: Ends,
+    ends: SearchEnds,
     passes: &mut Steps<M>,
     blank: Blank,
 ) -> Result<Found, NoMemory>
@@ -203,7 +204,7 @@ fn run_kept<K: Meant, T: Terrain, M: Ledger>(
     alloc: Global,
     t: &T,
     b: &Boxes,
-    ends: Ends,
+    ends: SearchEnds,
     blank: Blank,
 ) -> Result<Found, NoMemory>
     requires name { blank.name ≡ M.name }
@@ -241,7 +242,7 @@ pub fn boxed_search<T: Terrain>(
     ensures on_grid { IfOk result (IsBoxedRunOn (T.grid t.now) from to) }
     ensures least { IfOk result (λ r. IsLeastOrNone (T.grid t.now) from to r.walk) }
 {
-    let ends = Ends { from, to };
+    let ends = SearchEnds { from, to };
     run_kept::<Brand, T, Brand>(alloc, t, b, ends, Blank::new(1))
 }
 
@@ -264,6 +265,6 @@ pub fn boxed_query<T: Terrain, L: Ledger>(
     ensures passes { IfOk result (λ r. passes.new ≤ passes.old + length r.taken) }
 {
     let mut waves = CostWaves::new(alloc, t.width(), t.height())?;
-    let ends = Ends { from, to };
+    let ends = SearchEnds { from, to };
     run_alone::<Brand, CostWaves, T, Brand, L>(alloc, t, &mut waves, ends, passes, Blank::new(1))
 }

@@ -14,7 +14,7 @@ mod offers;
 mod source;
 
 pub use area::Area;
-pub use around::{CellBoxes, boxes_by, boxes_of, boxes_told};
+pub use around::{CellBoxes, boxes_by, boxes_of, boxes_of_waves};
 pub use best_first::{Found, Taken};
 pub use boxed::{boxed_query, boxed_search};
 pub use boxes::{Boxes, NO_BOXES};

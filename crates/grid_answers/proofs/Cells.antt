@@ -10,7 +10,7 @@ use Rattle.grid_moves.specs.declared.Cell.{Cell}
 use Rattle.grid_moves.specs.Grid.{GridData, is_free}
 use Rattle.grid_moves.specs.Layers.{Layers, is_free_ground, query_grid}
 use Rattle.grid_answers.specs.BoxLines.{IsBoxText, boxes_text}
-use Rattle.grid_answers.specs.OfCell.{told}
+use Rattle.grid_answers.specs.OfCell.{answered}
 use Rattle.grid_answers.specs.RunLines.{IsRunText, runs_text}
 
 -- a text that is this line
@@ -26,19 +26,20 @@ if_same (Ok t) Right c s e r = subst (λ (k : Cell). Right k t.items) e r
 if_same (Err f) Right c s e r = tt
 
 -- the lines of the boxes and of the runs of a free cell
-pub told-boxes : {E : Type 0} (result : Result (Vec ℕ) E) (ls : Layers) (s : Cell) (g : GridData)
+pub printed-boxes : {E : Type 0} (result : Result (Vec ℕ) E) (ls : Layers) (s : Cell) (g : GridData)
     (b : CellBoxes)
     → g ≡ query_grid ls s → is_free_ground ls s ≡ true → AreBoxes g s b
     → IfOk result (λ t. t.items ≡ boxes_text b) → IfOk result (λ t. IsBoxText ls s t.items)
-told-boxes result ls s g b same free are is = if_line result (IsBoxText ls s) (boxes_text b) is
-    (told (boxes_text b) free (b, subst (λ (k : GridData). AreBoxes k s b) same are, refl))
+printed-boxes result ls s g b same free are is = if_line result (IsBoxText ls s) (boxes_text b) is
+    (answered (boxes_text b) free (b, subst (λ (k : GridData). AreBoxes k s b) same are, refl))
 
-pub told-runs : {E : Type 0} (result : Result (Vec ℕ) E) (ls : Layers) (s : Cell) (g : GridData)
+pub printed-runs : {E : Type 0} (result : Result (Vec ℕ) E) (ls : Layers) (s : Cell) (g : GridData)
     (row : List Run)
     (width : ℕ) → g ≡ query_grid ls s → is_free_ground ls s ≡ true → IsRow g s row → width ≡ g.width
     → IfOk result (λ t. t.items ≡ runs_text width row) → IfOk result (λ t. IsRunText ls s t.items)
-told-runs result ls s g row width same free is w e = if_line result (IsRunText ls s) (runs_text width row) e
-    (told (runs_text width row) free (
+printed-runs result ls s g row width same free is w e =
+    if_line result (IsRunText ls s) (runs_text width row) e
+    (answered (runs_text width row) free (
       row,
       subst (λ (k : GridData). IsRow k s row) same is,
       ap (λ (n : ℕ). runs_text n row) (w ∙ ap (λ (k : GridData). k.width) same),

@@ -3,7 +3,7 @@ use Rattle.std.proofs.Common.{◌≡◌, refl, sym, ap, ◌∙◌, subst, List, 
 use Rattle.std.proofs.Common.{drop, arith}
 use Rattle.std.specs.Prelude.{ℤ, flat_map}
 use Rattle.std.proofs.lemmas.List.{drop-drop, take-append-drop}
-use Rattle.io_edge.specs.Told.{Outflow}
+use Rattle.io_edge.specs.Known.{Outflow}
 use Rattle.io_edge.specs.Whole.{AppendsSome}
 use Rattle.table_file.specs.Encoding.{entry_bytes}
 use Rattle.table_file.proofs.Putting.{flat_map-append}

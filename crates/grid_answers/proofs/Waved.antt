@@ -7,14 +7,15 @@ use Rattle.std.proofs.lemmas.Bool.Decides.{nat_tests}
 use Rattle.std.proofs.lemmas.List.{map-append}
 use Rattle.root2_cost.specs.declared.Cost.{Cost}
 use Rattle.cost_waves.specs.Begin.{IsCostTo}
-use Rattle.cost_waves.specs.Told.{Tells, WaveData, cost_at}
+use Rattle.cost_waves.specs.Stored.{Tells, WaveData, cost_at}
 use Rattle.grid_moves.specs.declared.Cell.{Cell}
 use Rattle.grid_moves.specs.Grid.{GridData}
 use Rattle.grid_moves.specs.Layers.{Layers, is_free_ground, query_grid}
 use Rattle.grid_answers.specs.Distances.{AreCostLines, AreCosts, IsCostLine, cost_field, costs_line}
 use Rattle.grid_answers.specs.Distances.{fields_to, more, none}
-use Rattle.grid_answers.specs.OfCell.{told}
-use Rattle.grid_answers.specs.Telling.{AreTold, HaveTold, TellCosts, numbers_below, row_costs, told_line}
+use Rattle.grid_answers.specs.OfCell.{answered}
+use Rattle.grid_answers.specs.Telling.{ArePrinted, HavePrinted, TellCosts, numbers_below, row_costs}
+use Rattle.grid_answers.specs.Telling.{printed_line}
 use Rattle.line_work.specs.Working.{Adds, CanComplete, IsLeft}
 use Rattle.grid_answers.specs.declared.costs.Distances.{Distances}
 use Rattle.grid_answers.specs.declared.costs.CostLines.TheVariants as written
@@ -36,28 +37,29 @@ fields-more costs x start at blank now cost a b put is =
     ∙ ap (λ (o : Option Cost). start ++ (fields_to costs x ++ codes " " ++ cost_field o)) is
     ∙ ap (λ (l : List ℕ). start ++ l) (sym (field-next costs x))
 
--- one row more is told
-pub told-more : {T E : Type 0} (result : Result T E) (job : Distances) (row : ℕ) (before after : List ℕ)
-    → OnOk result (after ≡ before ++ told_line job.waves row)
-    → OnOk result ((first : Distances) (rows : List ℕ) (lines : List (List ℕ)) → HaveTold first job rows lines
-    → Adds (HaveTold first job (rows ++ row ∷ [])) lines before after)
-told-more (Err error) job row before after put = tt
-told-more (Ok done) job row before after put = λ first rows lines h.
-    let f : ℕ → List ℕ = told_line first.waves in
+-- one row more is printed
+pub printed-more : {T E : Type 0} (result : Result T E) (job : Distances) (row : ℕ) (before after : List ℕ)
+    → OnOk result (after ≡ before ++ printed_line job.waves row)
+    → OnOk result ((first : Distances) (rows : List ℕ) (lines : List (List ℕ))
+    → HavePrinted first job rows lines
+    → Adds (HavePrinted first job (rows ++ row ∷ [])) lines before after)
+printed-more (Err error) job row before after put = tt
+printed-more (Ok done) job row before after put = λ first rows lines h.
+    let f : ℕ → List ℕ = printed_line first.waves in
     record {
       more = f row ∷ [];
       stand = record {
         all = ap (λ (l : List (List ℕ)). l ++ f row ∷ []) h.all ∙ sym (map-append f rows (row ∷ []));
         same = h.same;
       };
-      appended = put ∙ ap (λ (w : WaveData). before ++ told_line w row) h.same
+      appended = put ∙ ap (λ (w : WaveData). before ++ printed_line w row) h.same
           ∙ ap (λ (l : List ℕ). before ++ l) (sym (append-nil (f row)));
     }
 
 -- the first lines can be completed
-pub told-complete : CanComplete HaveTold AreTold false
-told-complete first now some others lines h =
-    let f : ℕ → List ℕ = told_line first.waves in
+pub printed-complete : CanComplete HavePrinted ArePrinted false
+printed-complete first now some others lines h =
+    let f : ℕ → List ℕ = printed_line first.waves in
     record {
       more = map f others;
       status = 0;
@@ -74,9 +76,10 @@ told-complete first now some others lines h =
     left-over f others (inr closed) = absurd (let never : false ≡ true = closed in cc)
 
 -- and all are there at the end
-pub told-all : (job : Distances) (before : List ℕ) (first : Distances) (rows : List ℕ) (lines : List (List ℕ))
-    → HaveTold first job rows lines → Adds (λ all. AreTold first rows all 0) lines before before
-told-all job before first rows lines h = record {
+pub printed-all : (job : Distances) (before : List ℕ) (first : Distances) (rows : List ℕ)
+    (lines : List (List ℕ))
+    → HavePrinted first job rows lines → Adds (λ all. ArePrinted first rows all 0) lines before before
+printed-all job before first rows lines h = record {
   more = [];
   stand = record { all = append-nil lines ∙ h.all; good = refl };
   appended = sym (append-nil before);
@@ -96,7 +99,7 @@ both false b e f = e
 
 module _ (g : GridData) (s : Cell) (w : WaveData) (tells : Tells g s w) (wide : w.width ≡ g.width)
     (high : w.height ≡ g.height) where
-  cost-line : (y : ℕ) → y < g.height → IsCostLine g s y (told_line w y)
+  cost-line : (y : ℕ) → y < g.height → IsCostLine g s y (printed_line w y)
   cost-line y low = record {
     costs = row_costs w y;
     right = λ x near.
@@ -110,11 +113,11 @@ module _ (g : GridData) (s : Cell) (w : WaveData) (tells : Tells g s w) (wide : 
     is = ap (λ (k : ℕ). costs_line k (row_costs w y)) wide;
   }
 
-  pub cost-lines : (n : ℕ) → n ≤ g.height → AreCostLines g s n (map (told_line w) (numbers_below n))
+  pub cost-lines : (n : ℕ) → n ≤ g.height → AreCostLines g s n (map (printed_line w) (numbers_below n))
   cost-lines zero low = none
   cost-lines (suc n) low = subst (λ (l : List (List ℕ)). AreCostLines g s (suc n) l)
-      (sym (map-append (told_line w) (numbers_below n) (n ∷ [])))
-      (more n (map (told_line w) (numbers_below n)) (told_line w n) (cost-lines n (omega arith))
+      (sym (map-append (printed_line w) (numbers_below n) (n ∷ [])))
+      (more n (map (printed_line w) (numbers_below n)) (printed_line w n) (cost-lines n (omega arith))
       (cost-line n (omega arith)))
 
 -- what one pass found is printed
@@ -124,9 +127,9 @@ pub cost-rows : (ls : Layers) (s : Cell) (job : Distances) (rows : Vec ℕ) (g :
     → TellCosts ls s (written.Rows job rows)
 cost-rows ls s job rows g h is free tells wide high below is_h = λ lines status t. (
   t.good,
-  told lines free (subst (λ (k : GridData). AreCostLines k s k.height lines) is
+  answered lines free (subst (λ (k : GridData). AreCostLines k s k.height lines) is
       (subst (λ (l : List (List ℕ)). AreCostLines g s g.height l)
-      (sym (t.all ∙ ap (λ (l : List ℕ). map (told_line job.waves) l)
+      (sym (t.all ∙ ap (λ (l : List ℕ). map (printed_line job.waves) l)
       (below ∙ ap numbers_below is_h)))
       (cost-lines g s job.waves tells wide high g.height (omega arith)))),
 )

@@ -9,7 +9,7 @@ use Rattle.grid_moves.specs.declared.Dir.TheVariants.{SE, NW}
 use Rattle.grid_moves.specs.Layers.{Layers}
 use Rattle.grid_moves.specs.Move.{all_dirs}
 use Rattle.cell_lines.specs.Cells.{dir_text, texts_of}
-use Rattle.grid_answers.specs.OfCell.{IsToldOf}
+use Rattle.grid_answers.specs.OfCell.{IsAnsweredOf}
 
 -- a box by its least column and row and its greatest column and row, or that there is none
 abbrev pub area_text : Option Area → List ℕ
@@ -27,8 +27,8 @@ boxes_text b = texts_of (box_line b) all_dirs
 
 -- what is printed of the boxes of s: those on the grid of the cell, or why there are none
 abbrev pub IsBoxText : Layers → Cell → List ℕ → Type 0
-IsBoxText ls s text = IsToldOf ls s (λ line. line)
-    (λ g told. (b : CellBoxes) × AreBoxes g s b × (told ≡ boxes_text b)) text
+IsBoxText ls s text = IsAnsweredOf ls s (λ line. line)
+    (λ g printed. (b : CellBoxes) × AreBoxes g s b × (printed ≡ boxes_text b)) text
 
 -- the box to the lower right of the upper left cell of an open map of three columns and three rows
 abbrev corner_boxes : CellBoxes

@@ -6,7 +6,7 @@ use Rattle.cost_waves.specs.Begin.{IsCostTo}
 use Rattle.grid_moves.specs.declared.Cell.{Cell}
 use Rattle.grid_moves.specs.Grid.{GridData}
 use Rattle.grid_moves.specs.Layers.{Layers}
-use Rattle.grid_answers.specs.OfCell.{IsToldOf}
+use Rattle.grid_answers.specs.OfCell.{IsAnsweredOf}
 
 -- `A,B`, or `-` where there is no cost
 abbrev pub cost_field : Option Cost → List ℕ
@@ -37,7 +37,8 @@ pub data AreCostLines (g : GridData) (s : Cell) : ℕ → List (List ℕ) → Ty
 
 -- what is printed of the costs from s: the lines of all rows, on the grid of the cell, or why there are none
 abbrev pub AreCosts : Layers → Cell → List (List ℕ) → Type 0
-AreCosts ls s lines = IsToldOf ls s (λ line. line ∷ []) (λ g told. AreCostLines g s g.height told) lines
+AreCosts ls s lines =
+    IsAnsweredOf ls s (λ line. line ∷ []) (λ g printed. AreCostLines g s g.height printed) lines
 
 -- a row of two cells: its own, and one to which no walk leads
 abbrev two_costs : ℕ → Option Cost

@@ -1,6 +1,6 @@
 -- The table file of a map, as it is written.
 use Rattle.std.specs.Prelude.{◌≡◌, ℕ, ◌≤◌, List, ◌++◌}
-use Rattle.io_edge.specs.Told.{Outflow}
+use Rattle.io_edge.specs.Known.{Outflow}
 use Rattle.plus_tables.specs.Tables.{IsWhole}
 use Rattle.table_file.specs.Written.{file_of}
 use Rattle.line_work.specs.Sending.{IsText, Wrote}

@@ -18,7 +18,7 @@ use std::sync::ledger::Ledger;
 use steps::Steps;
 use text_line::{put, put_number};
 
-/// The least costs from a cell, which are told row by row.
+/// The least costs from a cell, which are printed row by row.
 #[derive(Drop)]
 pub struct Distances {
     pub waves: CostWaves,
@@ -35,7 +35,7 @@ pub enum CostLines {
 
 impl Job for Distances {
     ghost use Rattle.std.specs.Prelude.{⊤, false};
-    ghost use Rattle.grid_answers.specs.Telling.{AreTold, HaveTold};
+    ghost use Rattle.grid_answers.specs.Telling.{ArePrinted, HavePrinted};
 
     type Item = u16;
 
@@ -43,11 +43,11 @@ impl Job for Distances {
 
     ghost has_room = { λ _ _. ⊤ };
 
-    ghost has_worked = { HaveTold };
+    ghost has_worked = { HavePrinted };
 
     ghost closes = { false };
 
-    ghost is_whole = { AreTold };
+    ghost is_whole = { ArePrinted };
 
     ghost has_counted = { λ _ _ _ _ _. ⊤ };
 
@@ -66,7 +66,7 @@ impl Job for Distances {
     }
 }
 
-// The cost that is told of a cell, where it lies inside.
+// The cost that is stored of a cell, where it lies inside.
 fn cost_within(waves: &CostWaves, c: Cell) -> Option<Cost>
     ensures { result ≡ telling.cost_within waves.now c }
 {
@@ -106,7 +106,7 @@ fn put_fields(out: &mut Vec<u8>, waves: &CostWaves, y: u16) -> Result<(), NoMemo
 
 // Appends the line of a row.
 fn put_costs(out: &mut Vec<u8>, waves: &CostWaves, y: u16) -> Result<(), NoMemory>
-    ensures { OnOk result (out.new.items ≡ out.old.items ++ telling.told_line waves.now y) }
+    ensures { OnOk result (out.new.items ≡ out.old.items ++ telling.printed_line waves.now y) }
 {
     put_fields(out, waves, y)?;
     put(out, b"\n")

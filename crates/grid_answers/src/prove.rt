@@ -5,7 +5,7 @@ ghost use Rattle.grid_moves.specs.Layers.{in_one_layer};
 ghost use Rattle.grid_answers.specs.Certificates.{IsProof};
 
 use crate::NoMemory;
-use cell_lines::Ends;
+use cell_lines::AskedEnds;
 use grid_moves::{Cell, Layers, Unsearched};
 use line_work::{Printed, said};
 use potential_make::certificate;
@@ -21,7 +21,7 @@ fn proof_between(alloc: Global, layers: &Layers, from: Cell, to: Cell) -> Result
 }
 
 /// What is printed for a query: the certificate, or the line that says why there is none.
-pub fn proof_of(alloc: Global, layers: &Layers, ends: Ends) -> Result<Printed, NoMemory>
+pub fn proof_of(alloc: Global, layers: &Layers, ends: AskedEnds) -> Result<Printed, NoMemory>
     ensures { IfOk result (λ p. IsProof layers.now (record { x = ends.sx; y = ends.sy })
         (record { x = ends.gx; y = ends.gy }) p.text.items p.status) }
 {

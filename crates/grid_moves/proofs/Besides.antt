@@ -13,7 +13,7 @@ use Rattle.grid_moves.specs.declared.ring.Ring.{Ring}
 use Rattle.grid_moves.specs.Grid.{GridData, is_free}
 use Rattle.grid_moves.specs.Move.{is_legal, are_neighbours, is_open, is_passable, beyond}
 use Rattle.grid_moves.specs.Move.{legal_ahead, column_ahead, row_ahead}
-use Rattle.grid_moves.specs.Ring.{ring_told, is_free_on, leads_on}
+use Rattle.grid_moves.specs.Ring.{ring_by, is_free_on, leads_on}
 use Rattle.grid_moves.specs.Around.{IsAround, end_of, if_open, is_open_to}
 use Rattle.grid_moves.proofs.Ahead.{legal_ahead-is}
 use Rattle.grid_moves.proofs.Legal.{legal_is}
@@ -98,11 +98,11 @@ across g x y z t f a b c d n =
 
 -- the cells around a free cell tell which moves are legal
 pub leads_on-open : (g : GridData) (c : Cell) → is_free g c ≡ true → (d : Dir)
-    → leads_on g.corner (ring_told (λ e. is_open g c e)) d ≡ is_some (legal_ahead g c d)
+    → leads_on g.corner (ring_by (λ e. is_open g c e)) d ≡ is_some (legal_ahead g c d)
 leads_on-open g c f d = sym (by_dir c.x c.y d f)
   where
     by_dir : (x y : ℕ) (d : Dir) → is_free g (cell x y) ≡ true → is_some (legal_ahead g (cell x y) d)
-        ≡ leads_on g.corner (ring_told (λ e. is_open g (cell x y) e)) d
+        ≡ leads_on g.corner (ring_by (λ e. is_open g (cell x y) e)) d
     by_dir x zero N f = refl
     by_dir x (suc t) N f =
         some_if _ _ ∙ along g x (suc t) t f (omega arith) (omega arith) (λ e. omega arith)
@@ -128,15 +128,15 @@ leads_on-open g c f d = sym (by_dir c.x c.y d f)
         (λ e. omega arith)
 
 -- what a ring of tests has in a direction
-pub told_on : (free : Dir → Bool) (d : Dir) → is_free_on (ring_told free) d ≡ free d
-told_on free N = refl
-told_on free NE = refl
-told_on free E = refl
-told_on free SE = refl
-told_on free S = refl
-told_on free SW = refl
-told_on free W = refl
-told_on free NW = refl
+pub free_on_ring_by : (free : Dir → Bool) (d : Dir) → is_free_on (ring_by free) d ≡ free d
+free_on_ring_by free N = refl
+free_on_ring_by free NE = refl
+free_on_ring_by free E = refl
+free_on_ring_by free SE = refl
+free_on_ring_by free S = refl
+free_on_ring_by free SW = refl
+free_on_ring_by free W = refl
+free_on_ring_by free NW = refl
 
 all : (r : Corner) (a b c x y z : Bool) → a ≡ x → b ≡ y → c ≡ z
     → (a && is_passable r b c) ≡ (x && is_passable r y z)
@@ -159,8 +159,8 @@ module _ (g : GridData) (c : Cell) (free : is_free g c ≡ true) (ring : Ring)
   -- the cells around, once read, tell which moves are legal
   pub leads_on-legal : (d : Dir) → leads_on rule ring d ≡ is_some (legal_ahead g c d)
   leads_on-legal d = ap (λ (r : Corner). leads_on r ring d) same
-      ∙ leads_alike g.corner ring (ring_told (λ e. is_open g c e))
-      (λ e. read e ∙ sym (told_on (λ e. is_open g c e) e)) d
+      ∙ leads_alike g.corner ring (ring_by (λ e. is_open g c e))
+      (λ e. read e ∙ sym (free_on_ring_by (λ e. is_open g c e) e)) d
       ∙ leads_on-open g c free d
 
 passes : (r : Corner) (a p b c y z : Bool) → p ≡ is_passable r b c → b ≡ y → c ≡ z
@@ -176,7 +176,7 @@ module _ (g : GridData) (c : Cell) (free : is_free g c ≡ true) (rule : Corner)
     (is_ne : a.ne ≡ (is_open g c NE && ne)) (is_se : a.se ≡ (is_open g c SE && se))
     (is_sw : a.sw ≡ (is_open g c SW && sw)) (is_nw : a.nw ≡ (is_open g c NW && nw)) where
   abbrev ring : Ring
-  ring = ring_told (λ d. is_open g c d)
+  ring = ring_by (λ d. is_open g c d)
 
   opened : (d : Dir) → is_open_to a d ≡ leads_on rule ring d
   opened N = n
@@ -188,7 +188,7 @@ module _ (g : GridData) (c : Cell) (free : is_free g c ≡ true) (rule : Corner)
   opened W = w
   opened NW = is_nw ∙ passes rule _ _ _ _ _ _ by_nw w n
 
-  pub around_told : ((d : Dir) → end_of a c d ≡ beyond d c) → IsAround g c a
-  around_told ends = λ d. ap (λ (v : Cell). if_open (is_open_to a d) v) (ends d)
+  pub around_by_ends : ((d : Dir) → end_of a c d ≡ beyond d c) → IsAround g c a
+  around_by_ends ends = λ d. ap (λ (v : Cell). if_open (is_open_to a d) v) (ends d)
       ∙ legal_beyond g c d (is_open_to a d)
-      (opened d ∙ leads_on-legal g c free ring (λ f. told_on (λ h. is_open g c h) f) rule same d)
+      (opened d ∙ leads_on-legal g c free ring (λ f. free_on_ring_by (λ h. is_open g c h) f) rule same d)

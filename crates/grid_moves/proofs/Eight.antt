@@ -9,7 +9,7 @@ use Rattle.grid_moves.specs.Around.{IsAround, end_of, if_open, is_open_to}
 use Rattle.grid_moves.specs.Grid.{GridData}
 use Rattle.grid_moves.specs.Move.{all_dirs, legal_ahead}
 
--- `over` does it for one direction, told where the move leads if it is open, and `all` for a list of them
+-- `over` does it for one direction, given where the move leads if it is open, and `all` for a list of them
 module _ {F : Type 0} (g : GridData) (c : Cell) (over : Dir → Option Cell → F → F) (all : List Dir → F → F)
     (none : (f : F) → all [] f ≡ f)
     (one : (d : Dir) (dirs : List Dir) (f : F) → all (d ∷ dirs) f ≡ all dirs (over d (legal_ahead g c d) f))

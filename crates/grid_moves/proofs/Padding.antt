@@ -16,7 +16,8 @@ use Rattle.grid_moves.specs.declared.Dir.TheVariants.{N, NE, E, SE, S, SW, W, NW
 use Rattle.grid_moves.specs.declared.Ground.{Ground}
 use Rattle.grid_moves.specs.Grid.{GridData, AreCells, is_free, is_inside, is_ground, ground_of, layer_of, grid_with}
 use Rattle.grid_moves.specs.Move.{ahead, is_open, is_same}
-use Rattle.grid_moves.specs.Padded.{place_of, places, told, column_of, row_of, listed, inner, grid_in, AreTold}
+use Rattle.grid_moves.specs.Padded.{place_of, places, stored, column_of, row_of, listed, inner, grid_in}
+use Rattle.grid_moves.specs.Padded.{AreStored}
 use Rattle.grid_moves.specs.Padded.{IsPadded}
 use Rattle.grid_moves.proofs.Edited.{is_free-with_same, is_free-with_other, is_grid-with}
 use Rattle.grid_moves.proofs.Legal.{is_same-cell}
@@ -60,7 +61,7 @@ inner_is g cells p = ext_get_or false _ g.free (length-listed _ _ ∙ sym p.grid
         let some : 0 < g.width = p.grid.sides.wide in
         let x : k % g.width < g.width = mod_below k g.width some in
         let y : k / g.width < g.height = div_below k g.width g.height some h in
-        get_or-listed _ _ k false h ∙ p.told (suc (k % g.width)) (suc (k / g.width)) (omega arith)
+        get_or-listed _ _ k false h ∙ p.stored (suc (k % g.width)) (suc (k / g.width)) (omega arith)
         ∙ on_map g (k % g.width) (k / g.width) x y _
         ∙ ap (λ (n : ℕ). get_or g.free n false) (div-add-mod' k g.width)
 
@@ -83,7 +84,7 @@ free_read g cells p c i place is b e =
     (let i = inside_is g c i in omega arith) in
     e ∙ get_or_default cells place b false (let long = p.long in omega arith)
     ∙ ap (λ (n : ℕ). get_or cells n false) is
-    ∙ p.told (suc c.x) (suc c.y) (let i = inside_is g c i in omega arith)
+    ∙ p.stored (suc c.x) (suc c.y) (let i = inside_is g c i in omega arith)
 
 -- and from that of a row's first cell on
 pub row_read : (g : GridData) (cells : List Bool) → IsPadded g cells → (y : ℕ) → y < g.height → (place : ℕ)
@@ -91,43 +92,43 @@ pub row_read : (g : GridData) (cells : List Bool) → IsPadded g cells → (y : 
     → get_or (take wide (drop place cells)) x false ≡ is_free g (record { x = x; y = y })
 row_read g cells p y h place is wide w x l =
     get_or-take wide (drop place cells) x false (omega arith) ∙ get_or-drop place cells x false
-    ∙ ap (λ (n : ℕ). get_or cells n false) (omega arith) ∙ p.told (suc x) (suc y) l
+    ∙ ap (λ (n : ℕ). get_or cells n false) (omega arith) ∙ p.stored (suc x) (suc y) l
 
 -- behind the last column stands the border
-pub told_wide : (g : GridData) (cells : List Bool) → IsPadded g cells → (x y : ℕ) → x ≤ g.width + 1
-    → slice_index_or cells (place_of g.width x y) false ≡ told (is_free g) x y
-told_wide g cells p x y h = by_order (cases_order x (g.width + 1))
+pub stored_wide : (g : GridData) (cells : List Bool) → IsPadded g cells → (x y : ℕ) → x ≤ g.width + 1
+    → slice_index_or cells (place_of g.width x y) false ≡ stored (is_free g) x y
+stored_wide g cells p x y h = by_order (cases_order x (g.width + 1))
   where
-    off_map : (y : ℕ) → false ≡ told (is_free g) (suc g.width) y
+    off_map : (y : ℕ) → false ≡ stored (is_free g) (suc g.width) y
     off_map zero = refl
     off_map (suc y) = grind (arith, nat_tests)
 
     by_order : (x ≡ g.width + 1) ⊎ ((x < g.width + 1) ⊎ (g.width + 1 < x))
-        → slice_index_or cells (place_of g.width x y) false ≡ told (is_free g) x y
+        → slice_index_or cells (place_of g.width x y) false ≡ stored (is_free g) x y
     by_order (inl e) =
         let last : x ≡ suc g.width = omega arith in
-        ap (λ (n : ℕ). slice_index_or cells n false) (omega arith) ∙ p.told 0 (suc y) (omega arith)
-        ∙ off_map y ∙ ap (λ (n : ℕ). told (is_free g) n y) (sym last)
-    by_order (inr (inl l)) = p.told x y (omega arith)
+        ap (λ (n : ℕ). slice_index_or cells n false) (omega arith) ∙ p.stored 0 (suc y) (omega arith)
+        ∙ off_map y ∙ ap (λ (n : ℕ). stored (is_free g) n y) (sym last)
+    by_order (inr (inl l)) = p.stored x y (omega arith)
     by_order (inr (inr l)) = absurd (omega arith)
 
 -- what stands ahead of a cell
-pub told_ahead : (g : GridData) (x y : ℕ) (d : Dir)
-    → told (is_free g) (column_of d x) (row_of d y) ≡ is_open g (record { x = x; y = y }) d
-told_ahead g x zero N = refl
-told_ahead g x (suc y) N = refl
-told_ahead g x zero NE = refl
-told_ahead g x (suc y) NE = refl
-told_ahead g x y E = refl
-told_ahead g x y SE = refl
-told_ahead g x y S = refl
-told_ahead g zero y SW = refl
-told_ahead g (suc x) y SW = refl
-told_ahead g zero y W = refl
-told_ahead g (suc x) y W = refl
-told_ahead g zero y NW = refl
-told_ahead g (suc x) zero NW = refl
-told_ahead g (suc x) (suc y) NW = refl
+pub stored_ahead : (g : GridData) (x y : ℕ) (d : Dir)
+    → stored (is_free g) (column_of d x) (row_of d y) ≡ is_open g (record { x = x; y = y }) d
+stored_ahead g x zero N = refl
+stored_ahead g x (suc y) N = refl
+stored_ahead g x zero NE = refl
+stored_ahead g x (suc y) NE = refl
+stored_ahead g x y E = refl
+stored_ahead g x y SE = refl
+stored_ahead g x y S = refl
+stored_ahead g zero y SW = refl
+stored_ahead g (suc x) y SW = refl
+stored_ahead g zero y W = refl
+stored_ahead g (suc x) y W = refl
+stored_ahead g zero y NW = refl
+stored_ahead g (suc x) zero NW = refl
+stored_ahead g (suc x) (suc y) NW = refl
 
 -- where it stands on the map
 abbrev found : ℕ → Option Cell → ℕ
@@ -176,8 +177,8 @@ open_read g cells p c d i place is b e =
     let l = ahead_inside g c d i in
     e ∙ get_or_default cells place b false (let long = p.long in omega arith)
     ∙ ap (λ (n : ℕ). get_or cells n false) is
-    ∙ told_wide g cells p (column_of d c.x) (row_of d c.y) (column_near d c.x g.width (inside_is g c i).0)
-    ∙ told_ahead g c.x c.y d
+    ∙ stored_wide g cells p (column_of d c.x) (row_of d c.y) (column_near d c.x g.width (inside_is g c i).0)
+    ∙ stored_ahead g c.x c.y d
 
 -- an edited grid
 module _ (g : GridData) (cells : List Bool) (p : IsPadded g cells) (c : Cell) (free : Bool)
@@ -186,16 +187,16 @@ module _ (g : GridData) (cells : List Bool) (p : IsPadded g cells) (c : Cell) (f
   edited = set cells (place_of g.width (suc c.x) (suc c.y)) free
 
   other : (x y : ℕ) → x ≤ g.width → ((x ≡ suc c.x) → (y ≡ suc c.y) → ⊥)
-      → get_or edited (place_of g.width x y) false ≡ told (is_free g) x y
+      → get_or edited (place_of g.width x y) false ≡ stored (is_free g) x y
   other x y h n = get_or-set_other cells _ (place_of g.width x y) free false
       (λ e. let s = same_from_place y x (suc c.y) (suc c.x) (g.width + 1) (omega arith)
       (let i = inside_is g c inside in omega arith) e in n s.1 s.0)
-      ∙ p.told x y h
+      ∙ p.stored x y h
 
-  told_with : AreTold g.width (is_free (grid_with g c free)) edited
-  told_with zero y h = other zero y h (λ e f. absurd (omega arith))
-  told_with (suc x) zero h = other (suc x) zero h (λ e f. absurd (omega arith))
-  told_with (suc x) (suc y) h = by_test (is_same (record { x = x; y = y }) c) refl
+  stored_with : AreStored g.width (is_free (grid_with g c free)) edited
+  stored_with zero y h = other zero y h (λ e f. absurd (omega arith))
+  stored_with (suc x) zero h = other (suc x) zero h (λ e f. absurd (omega arith))
+  stored_with (suc x) (suc y) h = by_test (is_same (record { x = x; y = y }) c) refl
     where
       by_test : (b : Bool) → is_same (record { x = x; y = y }) c ≡ b
           → get_or edited (place_of g.width (suc x) (suc y)) false
@@ -217,7 +218,7 @@ module _ (g : GridData) (cells : List Bool) (p : IsPadded g cells) (c : Cell) (f
       subst (λ (n : ℕ). IsPadded (grid_with g c free) (set cells n free)) (sym is) (record {
         grid = is_grid-with g c free p.grid;
         long = length-set cells _ free ∙ p.long;
-        told = told_with;
+        stored = stored_with;
       })
 
 -- ---- a grid that is made row by row
@@ -225,7 +226,7 @@ module _ (g : GridData) (cells : List Bool) (p : IsPadded g cells) (c : Cell) (f
 -- the rows down to this one are filled
 abbrev pub AreFilled : ℕ → (Cell → Bool) → ℕ → List Bool → Type 0
 AreFilled width free row cells = (x y : ℕ) → x ≤ width
-    → slice_index_or cells (place_of width x y) false ≡ (nat_le y row && told free x y)
+    → slice_index_or cells (place_of width x y) false ≡ (nat_le y row && stored free x y)
 
 pub none_filled : (w n : ℕ) (free : Cell → Bool) (cells : List Bool) → cells ≡ replicate n false
     → AreFilled w free 0 cells
@@ -239,7 +240,7 @@ none_filled w n free cells e x y h =
         by_order (inl l) = get_or-replicate n i false false l
         by_order (inr l) = get_or_past (replicate n false) i false (let k = length-replicate n false in omega arith)
 
-    shut : (x y : ℕ) → false ≡ (nat_le y 0 && told free x y)
+    shut : (x y : ℕ) → false ≡ (nat_le y 0 && stored free x y)
     shut zero zero = refl
     shut (suc x) zero = refl
     shut zero (suc y) = grind (arith, nat_tests)
@@ -269,14 +270,14 @@ module _ (w h : ℕ) (free : Cell → Bool) (y k : ℕ) (cells row : List Bool) 
 
   -- what was there stays
   above : (x r : ℕ) → x ≤ w → place_of w x r < place_of w 1 (suc y)
-      → (nat_le r y && told free x r) ≡ (nat_le r (y + 1) && told free x r)
-      → get_or filled (place_of w x r) false ≡ (nat_le r (y + 1) && told free x r)
+      → (nat_le r y && stored free x r) ≡ (nat_le r (y + 1) && stored free x r)
+      → get_or filled (place_of w x r) false ≡ (nat_le r (y + 1) && stored free x r)
   above x r l order same =
       read_before (place_of w 1 (suc y)) k cells row false inside (place_of w x r) order ∙ old x r l ∙ same
 
   behind : (x r : ℕ) → x ≤ w → place_of w 1 (suc y) + w ≤ place_of w x r
-      → (nat_le r y && told free x r) ≡ (nat_le r (y + 1) && told free x r)
-      → get_or filled (place_of w x r) false ≡ (nat_le r (y + 1) && told free x r)
+      → (nat_le r y && stored free x r) ≡ (nat_le r (y + 1) && stored free x r)
+      → get_or filled (place_of w x r) false ≡ (nat_le r (y + 1) && stored free x r)
   behind x r l order same =
       read_behind (place_of w 1 (suc y)) k cells row false inside (place_of w x r) (omega arith) (omega arith)
       ∙ old x r l ∙ same
@@ -287,16 +288,16 @@ module _ (w h : ℕ) (free : Cell → Bool) (y k : ℕ) (cells row : List Bool) 
       ∙ read_within (place_of w 1 (suc y)) k cells row false inside x (omega arith) ∙ new x l
       ∙ grind (arith, nat_tests)
 
-  all_told : AreFilled w free (y + 1) filled
-  all_told x r l = by_order (cases_order r (suc y))
+  all_stored : AreFilled w free (y + 1) filled
+  all_stored x r l = by_order (cases_order r (suc y))
     where
       by_column : (x r : ℕ) → x ≤ w → r ≡ suc y
-          → get_or filled (place_of w x r) false ≡ (nat_le r (y + 1) && told free x r)
+          → get_or filled (place_of w x r) false ≡ (nat_le r (y + 1) && stored free x r)
       by_column zero r l e = above zero r l (rw e (omega arith)) (grind (arith, nat_tests))
       by_column (suc x) r l e = rw e (at x l)
 
       by_order : (r ≡ suc y) ⊎ ((r < suc y) ⊎ (suc y < r))
-          → get_or filled (place_of w x r) false ≡ (nat_le r (y + 1) && told free x r)
+          → get_or filled (place_of w x r) false ≡ (nat_le r (y + 1) && stored free x r)
       by_order (inl e) = by_column x r l e
       by_order (inr (inl o)) = above x r l (let f = place_below w x r (suc y) l o in omega arith)
           (grind (arith, nat_tests))
@@ -307,14 +308,14 @@ module _ (w h : ℕ) (free : Cell → Bool) (y k : ℕ) (cells row : List Bool) 
   pub one_filled : (place : ℕ) → place ≡ place_of w 1 (suc y)
       → AreFilled w free (y + 1) (put_mid place k cells row)
   one_filled place is =
-      subst (λ (n : ℕ). AreFilled w free (y + 1) (put_mid n k cells row)) (sym is) all_told
+      subst (λ (n : ℕ). AreFilled w free (y + 1) (put_mid n k cells row)) (sym is) all_stored
 
 -- all rows
 pub all_filled : (g : GridData) (cells : List Bool) → AreFilled g.width (is_free g) g.height cells
-    → AreTold g.width (is_free g) cells
+    → AreStored g.width (is_free g) cells
 all_filled g cells all x y l = all x y l ∙ whole x y
   where
-    whole : (x y : ℕ) → (nat_le y g.height && told (is_free g) x y) ≡ told (is_free g) x y
+    whole : (x y : ℕ) → (nat_le y g.height && stored (is_free g) x y) ≡ stored (is_free g) x y
     whole zero y = grind arith
     whole (suc x) zero = grind arith
     whole (suc x) (suc y) = grind (arith, nat_tests)
@@ -343,7 +344,7 @@ row_made kind corner w h bytes are y below from n start wide row long flags x l 
 
 pub padded_layer : (kind : Ground) (corner : Corner) (w h : ℕ) (bytes : List ℕ) (cells : List Bool)
     → AreCells w h bytes → length cells ≡ places w h
-    → AreTold w (is_free (layer_of kind corner w h bytes)) cells
+    → AreStored w (is_free (layer_of kind corner w h bytes)) cells
     → IsPadded (layer_of kind corner w h bytes) cells
-padded_layer kind corner w h bytes cells are long told =
-    record { grid = is_grid-layer kind corner w h bytes are; long = long; told = told }
+padded_layer kind corner w h bytes cells are long stored =
+    record { grid = is_grid-layer kind corner w h bytes are; long = long; stored = stored }

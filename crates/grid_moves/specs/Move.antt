@@ -1,6 +1,6 @@
 -- Legal moves: eight directions, and a corner rule.
 -- No corner is cut: Harabor and Grastien, SoCS 2012. One blocked cell may be passed: their AAAI 2011. Two may
--- be: Godot's grid unless told otherwise.
+-- be: Godot's grid unless set otherwise.
 use Rattle.std.specs.Prelude.{◌≡◌, ℕ, zero, suc, ◌+◌, Option, Some, None, Bool, true, false, nat_le, nat_eq}
 use Rattle.std.specs.Prelude.{not, ◌&&◌, ◌||◌, refl, List, [], ◌∷◌, if◌then◌else◌, option_and_then, unwrap_or}
 use Rattle.std.specs.Prelude.{codes}
@@ -29,7 +29,7 @@ are_neighbours u v = not (is_same u v) && are_near u.x v.x && are_near u.y v.y
 abbrev pub corner_of : Cell → Cell → Cell
 corner_of u v = record { x = u.x; y = v.y }
 
--- of the two cells beside a diagonal move, told whether each is free: both have to be free where no corner
+-- of the two cells beside a diagonal move, given whether each is free: both have to be free where no corner
 -- may be cut, at least one where one blocked cell may be passed, and none where two may
 abbrev pub is_passable : Corner → Bool → Bool → Bool
 is_passable Never one other = one && other

@@ -18,10 +18,10 @@ abbrev pub places : ℕ → ℕ → ℕ
 places width height = (height + 2) * (width + 1) + 1
 
 -- what stands at a column and row: none of the border is free
-abbrev pub told : (Cell → Bool) → ℕ → ℕ → Bool
-told free zero y = false
-told free (suc x) zero = false
-told free (suc x) (suc y) = free (record { x = x; y = y })
+abbrev pub stored : (Cell → Bool) → ℕ → ℕ → Bool
+stored free zero y = false
+stored free (suc x) zero = false
+stored free (suc x) (suc y) = free (record { x = x; y = y })
 
 -- the column and the row ahead of a cell
 abbrev pub column_of : Dir → ℕ → ℕ
@@ -59,12 +59,12 @@ grid_in width height corner cells =
     record { width = width; height = height; corner = corner; free = inner width height cells }
 
 -- the places tell what is free
-abbrev pub AreTold : ℕ → (Cell → Bool) → List Bool → Type 0
-AreTold width free cells =
-    (x y : ℕ) → x ≤ width → slice_index_or cells (place_of width x y) false ≡ told free x y
+abbrev pub AreStored : ℕ → (Cell → Bool) → List Bool → Type 0
+AreStored width free cells =
+    (x y : ℕ) → x ≤ width → slice_index_or cells (place_of width x y) false ≡ stored free x y
 
 -- the grid lies so in memory
 pub record IsPadded (g : GridData) (cells : List Bool) : Type 0 where
   pub grid : IsGrid g
   pub long : length cells ≡ places g.width g.height
-  pub told : AreTold g.width (is_free g) cells
+  pub stored : AreStored g.width (is_free g) cells

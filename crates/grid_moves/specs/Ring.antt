@@ -8,8 +8,8 @@ use Rattle.grid_moves.specs.declared.ring.Ring.{Ring}
 use Rattle.grid_moves.specs.Move.{is_passable}
 
 -- what is told of each direction
-abbrev pub ring_told : (Dir → Bool) → Ring
-ring_told free = record {
+abbrev pub ring_by : (Dir → Bool) → Ring
+ring_by free = record {
   n = free N;
   ne = free NE;
   e = free E;

@@ -43,7 +43,7 @@ struct Passages {
 }
 
 impl Passages {
-    // Those under a rule, told which straight cells are free.
+    // Those under a rule, given which straight cells are free.
     #[inline(always)]
     fn by(rule: Corner, n: bool, e: bool, s: bool, w: bool) -> Passages
         ensures ne { result.ne ≡ moves.is_passable rule e n }

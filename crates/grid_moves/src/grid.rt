@@ -41,7 +41,7 @@ fn place_of(width: u16, c: Cell) -> usize
     (c.y as usize + 1) * (width as usize + 1) + c.x as usize + 1
 }
 
-// The place of the cell ahead, which may stand on the border, told that of the cell.
+// The place of the cell ahead, which may stand on the border, given that of the cell.
 #[inline(always)]
 fn place_to(width: u16, place: usize, c: Cell, d: Dir) -> usize
     requires { place ≡ padded.place_of width (suc c.x) (suc c.y) }
@@ -84,7 +84,7 @@ fn fill(kind: Ground, width: u16, height: u16, bytes: &[u8], cells: &mut [bool])
     requires bytes { spec.AreCells width height bytes.now }
     requires blocked { cells.old ≡ replicate (padded.places width height) false }
     ensures long { length cells.new ≡ padded.places width height }
-    ensures told { padded.AreTold width
+    ensures stored { padded.AreStored width
         (spec.is_free (spec.layer_of kind Corner.Never width height bytes.now)) cells.new }
 {
     let wide = width as usize;

@@ -40,16 +40,17 @@ pub trait Terrain {
     fn place(&self, c: Cell) -> usize
         ensures { result ≡ place_of self.now c };
 
-    /// The place of the cell ahead, told that of a cell on the map.
+    /// The place of the cell ahead, given that of a cell on the map.
     fn place_ahead(&self, place: usize, c: Cell, d: Dir) -> usize
         requires inside { grids.is_inside (grid self.now) c ≡ true }
-        requires told { place ≡ place_of self.now c }
+        requires given { place ≡ place_of self.now c }
         ensures { (v : _) → spec.ahead d c ≡ Some v → result ≡ place_of self.now v };
 
-    /// Whether the cell ahead of one on the map is free, told its place; what lies outside the map is blocked.
+    /// Whether the cell ahead of one on the map is free, given its place; what lies outside the map is
+    /// blocked.
     fn open_by(&self, place: usize, c: Cell, d: Dir) -> bool
         requires inside { grids.is_inside (grid self.now) c ≡ true }
-        requires told { place ≡ place_of self.now c }
+        requires given { place ≡ place_of self.now c }
         ensures { result ≡ spec.is_open (grid self.now) c d };
 
     /// The same, where the place is reckoned first.
@@ -84,7 +85,7 @@ pub fn number_of(width: u16, c: Cell) -> u32
     u32::from(c.y) * u32::from(width) + u32::from(c.x)
 }
 
-/// Whether the corner rule lets a diagonal move pass between two cells, told whether each is free. There is
+/// Whether the corner rule lets a diagonal move pass between two cells, given whether each is free. There is
 /// no branch on either.
 #[inline(always)]
 pub fn is_passable(rule: Corner, one: bool, other: bool) -> bool

@@ -1,5 +1,5 @@
 pub mod Causes
-pub mod Told
+pub mod Known
 pub mod Whole
 pub mod Stop
 pub mod Memory

@@ -5,7 +5,7 @@ use Rattle.std.specs.List.{list_any}
 use Rattle.std.specs.Option.{option_map, option_map_or}
 use Rattle.std.specs.Str.{bytes_eq}
 use Rattle.io_edge.specs.Causes.{raised}
-use Rattle.io_edge.specs.Told.{Held, absent, holding}
+use Rattle.io_edge.specs.Known.{Held, absent, holding}
 
 -- how an object answers its calls
 pub record Pace : Type 0 where

@@ -1,6 +1,6 @@
 -- Why a whole file wasn't read.
 use Rattle.std.specs.Prelude.{ℕ, ⊤}
-use Rattle.io_edge.specs.Told.{Held}
+use Rattle.io_edge.specs.Known.{Held}
 use Rattle.io_edge.specs.Whole.{IsLonger}
 use Rattle.io_edge.specs.declared.whole.ReadStop.{ReadStop}
 use Rattle.io_edge.specs.declared.whole.ReadStop.TheVariants.{Fault, TooLong, NoMemory}

@@ -2,17 +2,17 @@
 use Rattle.std.specs.Prelude.{◌≡◌, ℕ, ◌≤◌, ◌<◌, List, length, take, ⊤}
 use Rattle.std.specs.Io.KnownBytes.{Appends}
 use Rattle.std.specs.declared.option.Option.{Option}
-use Rattle.io_edge.specs.Told.{Held, untold, absent, holding}
+use Rattle.io_edge.specs.Known.{Held, unknown, absent, holding}
 
 -- these are all the bytes held, and no more than the limit
 abbrev pub IsWhole : Held → ℕ → List ℕ → Type 0
-IsWhole untold limit bytes = length bytes ≤ limit
+IsWhole unknown limit bytes = length bytes ≤ limit
 IsWhole absent limit bytes = ⊥
 IsWhole (holding held) limit bytes = (bytes ≡ held) × (length bytes ≤ limit)
 
 -- more bytes than the limit are held
 abbrev pub IsLonger : Held → ℕ → Type 0
-IsLonger untold limit = ⊤
+IsLonger unknown limit = ⊤
 IsLonger absent limit = ⊥
 IsLonger (holding held) limit = limit < length held
 

@@ -6,7 +6,7 @@
 ghost use Rattle.std.specs.Prelude.{◌≡◌, ◌^◌, ◌<◌, ◌≤◌, length, IfOk};
 ghost use Rattle.std.specs.Io.KnownBytes.{ReadConsumes, WriteAppends};
 ghost use Rattle.io_edge.specs.Causes.{HasCause, NoneFell};
-ghost use Rattle.io_edge.specs.Told.{Disk, Inflow, Outflow, ReadsAt};
+ghost use Rattle.io_edge.specs.Known.{Disk, Inflow, Outflow, ReadsAt};
 
 use thiserror::Error;
 

@@ -7,7 +7,7 @@ ghost use Rattle.std.specs.Prelude.{◌≡◌, ◌^◌, ◌<◌, ◌≤◌, None
 ghost use Rattle.std.specs.Io.{WritesAtMost};
 ghost use Rattle.std.specs.Io.KnownBytes.{ReadConsumes, WriteAppends};
 ghost use Rattle.io_edge.specs.Causes.{Counts, HasCause, NoneFell};
-ghost use Rattle.io_edge.specs.Told.{ReadsAt, untold};
+ghost use Rattle.io_edge.specs.Known.{ReadsAt, unknown};
 
 use crate::outside::{Failed, Files, Sink, Source};
 use arrayvec::ArrayVec;
@@ -109,13 +109,13 @@ impl<'a, R: rt::Files> RealFiles<'a, R> {
 }
 
 impl<'a, R: rt::Files> Files for RealFiles<'a, R> {
-    ghost disk = { λ faults. record { holds = λ _. untold; faults = λ _. faults } };
+    ghost disk = { λ faults. record { holds = λ _. unknown; faults = λ _. faults } };
 
     fn read_at(&mut self, name: &str, place: u64, buf: &mut [u8]) -> Result<usize, Failed>
         requires some_room { 0 < length buf.old }
         requires near { place ≤ 2 ^ 30 }
         ensures bound { IfOk result (λ n. n ≤ length buf.old) }
-        ensures bytes { ReadsAt untold place result buf.new }
+        ensures bytes { ReadsAt unknown place result buf.new }
         ensures cause { HasCause self.old self.new result }
         ensures later { NoneFell (λ _. self.old) (λ _. self.new) }
         ensures counted { Counts self.old self.new result }

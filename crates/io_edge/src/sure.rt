@@ -4,7 +4,7 @@ ghost use Rattle.std.specs.Prelude.{◌≡◌, ◌+◌, ◌-◌, ◌^◌, ◌<�
 ghost use Rattle.std.specs.Prelude.{None, Some, Ok};
 ghost use Rattle.std.specs.Io.KnownBytes.{ReadConsumes, WriteAppends};
 ghost use Rattle.io_edge.specs.Causes.{HasCause, NoneFell};
-ghost use Rattle.io_edge.specs.Told.{ReadsAt};
+ghost use Rattle.io_edge.specs.Known.{ReadsAt};
 ghost use Rattle.io_edge.specs.Memory.{held_surely};
 ghost use Rattle.io_edge.specs.Named.{named_bytes};
 

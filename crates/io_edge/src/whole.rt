@@ -4,7 +4,7 @@ ghost use Rattle.std.specs.Prelude.{◌≡◌, ℕ, ◌+◌, ◌-◌, ◌^◌, �
 ghost use Rattle.std.specs.Prelude.{IfOk, OnOk, IfErr, OnErr};
 ghost use Rattle.std.specs.Io.KnownBytes.{Appends};
 ghost use Rattle.io_edge.specs.Causes.{Rose, NoneFell};
-ghost use Rattle.io_edge.specs.Told.{ReadsAt};
+ghost use Rattle.io_edge.specs.Known.{ReadsAt};
 ghost use Rattle.io_edge.specs.Whole.{IsWhole, IsLonger, AppendsSome};
 ghost use Rattle.io_edge.specs.Stop.{IsOtherStop};
 

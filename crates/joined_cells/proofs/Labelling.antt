@@ -26,8 +26,8 @@ blank_settled g labels whole blank = record {
 
 module _ (g : GridData) (labels : List ℕ) (settled : IsSettled g labels)
     (all : AreLabelled g g.height 0 labels) where
-  abbrev told : Labels
-  told = record { width = g.width; height = g.height; labels = labels }
+  abbrev own_labels : Labels
+  own_labels = record { width = g.width; height = g.height; labels = labels }
 
   labelled : (c : Cell) → is_free g c ≡ true → label_at g labels c ≢ 0
   labelled c f = all.above c f (free_inside g c f).1
@@ -45,8 +45,8 @@ module _ (g : GridData) (labels : List ℕ) (settled : IsSettled g labels)
       ] in
       along v cells parts.1 ∙ here
 
-  inside_told : (c : Cell) → is_inside g c ≡ true → label_of told c ≡ label_at g labels c
-  inside_told c i = rw i refl
+  label_inside : (c : Cell) → is_inside g c ≡ true → label_of own_labels c ≡ label_at g labels c
+  label_inside c i = rw i refl
 
   joined_free : (s t : Cell) → IsJoined g s t → is_free g s ≡ true
   joined_free s t j = walk_free g s j.cells j.walk.legal
@@ -54,14 +54,14 @@ module _ (g : GridData) (labels : List ℕ) (settled : IsSettled g labels)
   inside_free : (c : Cell) → is_free g c ≡ true → is_inside g c ≡ true
   inside_free c f = (and_both (is_inside g c) (get_or g.free (cell_number g.width c) false) f).0
 
-  one_label : (s t : Cell) → IsJoined g s t → are_joined told s t ≡ true
+  one_label : (s t : Cell) → IsJoined g s t → are_joined own_labels s t ≡ true
   one_label s t j =
       let f = joined_free s t j in
       let h = joined_free t s (joined_back g s t j) in
       let same : label_at g labels t ≡ label_at g labels s =
       subst (λ (c : Cell). label_at g labels c ≡ label_at g labels s) j.walk.ends
       (along s j.cells j.walk.legal) in
-      rw (inside_told s (inside_free s f), inside_told t (inside_free t h))
+      rw (label_inside s (inside_free s f), label_inside t (inside_free t h))
       (tests (label_at g labels s) (label_at g labels t) (labelled s f) same)
     where
       tests : (m n : ℕ) → m ≢ 0 → n ≡ m → (not (nat_eq m 0) && nat_eq m n) ≡ true
@@ -74,7 +74,7 @@ module _ (g : GridData) (labels : List ℕ) (settled : IsSettled g labels)
     some : label_at g labels s ≢ 0
     same : label_at g labels s ≡ label_at g labels t
 
-  have_one : (s t : Cell) → are_joined told s t ≡ true → HaveOne s t
+  have_one : (s t : Cell) → are_joined own_labels s t ≡ true → HaveOne s t
   have_one s t e = by_tests (is_inside g s) (is_inside g t) refl refl e
     where
       by_tests : (a b : Bool) → is_inside g s ≡ a → is_inside g t ≡ b
@@ -93,7 +93,7 @@ module _ (g : GridData) (labels : List ℕ) (settled : IsSettled g labels)
           both m h = grind (arith, nat_tests)
       by_tests false b p q h = absurd (let x : false ≡ true = h in cc)
 
-  are_one : (s t : Cell) → are_joined told s t ≡ true → IsJoined g s t
+  are_one : (s t : Cell) → are_joined own_labels s t ≡ true → IsJoined g s t
   are_one s t e =
       let h = have_one s t e in
       let m = settled.named s h.first h.some in

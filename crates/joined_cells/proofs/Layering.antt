@@ -35,8 +35,8 @@ module _ (ls : Layers) (are : AreLayers ls) (p : BothLabels) (land : TellsJoined
   on_water s t j = subst (λ (b : Bool). IsJoined (if b then ls.water else ls.land) s t)
       (sym (joined_free ls.water s t j)) j
 
-  told : (s t : Cell) → are_joined_in p s t ≡ true → HasWalk ls s t
-  told s t e = by_tests (are_joined p.land s t) (are_joined p.water s t) refl refl e
+  joined_walk : (s t : Cell) → are_joined_in p s t ≡ true → HasWalk ls s t
+  joined_walk s t e = by_tests (are_joined p.land s t) (are_joined p.water s t) refl refl e
     where
       by_tests : (a b : Bool) → are_joined p.land s t ≡ a → are_joined p.water s t ≡ b → (a || b) ≡ true
           → HasWalk ls s t
@@ -44,8 +44,8 @@ module _ (ls : Layers) (are : AreLayers ls) (p : BothLabels) (land : TellsJoined
       by_tests false true q r h = on_water s t ((water.joined s t).0 r)
       by_tests false false q r h = absurd (let x : false ≡ true = h in cc)
 
-  told_of : (s t : Cell) → HasWalk ls s t → are_joined_in p s t ≡ true
-  told_of s t = by_test (is_free ls.water s)
+  walk_joined : (s t : Cell) → HasWalk ls s t → are_joined_in p s t ≡ true
+  walk_joined s t = by_test (is_free ls.water s)
     where
       by_test : (b : Bool) → IsJoined (if b then ls.water else ls.land) s t → are_joined_in p s t ≡ true
       by_test true j = let w : are_joined p.water s t ≡ true = (water.joined s t).1 j in either
@@ -57,4 +57,4 @@ module _ (ls : Layers) (are : AreLayers ls) (p : BothLabels) (land : TellsJoined
       by_test false j = let l : are_joined p.land s t ≡ true = (land.joined s t).1 j in rw l refl
 
   pub tells_both : TellsBoth ls p
-  tells_both = record { joined = λ s t. (told s t, told_of s t) }
+  tells_both = record { joined = λ s t. (joined_walk s t, walk_joined s t) }

@@ -89,15 +89,15 @@ mod tests {
         alloc: Global,
         handed: &[&[u8]],
         are_all: bool,
-        told: &[&[u8]],
+        given: &[&[u8]],
     ) -> Result<(), Fail> {
         let (is_text, words) = match words_of(&Handed { words: handed }, alloc)? {
             Words::Text(words) => (true, words),
             Words::NoText(words) => (false, words),
         };
         assert_eq!(rt; is_text, are_all);
-        assert_eq!(rt; words.len(), told.len());
-        for (word, bytes) in words.iter().zip(told) {
+        assert_eq!(rt; words.len(), given.len());
+        for (word, bytes) in words.iter().zip(given) {
             assert_eq!(rt; word.as_bytes(), *bytes);
         }
         Ok(())

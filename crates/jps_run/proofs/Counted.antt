@@ -70,7 +70,7 @@ pub small-more : (taken more rows : ℕ) → taken ≤ rows * 2 ^ 64 → more < 
     → taken + more ≤ (rows + 1) * 2 ^ 64
 small-more taken more rows small few = omega arith
 
--- rows of told walks
+-- rows of claimed walks
 abbrev pub counts_with : Counts → Ruling → Counts
 counts_with c r = record {
   rows = c.rows + 1;

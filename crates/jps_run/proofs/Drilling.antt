@@ -10,9 +10,9 @@ use Rattle.edit_replay.specs.Edited.{Edit, edit_at}
 use Rattle.edit_replay.specs.Session.{SessionData}
 use Rattle.map_maker.specs.Drill.{commands_of, drill_commands, words_in}
 use Rattle.map_maker.specs.Words.{words_of}
-use Rattle.script_text.specs.declared.command.Command.{Command}
+use Rattle.script_text.specs.declared.command.ScriptCommand.{ScriptCommand}
 use Rattle.grid_moves.specs.declared.Ground.TheVariants.{Blocked, Land, Water}
-use Rattle.script_text.specs.declared.command.Command.TheVariants.{Block, Free, Flood, Query}
+use Rattle.script_text.specs.declared.command.ScriptCommand.TheVariants.{Block, Free, Flood, Query}
 use Rattle.jps_run.specs.Answering.{GoesOn}
 use Rattle.jps_run.specs.Answers.{edits_with}
 use Rattle.jps_run.specs.Drill.{FindsAfter, IsFinding, drill_line, finding_of, finding_of_edit}
@@ -72,7 +72,8 @@ one-fits job room =
     let few : length h.found + (room.0 + 1) ≤ 2 ^ 32 = h.few in
     subst HasRoom (sym h.summed) (has_room h.found (omega arith) h.short)
 
-module _ (job now : Summary) (command : Command) (found : Finding) (is : IsFinding job.session command found)
+module _ (job now : Summary) (command : ScriptCommand) (found : Finding)
+    (is : IsFinding job.session command found)
     (on : GoesOn job.session command now.session)
     (counts : (all : List Finding) → job.sums ≡ sums_of all → now.sums ≡ sums_of (all ++ found ∷ [])) where
   -- one finding more leaves room for one less
@@ -88,7 +89,8 @@ module _ (job now : Summary) (command : Command) (found : Finding) (is : IsFindi
       }
 
   -- one command more was worked
-  pub drilled-more : (lines : List ℕ) (first : Summary) (commands : List Command) (so_far : List (List ℕ))
+  pub drilled-more : (lines : List ℕ) (first : Summary) (commands : List ScriptCommand)
+      (so_far : List (List ℕ))
       → HasDrilled first job commands so_far
       → Adds (HasDrilled first now (commands ++ command ∷ [])) so_far lines lines
   drilled-more lines first commands so_far h = record {
@@ -106,7 +108,7 @@ module _ (job now : Summary) (command : Command) (found : Finding) (is : IsFindi
 
   -- and the counter rose for it
   pub taken-more : (old new : ℕ) → RoseForCommand job.session now.session command old new → (first : Summary)
-      (commands : List Command) (start : ℕ) → HaveCounted first job commands start old
+      (commands : List ScriptCommand) (start : ℕ) → HaveCounted first job commands start old
       → HaveCounted first now (commands ++ command ∷ []) start new
   taken-more old new more first commands start h = record {
     rose = rose-more first.session job.session now.session commands command start old new h.session on
@@ -134,7 +136,7 @@ all-fit job count e few =
 
 -- the sums close the output
 pub drilled-all : (job : Summary) (before after : List ℕ) → after ≡ before ++ sums_text job.sums
-    → (first : Summary) (commands : List Command) (lines : List (List ℕ))
+    → (first : Summary) (commands : List ScriptCommand) (lines : List (List ℕ))
     → HasDrilled first job commands lines
     → Adds (λ all. IsDrilled first commands all 0) lines before after
 drilled-all job before after w first commands lines h = record {
@@ -150,7 +152,7 @@ drilled-all job before after w first commands lines h = record {
 }
 
 -- every command comes to something
-pub finding_exists : (d : SessionData) (edits : List Edit) (command : Command)
+pub finding_exists : (d : SessionData) (edits : List Edit) (command : ScriptCommand)
     → (found : Finding) × FindsAfter d edits command found
 finding_exists d edits (Block x y) =
     (finding_of_edit (reply_to_edit (session_after d edits) (edit_at x y Blocked)), refl)
@@ -191,7 +193,7 @@ few_commands : (seed : ℕ) → length (drill_commands seed) ≤ 2 ^ 32
 unfolding drill_commands
 few_commands seed = let e = as_many 1 150 (words_of (bit_xor seed 1) 550) in omega (arith, e)
 
-pub few-commands : (seed : ℕ) (commands : List Command) → commands ≡ drill_commands seed
+pub few-commands : (seed : ℕ) (commands : List ScriptCommand) → commands ≡ drill_commands seed
     → length commands ≤ 2 ^ 32
 few-commands seed commands e =
-    subst (λ (some : List Command). length some ≤ 2 ^ 32) (sym e) (few_commands seed)
+    subst (λ (some : List ScriptCommand). length some ≤ 2 ^ 32) (sym e) (few_commands seed)

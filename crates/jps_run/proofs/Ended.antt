@@ -2,7 +2,7 @@
 use Rattle.std.proofs.Common.{◌≡◌, true, refl, sym, subst, List, [], ℕ, ◌≤◌, ◌⊎◌, inl, inr, arith}
 use Rattle.std.specs.Prelude.{Option, Some, None}
 use Rattle.io_edge.specs.Causes.{Rose}
-use Rattle.io_edge.specs.Told.{Disk, Held, Inflow, Outflow}
+use Rattle.io_edge.specs.Known.{Disk, Held, Inflow, Outflow}
 use Rattle.word_list.specs.Calls.{is_call}
 use Rattle.word_list.specs.Request.{Call}
 use Rattle.word_list.specs.Rule.{IsBadWord}
@@ -16,7 +16,7 @@ use Rattle.jps_run.specs.Calls.{MayHear, files_of, reads_input}
 use Rattle.jps_run.specs.Outcome.{Spell, IsOutput, answered, bad_line, bad_word, bad_text, done}
 use Rattle.line_work.specs.Sending.{IsAll, IsPart, AreLines, Wrote}
 use Rattle.line_work.proofs.Pieces.{nothing}
-use Rattle.jps_run.proofs.Opening.{retold}
+use Rattle.jps_run.proofs.Opening.{as_known}
 
 module _ (words : List (List ℕ)) (holds : List ℕ → Held) (input : Option (List ℕ))
     (out out_now err err_now : Outflow)
@@ -25,38 +25,38 @@ module _ (words : List (List ℕ)) (holds : List ℕ → Held) (input : Option (
     word-comes : (number status : ℕ) → IsBadWord is_call words number → (status ≡ 2) ⊎ (status ≡ 6)
         → (status ≡ 2 → Gets err err_now (word_line number)) → status ≤ 3
         → Comes words holds input out out err err_now status
-    word-comes number status bad (inl two) told few = record {
+    word-comes number status bad (inl two) printed few = record {
       outcome = record { status = 2; out = []; line = word_line number };
       is = bad_word number bad;
       same_status = sym two;
       wrote = nothing out.written;
-      told = told two;
+      printed = printed two;
     }
-    word-comes number status bad (inr six) told few = absurd (omega arith)
+    word-comes number status bad (inr six) printed few = absurd (omega arith)
 
     heard-by : (call : Call) {refusal : Option (List ℕ)}
         → (h : WroteHeard call holds out out_now input refusal)
         → AreHeard call holds input h.known.lines refusal
-    heard-by call h = retold h h.known.stand
+    heard-by call h = as_known h h.known.stand
 
     -- the call was done
     call-comes : (call : Call) (status : ℕ) → Spell words call
         → IsAll (IsOutput call holds) out out_now status
         ⊎ ((status ≡ 0) × WroteHeard call holds out out_now input None) → Gets err err_now []
         → Comes words holds input out out_now err err_now status
-    call-comes call status spelled (inl a) told = record {
+    call-comes call status spelled (inl a) printed = record {
       outcome = record { status = status; out = a.lines; line = [] };
       is = done call a.lines status spelled a.whole;
       same_status = refl;
       wrote = a.wrote;
-      told = told;
+      printed = printed;
     }
-    call-comes call status spelled (inr h) told = record {
+    call-comes call status spelled (inr h) printed = record {
       outcome = record { status = 0; out = h.1.known.lines; line = [] };
       is = answered call h.1.known.lines spelled (heard-by call h.1);
       same_status = sym h.0;
       wrote = h.1.known.wrote;
-      told = told;
+      printed = printed;
     }
 
     -- a text is refused, or what comes in
@@ -64,19 +64,19 @@ module _ (words : List (List ℕ)) (holds : List ℕ → Held) (input : Option (
         → (HasRefused holds (files_of call) line × Wrote out out_now [])
         ⊎ WroteHeard call holds out out_now input (Some line) → bytes ≡ line
         → Gets err err_now bytes → Comes words holds input out out_now err err_now 3
-    text-comes call line bytes spelled (inl r) e told = record {
+    text-comes call line bytes spelled (inl r) e printed = record {
       outcome = record { status = 3; out = []; line = line };
       is = bad_text call line spelled r.0;
       same_status = refl;
       wrote = r.1;
-      told = subst (λ (l : List ℕ). Gets err err_now l) e told;
+      printed = subst (λ (l : List ℕ). Gets err err_now l) e printed;
     }
-    text-comes call line bytes spelled (inr h) e told = record {
+    text-comes call line bytes spelled (inr h) e printed = record {
       outcome = record { status = 3; out = h.known.lines; line = line };
       is = bad_line call h.known.lines line spelled (heard-by call h);
       same_status = refl;
       wrote = h.known.wrote;
-      told = subst (λ (l : List ℕ). Gets err err_now l) e told;
+      printed = subst (λ (l : List ℕ). Gets err err_now l) e printed;
     }
 
 module _ (words : List (List ℕ)) (disk disk_now : Disk) (input input_now : Inflow) (out out_now : Outflow)
@@ -126,9 +126,9 @@ pub word-ends : (words : List (List ℕ)) (disk : Disk) (input : Inflow) (out er
     (steps number status : ℕ) → IsBadWord is_call words number → (status ≡ 2) ⊎ (status ≡ 6)
     → (status ≡ 2 → Gets err err_now (word_line number)) → (status ≡ 6 → Gets err err_now (ending_line 6))
     → EndsAs words disk disk input input out out err err_now steps steps status
-word-ends words disk input out err err_now steps number status bad (inl two) told memory = record {
+word-ends words disk input out err err_now steps number status bad (inl two) printed memory = record {
   statuses = omega arith;
-  outcome = word-comes words disk.holds input.left out out err err_now number status bad (inl two) told;
+  outcome = word-comes words disk.holds input.left out out err err_now number status bad (inl two) printed;
   read = λ e. absurd (omega arith);
   write = λ e. absurd (omega arith);
   part = λ e. absurd (omega arith);
@@ -139,7 +139,7 @@ word-ends words disk input out err err_now steps number status bad (inl two) tol
   counted = λ few. absurd (omega arith);
   input_stays = λ not. refl;
 }
-word-ends words disk input out err err_now steps number status bad (inr six) told memory = record {
+word-ends words disk input out err err_now steps number status bad (inr six) printed memory = record {
   statuses = omega arith;
   outcome = λ few. absurd (omega arith);
   read = λ e. absurd (omega arith);
@@ -165,10 +165,10 @@ module _ (words : List (List ℕ)) (disk disk_now : Disk) (input input_now : Inf
       ⊎ ((status ≡ 0) × WroteHeard call disk.holds out out_now input.left None)) → Gets err err_now []
       → RoseForCall call disk.holds input.left old new
       → EndsAs words disk disk_now input input_now out out_now err err_now old new status
-  done-ends status served told rose = let small : status ≤ 1 = served.0 in record {
+  done-ends status served printed rose = let small : status ≤ 1 = served.0 in record {
     statuses = omega arith;
     outcome = λ few. call-comes words disk.holds input.left out out_now err err_now call status spelled
-        served.1 told;
+        served.1 printed;
     read = λ e. absurd (omega arith);
     write = λ e. absurd (omega arith);
     part = λ e. absurd (omega arith);
@@ -184,10 +184,10 @@ module _ (words : List (List ℕ)) (disk disk_now : Disk) (input input_now : Inf
   pub text-ends : (line bytes : List ℕ) → (HasRefused disk.holds (files_of call) line × Wrote out out_now [])
       ⊎ WroteHeard call disk.holds out out_now input.left (Some line) → bytes ≡ line → Gets err err_now bytes
       → EndsAs words disk disk_now input input_now out out_now err err_now old new 3
-  text-ends line bytes served e told = record {
+  text-ends line bytes served e printed = record {
     statuses = omega arith;
     outcome = λ few. text-comes words disk.holds input.left out out_now err err_now call line bytes spelled
-        served e told;
+        served e printed;
     read = λ e. absurd (omega arith);
     write = λ e. absurd (omega arith);
     part = λ e. absurd (omega arith);
@@ -212,14 +212,14 @@ module _ (words : List (List ℕ)) (disk disk_now : Disk) (input input_now : Inf
       ⊎ ((reads_input call.request.command ≡ true) × Rose input.faults input_now.faults
       × WrotePending call disk.holds out out_now input.left input_now.left) → Gets err err_now (ending_line 4)
       → EndsAs words disk disk_now input input_now out out_now err err_now old new 4
-  read-ends served told = record {
+  read-ends served printed = record {
     statuses = omega arith;
     outcome = λ few. absurd (omega arith);
     read = λ e. read-comes words disk disk_now input input_now out out_now call spelled served;
     write = λ e. absurd (omega arith);
     part = λ e. absurd (omega arith);
     memory = λ e. absurd (omega arith);
-    line = λ e. told;
+    line = λ e. printed;
     complete = λ named heard wrote. absurd (one-rose served named heard);
     unchanged = unchanged;
     counted = λ few. absurd (omega arith);
@@ -230,14 +230,14 @@ module _ (words : List (List ℕ)) (disk disk_now : Disk) (input input_now : Inf
   pub write-ends : Rose out.faults out_now.faults × (IsPart (IsOutput call disk.holds) out out_now
       ⊎ WroteSomeTaken call disk.holds out out_now input.left input_now.left) → Gets err err_now (ending_line 5)
       → EndsAs words disk disk_now input input_now out out_now err err_now old new 5
-  write-ends served told = record {
+  write-ends served printed = record {
     statuses = omega arith;
     outcome = λ few. absurd (omega arith);
     read = λ e. absurd (omega arith);
     write = λ e. served.0;
     part = λ e. part-comes words disk disk_now input input_now out out_now call spelled served.1;
     memory = λ e. absurd (omega arith);
-    line = λ e. told;
+    line = λ e. printed;
     complete = λ named read wrote. absurd (wrote served.0);
     unchanged = unchanged;
     counted = λ few. absurd (omega arith);
@@ -249,14 +249,14 @@ module _ (words : List (List ℕ)) (disk disk_now : Disk) (input input_now : Inf
       ⊎ WroteLinesTaken call disk.holds out out_now input.left input_now.left)
       → Gets err err_now (ending_line 6)
       → EndsAs words disk disk_now input input_now out out_now err err_now old new 6
-  starved served told = record {
+  starved served printed = record {
     statuses = omega arith;
     outcome = λ few. absurd (omega arith);
     read = λ e. absurd (omega arith);
     write = λ e. absurd (omega arith);
     part = λ e. absurd (omega arith);
     memory = λ e. memory-comes words disk disk_now input input_now out out_now call spelled served;
-    line = λ e. told;
+    line = λ e. printed;
     complete = λ named read wrote. inr refl;
     unchanged = unchanged;
     counted = λ few. absurd (omega arith);
@@ -268,6 +268,6 @@ module _ (words : List (List ℕ)) (disk disk_now : Disk) (input input_now : Inf
       ⊎ WroteLinesTaken call disk.holds out out_now input.left input_now.left)
       → Gets err err_now (ending_line 6)
       → EndsAs words disk disk_now input input_now out out_now err err_now old new status
-  memory-ends status six served told =
+  memory-ends status six served printed =
       subst (λ n. EndsAs words disk disk_now input input_now out out_now err err_now old new n) (sym six)
-      (starved served told)
+      (starved served printed)

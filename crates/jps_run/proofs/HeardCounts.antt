@@ -4,7 +4,7 @@ use Rattle.std.proofs.Common.{take, min, arith}
 use Rattle.std.specs.Prelude.{◌≢◌, ◌^◌, Option, Result, Ok, Err, OnOk}
 use Rattle.std.specs.Io.KnownBytes.{Consumes, IsAtEnd}
 use Rattle.std.proofs.lemmas.List.{append-nil}
-use Rattle.script_text.specs.declared.command.Command.{Command}
+use Rattle.script_text.specs.declared.command.ScriptCommand.{ScriptCommand}
 use Rattle.script_text.specs.declared.fault.ScriptFault.{ScriptFault}
 use Rattle.script_text.specs.declared.fault.ScriptFault.TheVariants.{NoMemory}
 use Rattle.script_text.specs.declared.feeder.LineFeeder.{LineFeeder}
@@ -19,20 +19,20 @@ use Rattle.line_work.specs.Working.{CountsMore}
 use Rattle.jps_run.specs.declared.replies.answers.Answers.{Answers}
 use Rattle.line_work.specs.declared.stop.Stop.{Stop}
 use Rattle.jps_run.proofs.Rising.{taken-none}
-use Rattle.jps_run.proofs.Listening.{consumes-both, consumes-none, told-all}
+use Rattle.jps_run.proofs.Listening.{consumes-both, consumes-none, input-all}
 
 -- the commands that were appended to none are those that became known
-all-known : (earlier later before got slice : List Command) → before ≡ [] → slice ≡ got
+all-known : (earlier later before got slice : List ScriptCommand) → before ≡ [] → slice ≡ got
     → Appended earlier later before got → earlier ++ slice ≡ later
 all-known earlier later before got slice empty same a =
-    ap (λ (l : List Command). earlier ++ l)
-    (same ∙ a.appended ∙ ap (λ (b : List Command). b ++ a.more) empty) ∙ sym a.known
+    ap (λ (l : List ScriptCommand). earlier ++ l)
+    (same ∙ a.appended ∙ ap (λ (b : List ScriptCommand). b ++ a.more) empty) ∙ sym a.known
 
 -- an answer without fault is not for want of memory
 not-starved : (answer : Result (Unit {0}) ScriptFault) → answer ≡ Ok tt → answer ≢ Err NoMemory
 not-starved answer ok = λ no. (let e : Ok tt ≡ Err NoMemory = sym ok ∙ no in cc)
 
-module _ (old new : Answers) (feeder feeder_now : LineFeeder) (before got slice : List Command)
+module _ (old new : Answers) (feeder feeder_now : LineFeeder) (before got slice : List ScriptCommand)
     (answer : Result (Unit {0}) ScriptFault) (at now : ℕ) (empty : before ≡ []) (same : slice ≡ got) where
   -- the commands of a piece are answered
   pub rise-piece : (piece : List ℕ) (result : Result (Unit {0}) Stop)
@@ -44,7 +44,7 @@ module _ (old new : Answers) (feeder feeder_now : LineFeeder) (before got slice 
   rise-piece piece (Ok done) fed ok rise = λ first text start h t.
       let f = fed (not-starved answer ok) text h in (
         f.taken,
-        subst (λ (all : List Command). HaveCounted first new all start now)
+        subst (λ (all : List ScriptCommand). HaveCounted first new all start now)
             (all-known (commands_so_far text) (commands_so_far (text ++ piece)) before got slice empty same
             f.commands) (rise first (commands_so_far text) start t),
       )
@@ -57,7 +57,7 @@ module _ (old new : Answers) (feeder feeder_now : LineFeeder) (before got slice 
   rise-end ended ok rise = λ first text start h t.
       let f = ended (not-starved answer ok) text h in (
         subst (λ (a : Result (Unit {0}) ScriptFault). known.Answers a (fault_of text)) ok f.answer,
-        subst (λ (all : List Command). HaveCounted first new all start now)
+        subst (λ (all : List ScriptCommand). HaveCounted first new all start now)
             (all-known (commands_so_far text) (commands_of text) before got slice empty same f.commands)
             (rise first (commands_so_far text) start t),
       )
@@ -70,7 +70,7 @@ rising-begun first feeder input start begun none = record {
   consumed = consumes-none input;
   counted = sym none;
   fed = begun;
-  taken = subst (λ (commands : List Command). HaveCounted first first commands start start)
+  taken = subst (λ (commands : List ScriptCommand). HaveCounted first first commands start start)
       (sym begun-known.1)
       (taken-none first start);
 }
@@ -91,4 +91,4 @@ module _ {first job : Answers} {feeder : LineFeeder} {input mid : Option (List �
       → (result : Result ℕ Stop) → OnOk result (RiseEnd job new feeder at now)
       → OnOk result (RoseHeard first.session input start now)
   rising-ended bytes read ended few (Err error) rise = tt
-  rising-ended bytes read ended few (Ok status) rise = grind (arith, told-all, append-nil, consumes-both)
+  rising-ended bytes read ended few (Ok status) rise = grind (arith, input-all, append-nil, consumes-both)

@@ -3,7 +3,7 @@ use Rattle.std.proofs.Common.{◌≡◌, ◌≢◌, sym, ap, ◌∙◌, subst, L
 use Rattle.std.specs.Prelude.{Option, Some, None, Result, Ok, Err, IsErrAnd}
 use Rattle.std.specs.Option.{option_map}
 use Rattle.std.proofs.lemmas.List.{append-nil}
-use Rattle.script_text.specs.declared.command.Command.{Command}
+use Rattle.script_text.specs.declared.command.ScriptCommand.{ScriptCommand}
 use Rattle.script_text.specs.declared.fault.ScriptFault.{ScriptFault}
 use Rattle.script_text.specs.declared.fault.ScriptFault.TheVariants.{NoMemory}
 use Rattle.script_text.specs.declared.feeder.LineFeeder.{LineFeeder}
@@ -15,11 +15,11 @@ use Rattle.jps_run.specs.Answering.{IsSolved}
 use Rattle.call_files.specs.FaultLines.{script_line}
 use Rattle.jps_run.specs.Hearing.{HasWritten, known_stops, AnswersKnown, AreKnown, Refuses, HasHeard}
 use Rattle.jps_run.specs.Hearing.{HearsPiece}
-use Rattle.io_edge.specs.Told.{Outflow}
+use Rattle.io_edge.specs.Known.{Outflow}
 use Rattle.jps_run.specs.Answers.{AreAnswers}
 use Rattle.jps_run.specs.Heard.{WroteLines}
 use Rattle.line_work.specs.Sending.{work_stops}
-use Rattle.line_work.specs.Stops.{StopsSo, Ends}
+use Rattle.line_work.specs.Stops.{StopsSo, EndsOrStops}
 use Rattle.jps_run.specs.declared.replies.answers.Answers.{Answers}
 use Rattle.line_work.specs.declared.stop.Stop.{Stop}
 use Rattle.line_work.proofs.Pieces.{all-sent, front-sent}
@@ -28,17 +28,17 @@ use Rattle.line_work.proofs.Stopping.{passed, ends-on, follow-same}
 
 -- the answers to commands that became known stop
 pub known-stopped : (first new : Answers) (answer : Result (Unit {0}) ScriptFault)
-    (earlier more all : List Command)
+    (earlier more all : List ScriptCommand)
     (f : Option ScriptFault) (before now : Outflow) → AreKnown answer earlier more all f
     → {X : Type 0} (Done : X → Type 0) (result : Result X Stop) (stop : Stop)
     → IsErrAnd result (λ s. s ≡ stop)
-    → ((others : List Command)
+    → ((others : List ScriptCommand)
     → StopsSo (work_stops (IsSolved first (earlier ++ (more ++ others))) before now) stop)
-    → Ends Done (known_stops first new all f before now) result
+    → EndsOrStops Done (known_stops first new all f before now) result
 known-stopped first new answer earlier more all f before now k Done result stop m stops =
     passed Done (work_stops (IsSolved first all) before now) (known_stops first new all f before now)
     result stop m
-    (subst (λ (a : List Command). StopsSo (work_stops (IsSolved first a) before now) stop) (sym k.are)
+    (subst (λ (a : List ScriptCommand). StopsSo (work_stops (IsSolved first a) before now) stop) (sym k.are)
     (stops k.others))
     (record {
       refused = λ line no. absurd no;
@@ -48,14 +48,15 @@ known-stopped first new answer earlier more all f before now k Done result stop 
     })
 
 -- the answers end, and a fault is known behind them or none
-module _ (first new : Answers) (answer : Result (Unit {0}) ScriptFault) (earlier more all : List Command)
+module _ (first new : Answers) (answer : Result (Unit {0}) ScriptFault)
+    (earlier more all : List ScriptCommand)
     (f : Option ScriptFault) (before now : Outflow) (k : AreKnown answer earlier more all f)
     (w : HasWritten first new (earlier ++ more) before now) where
   exactly : answer ≢ Err NoMemory → HasWritten first new all before now
   exactly other =
-      subst (λ (a : List Command). HasWritten first new a before now)
-      (sym (k.are ∙ ap (λ (o : List Command). earlier ++ (more ++ o)) (k.exact other).0
-      ∙ ap (λ (l : List Command). earlier ++ l) (append-nil more))) w
+      subst (λ (a : List ScriptCommand). HasWritten first new a before now)
+      (sym (k.are ∙ ap (λ (o : List ScriptCommand). earlier ++ (more ++ o)) (k.exact other).0
+      ∙ ap (λ (l : List ScriptCommand). earlier ++ l) (append-nil more))) w
 
   first-lines : WroteLines (AreAnswers first.session first.show all) before now
   first-lines =
@@ -63,14 +64,14 @@ module _ (first new : Answers) (answer : Result (Unit {0}) ScriptFault) (earlier
       let sent = all-sent before now w.lines w.wrote w.later in
       record {
         lines = w.lines ++ c.more;
-        stand = subst (λ (a : List Command). AreAnswers first.session first.show a (w.lines ++ c.more))
+        stand = subst (λ (a : List ScriptCommand). AreAnswers first.session first.show a (w.lines ++ c.more))
             (append_assoc earlier more k.others ∙ sym k.are) c.whole.answers;
         count = length sent.written;
         wrote = front-sent before now [] w.lines c.more sent;
       }
 
   pub known-ended : (result : Result (Unit {0}) Stop) → Refuses answer result
-      → Ends (λ done. (answer ≡ Ok tt) × (f ≡ None) × HasWritten first new all before now)
+      → EndsOrStops (λ done. (answer ≡ Ok tt) × (f ≡ None) × HasWritten first new all before now)
       (known_stops first new all f before now) result
   known-ended result r = ends-on (λ done. answer ≡ Ok tt) _ _ _ result
       (λ done ok.
@@ -94,14 +95,15 @@ module _ (first new : Answers) (answer : Result (Unit {0}) ScriptFault) (earlier
       }) r
 
 -- what is known by an answer of the feeder
-known-by : (answer : Result (Unit {0}) ScriptFault) (earlier got all : List Command) (f : Option ScriptFault)
+known-by : (answer : Result (Unit {0}) ScriptFault) (earlier got all : List ScriptCommand)
+    (f : Option ScriptFault)
     → (answer ≢ Err NoMemory → Appended earlier all [] got × known.Answers answer f)
-    → (answer ≡ Err NoMemory → (got ≡ []) × ((k : List Command) × (all ≡ earlier ++ k)))
+    → (answer ≡ Err NoMemory → (got ≡ []) × ((k : List ScriptCommand) × (all ≡ earlier ++ k)))
     → AreKnown answer earlier got all f
 known-by answer earlier got all f fed starved = grind (arith, append-nil)
 
 -- a piece was fed, or memory for it was refused
-pub piece-known : (feeder now : LineFeeder) (text piece : List ℕ) (got : List Command)
+pub piece-known : (feeder now : LineFeeder) (text piece : List ℕ) (got : List ScriptCommand)
     (answer : Result (Unit {0}) ScriptFault) → HasTaken feeder text
     → (answer ≢ Err NoMemory → (text : List ℕ) → HasTaken feeder text
     → HasFed text (text ++ piece) now [] got answer)
@@ -114,7 +116,7 @@ piece-known feeder now text piece got answer h fed starved =
     (λ is. ((starved is).1, commands-grow text piece))
 
 -- the script ended, or memory for its last command was refused
-pub end-known : (feeder now : LineFeeder) (text : List ℕ) (got : List Command)
+pub end-known : (feeder now : LineFeeder) (text : List ℕ) (got : List ScriptCommand)
     (answer : Result (Unit {0}) ScriptFault) → HasTaken feeder text
     → (answer ≢ Err NoMemory → (text : List ℕ) → HasTaken feeder text → HasEnded text now [] got answer)
     → (answer ≡ Err NoMemory → (now ≡ feeder) × (got ≡ []))
@@ -123,7 +125,7 @@ end-known feeder now text got answer h ended starved = grind (arith, known-by, c
 
 -- so a piece is heard
 pub piece-heard : (old new : Answers) (feeder feeder_now : LineFeeder) (piece : List ℕ)
-    (before_got got slice : List Command) (answer : Result (Unit {0}) ScriptFault) (at now : Outflow)
+    (before_got got slice : List ScriptCommand) (answer : Result (Unit {0}) ScriptFault) (at now : Outflow)
     (result : Result (Unit {0}) Stop) → before_got ≡ [] → slice ≡ got
     → (answer ≢ Err NoMemory → (text : List ℕ) → HasTaken feeder text
     → HasFed text (text ++ piece) feeder_now before_got got answer)
@@ -135,7 +137,7 @@ piece-heard old new feeder feeder_now piece before_got got slice answer at now r
     λ first text before h.
     let fed_from : answer ≢ Err NoMemory → (text : List ℕ) → HasTaken feeder text
     → HasFed text (text ++ piece) feeder_now [] got answer = λ other text h.
-    subst (λ (b : List Command). HasFed text (text ++ piece) feeder_now b got answer) empty
+    subst (λ (b : List ScriptCommand). HasFed text (text ++ piece) feeder_now b got answer) empty
     (fed other text h) in
     let k = piece-known feeder feeder_now text piece got answer h.fed fed_from
     (λ is. ((starved is).0, (starved is).1 ∙ empty)) in
@@ -150,10 +152,10 @@ piece-heard old new feeder feeder_now piece before_got got slice answer at now r
     })
     (follow-same (known_stops first new all f before now))
     (known first (commands_so_far text) all f before h.written
-    (subst (λ (g : List Command). AreKnown answer (commands_so_far text) g all f) (sym same) k))
+    (subst (λ (g : List ScriptCommand). AreKnown answer (commands_so_far text) g all f) (sym same) k))
 
 -- and the end of a script
-module _ (old new : Answers) (feeder feeder_now : LineFeeder) (before_got got slice : List Command)
+module _ (old new : Answers) (feeder feeder_now : LineFeeder) (before_got got slice : List ScriptCommand)
     (answer : Result (Unit {0}) ScriptFault) (at now : Outflow) (result : Result (Unit {0}) Stop)
     (empty : before_got ≡ []) (same : slice ≡ got)
     (ended : answer ≢ Err NoMemory → (text : List ℕ) → HasTaken feeder text
@@ -161,14 +163,14 @@ module _ (old new : Answers) (feeder feeder_now : LineFeeder) (before_got got sl
     (starved : answer ≡ Err NoMemory → (feeder_now ≡ feeder) × (got ≡ before_got))
     (known : AnswersKnown old new answer slice at now result)
     (first : Answers) (text : List ℕ) (before : Outflow) (h : HasHeard first old feeder text before at) where
-  pub end-heard : Ends (λ done. (answer ≡ Ok tt) × (fault_of text ≡ None)
+  pub end-heard : EndsOrStops (λ done. (answer ≡ Ok tt) × (fault_of text ≡ None)
       × HasWritten first new (commands_of text) before now)
       (known_stops first new (commands_of text) (fault_of text) before now) result
   end-heard =
       let k = end-known feeder feeder_now text got answer h.fed
-      (λ other text h. subst (λ (b : List Command). HasEnded text feeder_now b got answer) empty
+      (λ other text h. subst (λ (b : List ScriptCommand). HasEnded text feeder_now b got answer) empty
       (ended other text h)) (λ is. ((starved is).0, (starved is).1 ∙ empty)) in
       known first (commands_so_far text) (commands_of text) (fault_of text) before h.written
-      (subst (λ (g : List Command). AreKnown answer (commands_so_far text) g (commands_of text)
+      (subst (λ (g : List ScriptCommand). AreKnown answer (commands_so_far text) g (commands_of text)
       (fault_of text))
       (sym same) k)

@@ -12,11 +12,11 @@ use Rattle.script_text.proofs.Feeding.{begun-known}
 use Rattle.jps_run.specs.Answering.{HasAnswered}
 use Rattle.call_files.specs.FaultLines.{long_line, script_line}
 use Rattle.call_files.specs.Kinds.{limit_of}
-use Rattle.call_files.specs.declared.kind.Kind.TheVariants as kind
+use Rattle.call_files.specs.declared.kind.TextKind.TheVariants as kind
 use Rattle.jps_run.specs.Heard.{AnswerHeard, AnswerTaken, WroteAll, WroteLines, counted, so_far, at_end}
 use Rattle.jps_run.specs.Hearing.{AllIsHeard, HasWritten, known_stops, hear_stops, HasHeard, IsHearing, Hears}
-use Rattle.io_edge.specs.Told.{Inflow, Outflow}
-use Rattle.line_work.specs.Stops.{StopsSo, Ends}
+use Rattle.io_edge.specs.Known.{Inflow, Outflow}
+use Rattle.line_work.specs.Stops.{StopsSo, EndsOrStops}
 use Rattle.jps_run.specs.declared.replies.answers.Answers.{Answers}
 use Rattle.line_work.specs.declared.stop.Stop.{Stop}
 use Rattle.line_work.specs.declared.stop.Stop.TheVariants as stop
@@ -93,7 +93,7 @@ module _ {first job : Answers} {feeder : LineFeeder} {input mid : Inflow} {buffe
     -- or that stopped
     pub end-stopped : {X : Type 0} (Done : X → Type 0) (result : Result X Stop) (stop : Stop)
         → StopsSo (known_stops first new (commands_of h.text) (fault_of h.text) before after) stop
-        → IsErrAnd result (λ s. s ≡ stop) → Ends Done (hear_stops first input now before after) result
+        → IsErrAnd result (λ s. s ≡ stop) → EndsOrStops Done (hear_stops first input now before after) result
     end-stopped Done result stop k m =
         passed Done (known_stops first new (commands_of h.text) (fault_of h.text) before after) _
         result stop m k (record {
@@ -130,7 +130,7 @@ module _ {first job : Answers} {feeder : LineFeeder} {input mid : Inflow} {buffe
         → StopsSo (known_stops first new (commands_so_far (h.text ++ piece)) (fault_so_far (h.text ++ piece))
         before after)
         stop
-        → IsErrAnd result (λ s. s ≡ stop) → Ends Done (hear_stops first input now before after) result
+        → IsErrAnd result (λ s. s ≡ stop) → EndsOrStops Done (hear_stops first input now before after) result
     piece-stopped new after Done result stop k m =
         passed Done (known_stops first new (commands_so_far (h.text ++ piece))
         (fault_so_far (h.text ++ piece)) before after)
@@ -172,7 +172,7 @@ module _ {first job : Answers} {feeder : LineFeeder} {input mid : Inflow} {buffe
       -- or memory for that line was refused
       pub long-starved : {X : Type 0} (Done : X → Type 0) (result : Result X Stop)
           → IsErrAnd result (λ s. s ≡ stop.Memory)
-          → Ends Done (hear_stops first input now before after) result
+          → EndsOrStops Done (hear_stops first input now before after) result
       long-starved Done result m =
           passed Done
           (no_stops (WroteLines (AnswerTaken first.session first.show input.left now.left) before after)) _

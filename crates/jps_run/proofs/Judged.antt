@@ -1,4 +1,4 @@
--- The rows of told walks.
+-- The rows of claimed walks.
 use Rattle.std.proofs.Common.{◌≡◌, refl, sym, ap, ◌∙◌, subst, List, [], ◌∷◌, ◌++◌, append_assoc, ℕ, zero, suc}
 use Rattle.std.proofs.Common.{◌+◌, ◌^◌, ◌<◌, ◌≤◌, length, length-append, drop, arith}
 use Rattle.std.proofs.Common.{true, false, Bool}
@@ -16,11 +16,11 @@ use Rattle.walk_judge.specs.declared.judging.Judged.{Judged}
 use Rattle.walk_judge.specs.Judgement.{IsJudgement}
 use Rattle.walk_judge.proofs.Existing.{judgement_exists}
 use Rattle.scen_text.specs.declared.entry.Entry.{Entry}
-use Rattle.walk_judge.specs.declared.telling.Told.{Told}
+use Rattle.walk_judge.specs.declared.telling.Claimed.{Claimed}
 use Rattle.call_files.specs.Reading.{AreFit}
 use Rattle.jps_run.specs.Judging.{IsReady, CanGoOn, HasJudged, IsJudged, counts_of, sum_text}
 use Rattle.jps_run.specs.Rows.{has_sides}
-use Rattle.jps_run.specs.Rulings.{IsRuling, with_told, scale, outside, blocked, judged, goal_of, start_of}
+use Rattle.jps_run.specs.Rulings.{IsRuling, with_claims, scale, outside, blocked, judged, goal_of, start_of}
 use Rattle.jps_run.specs.Rulings.{is_refused, judge_status, ruling_line, ruling_lines, rulings_line}
 use Rattle.line_work.specs.Turns.{AreInTurn}
 use Rattle.line_work.specs.Working.{Adds, CanComplete, HasRoomForOne}
@@ -35,31 +35,33 @@ use Rattle.scen_maker.specs.declared.costs.Settled.TheVariants as settled
 use Rattle.jps_run.proofs.ScenRows.{not-empty}
 use Rattle.line_work.proofs.Turns.{turns-more, turns-all}
 
--- what is told between free cells is judged, and its row says how
-pub ruled-so : (ls : Layers) (entry : Entry) (told : Told) (how : Judged) (from to : Cell) (g : GridData)
+-- what is claimed between free cells is judged, and its row says how
+pub ruled-so : (ls : Layers) (entry : Entry) (claimed : Claimed) (how : Judged) (from to : Cell)
+    (g : GridData)
     → has_sides ls entry ≡ true → from ≡ start_of entry → to ≡ goal_of entry → are_free_ends ls from to ≡ true
-    → g ≡ query_grid ls from → IsJudgement g from to told how → IsRuling ls entry told (ruling.Judged how)
-ruled-so ls entry told how from to g sides f t free e j =
+    → g ≡ query_grid ls from → IsJudgement g from to claimed how
+    → IsRuling ls entry claimed (ruling.Judged how)
+ruled-so ls entry claimed how from to g sides f t free e j =
     judged how sides
     (ap (λ (c : Cell). are_free_ends ls c (goal_of entry)) (sym f)
     ∙ ap (λ (c : Cell). are_free_ends ls from c) (sym t) ∙ free)
-    (subst (λ (c : Cell). IsJudgement (query_grid ls c) c (goal_of entry) told how) f
-    (subst (λ (c : Cell). IsJudgement (query_grid ls from) from c told how) t
-    (subst (λ (q : GridData). IsJudgement q from to told how) e j))) refl
+    (subst (λ (c : Cell). IsJudgement (query_grid ls c) c (goal_of entry) claimed how) f
+    (subst (λ (c : Cell). IsJudgement (query_grid ls from) from c claimed how) t
+    (subst (λ (q : GridData). IsJudgement q from to claimed how) e j))) refl
 
 -- a query that was settled so was searched
 pub searched-so : (ls : Layers) (entry : Entry) (how : Settled) (from to : Cell) (least : Option Cost)
     → IsSettled ls entry how → how ≡ settled.Searched from to least → IsSearched ls entry from to least
 searched-so ls entry how from to least is e = subst (λ (s : Settled). IsSettled ls entry s) e is
 
-pub ruled-searched : (ls : Layers) (entry : Entry) (told : Told) (how : Judged) (from to : Cell)
+pub ruled-searched : (ls : Layers) (entry : Entry) (claimed : Claimed) (how : Judged) (from to : Cell)
     (least : Option Cost) (g : GridData) → IsSearched ls entry from to least → g ≡ query_grid ls from
-    → IsJudgement g from to told how → IsRuling ls entry told (ruling.Judged how)
-ruled-searched ls entry told how from to least g is e j =
-    ruled-so ls entry told how from to g is.sides is.start is.goal is.free e j
+    → IsJudgement g from to claimed how → IsRuling ls entry claimed (ruling.Judged how)
+ruled-searched ls entry claimed how from to least g is e j =
+    ruled-so ls entry claimed how from to g is.sides is.start is.goal is.free e j
 
 abbrev Both : Type 0
-Both = Entry × Told
+Both = Entry × Claimed
 
 abbrev Stands : Layers → Unit {0} → Both → Ruling → Type 0
 Stands ls s both r = IsRuling ls both.0 both.1 r
@@ -67,26 +69,27 @@ Stands ls s both r = IsRuling ls both.0 both.1 r
 abbrev stays : Unit {0} → Both → Unit {0}
 stays s both = s
 
--- one entry more, with what is told of it
-with_told-more : (entries : List Entry) (walks : List Told) (entry : Entry) (told : Told)
-    → slice_get walks (length entries) ≡ Some told
-    → with_told (entries ++ entry ∷ []) walks ≡ with_told entries walks ++ (entry, told) ∷ []
-with_told-more [] [] entry told found = absurd (cc)
-with_told-more [] (w ∷ walks) entry told found =
-    ap (λ (t : Told). (let both : Both = (entry, t) in both) ∷ []) (let same : w ≡ told = cc in same)
-with_told-more (e ∷ entries) [] entry told found = absurd (cc)
-with_told-more (e ∷ entries) (w ∷ walks) entry told found =
+-- one entry more, with what is claimed of it
+with_claims-more : (entries : List Entry) (walks : List Claimed) (entry : Entry) (claimed : Claimed)
+    → slice_get walks (length entries) ≡ Some claimed
+    → with_claims (entries ++ entry ∷ []) walks ≡ with_claims entries walks ++ (entry, claimed) ∷ []
+with_claims-more [] [] entry claimed found = absurd (cc)
+with_claims-more [] (w ∷ walks) entry claimed found =
+    ap (λ (t : Claimed). (let both : Both = (entry, t) in both) ∷ []) (let same : w ≡ claimed = cc in same)
+with_claims-more (e ∷ entries) [] entry claimed found = absurd (cc)
+with_claims-more (e ∷ entries) (w ∷ walks) entry claimed found =
     ap (λ (l : List Both). (let both : Both = (e, w) in both) ∷ l)
-    (with_told-more entries walks entry told found)
+    (with_claims-more entries walks entry claimed found)
 
--- more entries, with what is told of them behind
-with_told-append : (some others : List Entry) (walks : List Told)
-    → with_told (some ++ others) walks ≡ with_told some walks ++ with_told others (drop (length some) walks)
-with_told-append [] others walks = refl
-with_told-append (e ∷ some) [] [] = refl
-with_told-append (e ∷ some) (o ∷ others) [] = refl
-with_told-append (e ∷ some) others (w ∷ walks) =
-    ap (λ (l : List Both). (let both : Both = (e, w) in both) ∷ l) (with_told-append some others walks)
+-- more entries, with what is claimed of them behind
+with_claims-append : (some others : List Entry) (walks : List Claimed)
+    → with_claims (some ++ others) walks
+    ≡ with_claims some walks ++ with_claims others (drop (length some) walks)
+with_claims-append [] others walks = refl
+with_claims-append (e ∷ some) [] [] = refl
+with_claims-append (e ∷ some) (o ∷ others) [] = refl
+with_claims-append (e ∷ some) others (w ∷ walks) =
+    ap (λ (l : List Both). (let both : Both = (e, w) in both) ∷ l) (with_claims-append some others walks)
 
 ruling_lines-append : (number : ℕ) (some others : List Ruling)
     → ruling_lines number (some ++ others) ≡ ruling_lines number some
@@ -121,26 +124,26 @@ goes-on (Ok done) job now r room walks counts = λ n h.
     let few : job.counts.rows + (n + 1) < 2 ^ 64 = h.few in
     let left : job.counts.rows + (n + 1) ≤ length job.walks.items = h.left in
     let many : length now.walks.items ≡ length job.walks.items =
-    ap (λ (v : Vec Told Global). length v.items) walks in
+    ap (λ (v : Vec Claimed Global). length v.items) walks in
     record {
-      fit = subst (λ (v : Vec Told Global). AreFit v.items) (sym walks) h.fit;
+      fit = subst (λ (v : Vec Claimed Global). AreFit v.items) (sym walks) h.fit;
       counts = record { rulings = t.rulings ++ r ∷ []; counted = one };
       left = omega arith;
       few = omega arith;
     }
 
 -- one entry more has its row
-pub judged-more : {T E : Type 0} (result : Result T E) (job now : Judge) (entry : Entry) (told : Told)
+pub judged-more : {T E : Type 0} (result : Result T E) (job now : Judge) (entry : Entry) (claimed : Claimed)
     (r : Ruling)
-    (before after : List ℕ) → IsRuling job.costs entry told r
-    → slice_get job.walks.items job.counts.rows ≡ Some told → now.costs ≡ job.costs → now.walks ≡ job.walks
+    (before after : List ℕ) → IsRuling job.costs entry claimed r
+    → slice_get job.walks.items job.counts.rows ≡ Some claimed → now.costs ≡ job.costs → now.walks ≡ job.walks
     → ((rulings : List Ruling) → job.counts ≡ counts_of rulings → now.counts ≡ counts_of (rulings ++ r ∷ []))
     → OnOk result (after ≡ before ++ ruling_line now.counts.rows r)
     → OnOk result ((first : Judge) (entries : List Entry) (lines : List (List ℕ))
     → HasJudged first job entries lines
     → Adds (HasJudged first now (entries ++ entry ∷ [])) lines before after)
-judged-more (Err error) job now entry told r before after is found costs walks counts w = tt
-judged-more (Ok done) job now entry told r before after is found costs walks counts w =
+judged-more (Err error) job now entry claimed r before after is found costs walks counts w = tt
+judged-more (Ok done) job now entry claimed r before after is found costs walks counts w =
     λ first entries lines h.
     let old : job.counts.rows ≡ length h.rulings = ap (λ (c : Counts). c.rows) h.counted in
     let one : now.counts.rows ≡ length (h.rulings ++ r ∷ []) =
@@ -148,25 +151,25 @@ judged-more (Ok done) job now entry told r before after is found costs walks cou
     let both : length (h.rulings ++ r ∷ []) ≡ length h.rulings + 1 = length-append h.rulings (r ∷ []) in
     let longer : length (entries ++ entry ∷ []) ≡ length entries + 1 = length-append entries (entry ∷ []) in
     let place : now.counts.rows ≡ 1 + length h.rulings = omega arith in
-    let here : slice_get first.walks.items (length entries) ≡ Some told =
-    subst (λ k. slice_get first.walks.items k ≡ Some told) (old ∙ h.as_many)
-    (subst (λ (v : Vec Told Global). slice_get v.items job.counts.rows ≡ Some told) h.told found) in
+    let here : slice_get first.walks.items (length entries) ≡ Some claimed =
+    subst (λ k. slice_get first.walks.items k ≡ Some claimed) (old ∙ h.as_many)
+    (subst (λ (v : Vec Claimed Global). slice_get v.items job.counts.rows ≡ Some claimed) h.claimed found) in
     record {
       more = ruling_line now.counts.rows r ∷ [];
       stand = record {
         rulings = h.rulings ++ r ∷ [];
         are = subst (λ (l : List Both).
             AreInTurn {S = Unit {0}} (Stands first.costs) stays tt l (h.rulings ++ r ∷ []))
-            (sym (with_told-more entries first.walks.items entry told here))
-            (turns-more (Stands first.costs) stays tt (with_told entries first.walks.items) h.rulings
-            (entry, told) r h.are (subst (λ (ls : Layers). IsRuling ls entry told r) h.same is));
+            (sym (with_claims-more entries first.walks.items entry claimed here))
+            (turns-more (Stands first.costs) stays tt (with_claims entries first.walks.items) h.rulings
+            (entry, claimed) r h.are (subst (λ (ls : Layers). IsRuling ls entry claimed r) h.same is));
         all = ap (λ (l : List (List ℕ)). l ++ ruling_line now.counts.rows r ∷ []) h.all
             ∙ ap (λ k. ruling_lines 1 h.rulings ++ ruling_line k r ∷ []) place
             ∙ sym (ruling_lines-append 1 h.rulings (r ∷ []));
         as_many = (let many : length h.rulings ≡ length entries = h.as_many in omega arith);
         counted = counts h.rulings h.counted;
         same = costs ∙ h.same;
-        told = walks ∙ h.told;
+        claimed = walks ∙ h.claimed;
       };
       appended = w ∙ ap (λ (l : List ℕ). before ++ l) (sym (append-nil (ruling_line now.counts.rows r)));
     }
@@ -189,15 +192,15 @@ judged-all job status before after w s first entries lines h = record {
       ∙ ap (λ (l : List ℕ). before ++ l) (sym (append-nil (rulings_line h.rulings)));
 }
 
--- a query that was settled gives a row, whatever is told
-pub settled-ruled : (ls : Layers) (entry : Entry) (told : Told) (how : Settled) → IsSettled ls entry how
-    → (r : Ruling) × IsRuling ls entry told r
-settled-ruled ls entry told settled.Scale sides = (ruling.Scale, scale sides refl)
-settled-ruled ls entry told settled.Outside is = (ruling.Outside, outside is.0 is.1 refl)
-settled-ruled ls entry told settled.Blocked is = (ruling.Blocked, blocked is.0 is.1 refl)
-settled-ruled ls entry told (settled.Searched from to least) is =
-    let j = judgement_exists (query_grid ls from) from to told least is.least in
-    (ruling.Judged j.0, ruled-searched ls entry told j.0 from to least (query_grid ls from) is refl j.1)
+-- a query that was settled gives a row, whatever is claimed
+pub settled-ruled : (ls : Layers) (entry : Entry) (claimed : Claimed) (how : Settled) → IsSettled ls entry how
+    → (r : Ruling) × IsRuling ls entry claimed r
+settled-ruled ls entry claimed settled.Scale sides = (ruling.Scale, scale sides refl)
+settled-ruled ls entry claimed settled.Outside is = (ruling.Outside, outside is.0 is.1 refl)
+settled-ruled ls entry claimed settled.Blocked is = (ruling.Blocked, blocked is.0 is.1 refl)
+settled-ruled ls entry claimed (settled.Searched from to least) is =
+    let j = judgement_exists (query_grid ls from) from to claimed least is.least in
+    (ruling.Judged j.0, ruled-searched ls entry claimed j.0 from to least (query_grid ls from) is refl j.1)
 
 ruling_exists : (ls : Layers) (s : Unit {0}) (both : Both) → (r : Ruling) × Stands ls s both r
 ruling_exists ls s both =
@@ -206,10 +209,10 @@ ruling_exists ls s both =
 -- so the first rows can be completed
 pub rulings-complete : CanComplete HasJudged IsJudged true
 rulings-complete first now some others lines h =
-    let walks : List Told = first.walks.items in
+    let walks : List Claimed = first.walks.items in
     let all = turns-all (Stands first.costs) stays (ruling_exists first.costs) tt
-    (with_told some walks)
-    (with_told others (drop (length some) walks)) h.rulings h.are in
+    (with_claims some walks)
+    (with_claims others (drop (length some) walks)) h.rulings h.are in
     let rulings : List Ruling = h.rulings ++ all.0 in
     let rest : List (List ℕ) = ruling_lines (1 + length h.rulings) all.0 in
     let sum : List ℕ = rulings_line rulings in
@@ -220,7 +223,7 @@ rulings-complete first now some others lines h =
         rulings = rulings;
         are =
             subst (λ (l : List Both). AreInTurn {S = Unit {0}} (Stands first.costs) stays tt l rulings)
-            (sym (with_told-append some others walks)) all.1;
+            (sym (with_claims-append some others walks)) all.1;
         all = sym (append_assoc lines rest (sum ∷ []))
             ∙ ap (λ (l : List (List ℕ)). (l ++ rest) ++ sum ∷ []) h.all
             ∙ ap (λ (l : List (List ℕ)). l ++ sum ∷ []) (sym (ruling_lines-append 1 h.rulings all.0));
@@ -238,7 +241,7 @@ judged-none job e = record {
   as_many = refl;
   counted = e;
   same = refl;
-  told = refl;
+  claimed = refl;
 }
 
 -- and all walks are left

@@ -8,7 +8,7 @@ use Rattle.std.specs.Io.KnownBytes.{Consumes, IsAtEnd}
 use Rattle.std.proofs.lemmas.List.{append-nil, take_all, take-append-le, length-take}
 use Rattle.std.proofs.lemmas.List.{take-take}
 use Rattle.std.proofs.Math.Seq.{take-append-add}
-use Rattle.script_text.specs.declared.command.Command.{Command}
+use Rattle.script_text.specs.declared.command.ScriptCommand.{ScriptCommand}
 use Rattle.script_text.specs.declared.fault.ScriptFault.{ScriptFault}
 use Rattle.script_text.specs.Feeding.{commands_so_far, commands_of, fault_so_far, fault_of}
 use Rattle.script_text.proofs.Feeding.{fault-stays, whole-refused}
@@ -16,11 +16,11 @@ use Rattle.jps_run.specs.Answering.{IsSolved}
 use Rattle.jps_run.specs.Answers.{AreAnswers}
 use Rattle.call_files.specs.FaultLines.{long_line, script_line}
 use Rattle.call_files.specs.Kinds.{limit_of}
-use Rattle.call_files.specs.declared.kind.Kind.TheVariants as kind
-use Rattle.jps_run.specs.Heard.{AnswerHeard, AnswerTaken, AreWhole, IsHeard, IsTold, WroteAll, WroteFirst}
+use Rattle.call_files.specs.declared.kind.TextKind.TheVariants as kind
+use Rattle.jps_run.specs.Heard.{AnswerHeard, AnswerTaken, AreWhole, IsHeard, IsInput, WroteAll, WroteFirst}
 use Rattle.jps_run.specs.Heard.{WroteLines, counted, whole, too_long}
 use Rattle.jps_run.specs.Hearing.{HasWritten}
-use Rattle.io_edge.specs.Told.{Outflow}
+use Rattle.io_edge.specs.Known.{Outflow}
 use Rattle.line_work.specs.Sending.{Wrote, IsPart}
 use Rattle.jps_run.specs.declared.replies.answers.Answers.{Answers}
 
@@ -38,17 +38,17 @@ consumes-none None = tt
 consumes-none (Some xs) = refl
 
 -- what was taken begins what was left
-told-more : (input left : Option (List ℕ)) (text : List ℕ) → Consumes input left text
-    → (rest : List ℕ) × IsTold input (text ++ rest)
-told-more None left text c = ([], tt)
-told-more (Some xs) None text c = absurd c
-told-more (Some xs) (Some ys) text c = (ys, sym c)
+input-more : (input left : Option (List ℕ)) (text : List ℕ) → Consumes input left text
+    → (rest : List ℕ) × IsInput input (text ++ rest)
+input-more None left text c = ([], tt)
+input-more (Some xs) None text c = absurd c
+input-more (Some xs) (Some ys) text c = (ys, sym c)
 
-pub told-all : (input left : Option (List ℕ)) (text : List ℕ) → Consumes input left text → IsAtEnd left
-    → IsTold input text
-told-all None left text c e = tt
-told-all (Some xs) None text c e = absurd c
-told-all (Some xs) (Some ys) text c e =
+pub input-all : (input left : Option (List ℕ)) (text : List ℕ) → Consumes input left text → IsAtEnd left
+    → IsInput input text
+input-all None left text c e = tt
+input-all (Some xs) None text c e = absurd c
+input-all (Some xs) (Some ys) text c e =
     sym (c ∙ ap (λ (l : List ℕ). text ++ l) e ∙ append-nil text)
 
 -- the first bytes of more bytes begin with the first bytes
@@ -114,14 +114,14 @@ module _ (first : Answers) (input left : Option (List ℕ)) (full : List ℕ) (b
           → WroteAll (AnswerHeard first.session first.show input (Some line)) before now
       by_fault None is named = absurd cc
       by_fault (Some fault) is named =
-          let told = told-more input left full consumed in
+          let comes = input-more input left full consumed in
           record {
             lines = w.lines;
             stand = record {
-              script = full ++ told.0;
-              told = told.1;
+              script = full ++ comes.0;
+              comes = comes.1;
               commands = commands_so_far (counted full);
-              heard = refused-script full told.0 fault line is (let e : script_line fault ≡ line = cc in e);
+              heard = refused-script full comes.0 fault line is (let e : script_line fault ≡ line = cc in e);
               answers = w.worked.answers;
             };
             wrote = w.wrote;
@@ -133,15 +133,15 @@ module _ (first : Answers) (input left : Option (List ℕ)) (full : List ℕ) (b
       → HasWritten first new (commands_so_far (counted full)) before now
       → WroteAll (AnswerHeard first.session first.show input (Some line)) before now
   long-heard new line long named clean w =
-      let told = told-more input left full consumed in
-      let sum : length (full ++ told.0) ≡ length full + length told.0 = length-append full told.0 in
-      let same : counted (full ++ told.0) ≡ counted full
-      = take-append-le (limit_of kind.Script) full told.0 (omega (arith, long)) in
+      let comes = input-more input left full consumed in
+      let sum : length (full ++ comes.0) ≡ length full + length comes.0 = length-append full comes.0 in
+      let same : counted (full ++ comes.0) ≡ counted full
+      = take-append-le (limit_of kind.Script) full comes.0 (omega (arith, long)) in
       record {
         lines = w.lines;
         stand = record {
-          script = full ++ told.0;
-          told = told.1;
+          script = full ++ comes.0;
+          comes = comes.1;
           commands = commands_so_far (counted full);
           heard = too_long (omega (arith, long, sum)) (ap commands_so_far (sym same))
               (ap (λ (l : List ℕ). Some l) named
@@ -159,9 +159,9 @@ module _ (first : Answers) (input left : Option (List ℕ)) (full : List ℕ) (b
       → length full ≤ limit_of kind.Script → refusal ≡ option_map script_line (fault_of full)
       → HasWritten first new (commands_of full) before now
       → WroteAll (AnswerHeard first.session first.show input refusal) before now
-  all-heard new refusal ended few named w = grind (arith, told-all)
+  all-heard new refusal ended few named w = grind (arith, input-all)
 
-  module _ (commands : List Command) (are : AreWhole left full commands) where
+  module _ (commands : List ScriptCommand) (are : AreWhole left full commands) where
     -- a first part of the lines was written
     pub part-heard : IsPart (IsSolved first commands) before now
         → WroteFirst (AnswerTaken first.session first.show input left) before now

@@ -1,7 +1,7 @@
 -- A call is opened as work whose output answers it.
 use Rattle.std.proofs.Common.{◌≡◌, ◌∙◌, refl, sym, ap, subst, inl, false, List, [], ◌∷◌, ◌++◌, ℕ, ◌≤◌, arith}
 use Rattle.std.specs.Prelude.{Ok, Err, Result}
-use Rattle.io_edge.specs.Told.{Disk, Held}
+use Rattle.io_edge.specs.Known.{Disk, Held}
 use Rattle.map_text.specs.Faults.{map_of}
 use Rattle.map_text.specs.Map.{Map}
 use Rattle.edit_replay.specs.Session.{SessionData}
@@ -91,9 +91,10 @@ on-last text m read loaded more known = record {
 }
 
 -- what is known of the session that answers what comes in is known of the call
-pub retold : {call : Call} {holds : List ℕ → Held} {K L : SessionData → Show → Type 0} (p : OnLive call holds K)
+pub as_known : {call : Call} {holds : List ℕ → Held} {K L : SessionData → Show → Type 0}
+    (p : OnLive call holds K)
     → L p.session call.settings.show → OnLive call holds L
-retold p known = record {
+as_known p known = record {
   is = p.is;
   text = p.text;
   behind = p.behind;

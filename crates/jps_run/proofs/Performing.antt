@@ -1,7 +1,7 @@
 -- What the work counts.
 use Rattle.std.proofs.Common.{◌≡◌, sym, subst, ℕ}
 use Rattle.std.specs.Prelude.{OnOk, Result, Ok, Err}
-use Rattle.io_edge.specs.Told.{Outflow}
+use Rattle.io_edge.specs.Known.{Outflow}
 use Rattle.line_work.specs.Sending.{SendsWhole}
 use Rattle.line_work.specs.declared.stop.Stop.{Stop}
 use Rattle.jps_run.specs.Works.{HasRisen, IsWhole}

@@ -1,7 +1,7 @@
 -- What `draw` prints is right.
 use Rattle.std.proofs.Common.{◌≡◌, ◌≤◌, ◌*◌, refl, sym, subst, List, [], ◌∷◌, ℕ, false, ◌&&◌, arith}
 use Rattle.std.specs.Prelude.{OnOk, Result, Ok, Err, Option, None, Some}
-use Rattle.io_edge.specs.Told.{Outflow}
+use Rattle.io_edge.specs.Known.{Outflow}
 use Rattle.grid_moves.specs.declared.Cell.{Cell}
 use Rattle.grid_moves.specs.Layers.{is_on_map}
 use Rattle.map_text.specs.Map.{Map}
@@ -50,7 +50,7 @@ outside_counted (Ok done) d s t steps e = record {
   where
     uncounted : (most : Option ℕ) → RoseWithin most steps steps reply.Outside
     uncounted None = tt
-    uncounted (Some told) = let none : 0 * told ≡ 0 = omega arith in omega arith
+    uncounted (Some known) = let none : 0 * known ≡ 0 = omega arith in omega arith
 
 -- for want of memory nothing of a picture was written
 pub nothing_drawn : (canvas : Canvas) (s t : Cell) (show : Show) (out : Outflow)

@@ -6,7 +6,7 @@ use Rattle.grid_moves.specs.declared.Cell.{Cell}
 use Rattle.edit_replay.specs.Counting.{states_away}
 use Rattle.edit_replay.specs.Session.{SessionData}
 use Rattle.edit_replay.specs.declared.reply.Reply.{Reply}
-use Rattle.script_text.specs.declared.command.Command.TheVariants.{Query}
+use Rattle.script_text.specs.declared.command.ScriptCommand.TheVariants.{Query}
 use Rattle.word_list.specs.declared.request.Show.{Show}
 use Rattle.jps_run.specs.Answers.{AreAnswers, IsReplyLine}
 use Rattle.jps_run.specs.Rising.{RoseForQuery, RoseForCommands}
@@ -54,12 +54,12 @@ pub small_most : (engine : SmallEngine) → most_by (by_small engine) ≡ None
 small_most Boxes = refl
 small_most Moves = refl
 
--- the line of one reply that was made at once, where no most is told and nothing is counted
-pub told-work : (who : Who) (show : Show) (s t : Cell) (reply : Reply) (width : ℕ) (text : Vec ℕ)
+-- the line of one reply that was made at once, where no most is known and nothing is counted
+pub replied-work : (who : Who) (show : Show) (s t : Cell) (reply : Reply) (width : ℕ) (text : Vec ℕ)
     → IsReplyBy who s t reply → fewest_by who.by ≡ 0 → most_by who.by ≡ None
     → width ≡ who.layers.land.width → text.items ≡ reply_line width show reply
     → IsQueryWork who show s t (work.Print text 0)
-told-work who show s t reply width text is none untold wide e = record {
+replied-work who show s t reply width text is none unbounded wide e = record {
   can = tt;
   right = λ lines status w. (
     w.1,
@@ -77,6 +77,6 @@ told-work who show s t reply width text is none untold wide e = record {
     reply = reply;
     is_reply = is;
     fewest = rw none (let least : states_away reply * 0 ≡ 0 = omega arith in omega arith);
-    most = rw untold tt;
+    most = rw unbounded tt;
   };
 }

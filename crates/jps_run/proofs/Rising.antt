@@ -5,7 +5,7 @@ use Rattle.std.specs.List.{fold}
 use Rattle.edit_replay.specs.Edited.{Edit}
 use Rattle.edit_replay.specs.Session.{SessionData}
 use Rattle.scen_text.specs.declared.entry.Entry.{Entry}
-use Rattle.script_text.specs.declared.command.Command.{Command}
+use Rattle.script_text.specs.declared.command.ScriptCommand.{ScriptCommand}
 use Rattle.jps_run.specs.Answerers.{who_of}
 use Rattle.jps_run.specs.Answering.{GoesOn, HaveCounted}
 use Rattle.jps_run.specs.Answers.{edits_with}
@@ -30,7 +30,8 @@ module _ {S X : Type 0} (Rose : S → X → ℕ → ℕ → Type 0) (next : S �
   turns-rise s (u ∷ xs) x start old new t h = (t.0, t.1, turns-rise (next s u) xs x t.0 old new t.2 h)
 
 -- one command more, on the session as the earlier ones leave it
-pub rose-more : (first old_job new_job : SessionData) (commands : List Command) (command : Command)
+pub rose-more : (first old_job new_job : SessionData) (commands : List ScriptCommand)
+    (command : ScriptCommand)
     (start old new : ℕ) → old_job ≡ session_after first (fold edits_with [] commands)
     → GoesOn old_job command new_job → RoseForCommands first commands start old
     → RoseForCommand old_job new_job command old new
@@ -47,10 +48,11 @@ rose-more first old_job new_job commands command start old new at on rose more =
 pub taken-none : (job : Answers) (start : ℕ) → HaveCounted job job [] start start
 taken-none job start = record { rose = refl; session = nothing_edited job.session }
 
-pub taken-more : {T E : Type 0} (result : Result T E) (job now : Answers) (command : Command) (old new : ℕ)
+pub taken-more : {T E : Type 0} (result : Result T E) (job now : Answers) (command : ScriptCommand)
+    (old new : ℕ)
     → OnOk result (GoesOn job.session command now.session)
     → OnOk result (RoseForCommand job.session now.session command old new)
-    → OnOk result ((first : Answers) (commands : List Command) (start : ℕ)
+    → OnOk result ((first : Answers) (commands : List ScriptCommand) (start : ℕ)
     → HaveCounted first job commands start old → HaveCounted first now (commands ++ command ∷ []) start new)
 taken-more (Err error) job now command old new on more = tt
 taken-more (Ok done) job now command old new on more = λ first commands start h. record {

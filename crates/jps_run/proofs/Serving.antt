@@ -1,7 +1,7 @@
 -- The work on a call, from its files to its output.
 use Rattle.std.proofs.Common.{◌≡◌, subst, inl, inr, List, ◌∷◌, ℕ, arith}
 use Rattle.std.specs.Prelude.{None, Some, Option, Result, IsErrAnd}
-use Rattle.io_edge.specs.Told.{Disk, Held, Inflow, Outflow}
+use Rattle.io_edge.specs.Known.{Disk, Held, Inflow, Outflow}
 use Rattle.edit_replay.specs.Session.{SessionData}
 use Rattle.word_list.specs.Request.{Call}
 use Rattle.word_list.specs.declared.request.Show.{Show}
@@ -21,13 +21,14 @@ use Rattle.jps_run.specs.declared.replies.answers.Answers.{Answers}
 use Rattle.line_work.specs.declared.stop.Stop.{Stop}
 use Rattle.jps_run.specs.declared.work.Work.{Work}
 use Rattle.line_work.proofs.Pieces.{nothing}
-use Rattle.jps_run.proofs.Opening.{retold}
+use Rattle.jps_run.proofs.Opening.{as_known}
 use Rattle.line_work.proofs.Stopping.{passed, ends-on}
 
 -- what is known of the session is known of the call
 pub on-live : (call : Call) (holds : List ℕ → Held) (job : Answers) → IsListener call holds job
     → (Known : SessionData → Show → Type 0) → Known job.session job.show → OnLive call holds Known
-on-live call holds job l Known k = retold l.on (subst (λ (show : Show). Known l.on.session show) l.on.known.1
+on-live call holds job l Known k =
+    as_known l.on (subst (λ (show : Show). Known l.on.session show) l.on.known.1
     (subst (λ (d : SessionData). Known d job.show) l.on.known.0 k))
 
 -- a session that answers what comes in was opened behind accepted files

@@ -10,8 +10,8 @@ use Rattle.edit_replay.specs.Edited.{Edit, edit_at, edited}
 use Rattle.edit_replay.specs.Session.{SessionData}
 use Rattle.edit_replay.specs.declared.engine.Engine.{Engine}
 use Rattle.edit_replay.proofs.Edits.{edited-nothing}
-use Rattle.script_text.specs.declared.command.Command.{Command}
-use Rattle.script_text.specs.declared.command.Command.TheVariants.{Block, Free, Flood, Query}
+use Rattle.script_text.specs.declared.command.ScriptCommand.{ScriptCommand}
+use Rattle.script_text.specs.declared.command.ScriptCommand.TheVariants.{Block, Free, Flood, Query}
 use Rattle.word_list.specs.declared.request.Show.{Show}
 use Rattle.jps_run.specs.Answers.{IsAnswerLine, AnswersAfter, edits_of, edits_with}
 use Rattle.jps_run.specs.Answering.{PutsAnswer, GoesOn, HasAnswered, IsSolved}
@@ -23,14 +23,14 @@ use Rattle.jps_run.proofs.SessionReply.{reply_exists}
 use Rattle.line_work.proofs.Turns.{turns-more, turns-all, turns-left, fold-more}
 
 -- a query leaves the session as it is
-pub query-goes-on : {T E : Type 0} (result : Result T E) (old new : SessionData) (command : Command)
+pub query-goes-on : {T E : Type 0} (result : Result T E) (old new : SessionData) (command : ScriptCommand)
     (sx sy gx gy : ℕ) → new ≡ old → command ≡ Query sx sy gx gy → OnOk result (GoesOn old command new)
 query-goes-on (Err error) old new command sx sy gx gy same is = tt
 query-goes-on (Ok done) old new command sx sy gx gy same is = record {
   engine = ap (λ (d : SessionData). d.engine) same;
   layers = λ m edits e.
       ap (λ (d : SessionData). d.layers) same ∙ e ∙ ap (λ (all : List Edit). edited m all)
-      (sym (ap (λ (c : Command). edits ++ edits_of c) is ∙ append-nil edits));
+      (sym (ap (λ (c : ScriptCommand). edits ++ edits_of c) is ∙ append-nil edits));
 }
 
 same_session : (d : SessionData) (engine : Engine) (layers : Layers) → d.engine ≡ engine → d.layers ≡ layers
@@ -38,7 +38,8 @@ same_session : (d : SessionData) (engine : Engine) (layers : Layers) → d.engin
 same_session d engine layers e l = rw (← e, ← l) refl
 
 -- the session goes on from edits to these and the command's
-pub after-more : (d old new : SessionData) (edits : List Edit) (command : Command) → GoesOn old command new
+pub after-more : (d old new : SessionData) (edits : List Edit) (command : ScriptCommand)
+    → GoesOn old command new
     → old ≡ session_after d edits → new ≡ session_after d (edits_with edits command)
 after-more d old new edits command on e =
     same_session new d.engine (edited d.layers (edits_with edits command))
@@ -46,7 +47,7 @@ after-more d old new edits command on e =
     (on.layers d.layers edits (ap (λ (k : SessionData). k.layers) e))
 
 -- and so from commands to one command more
-pub session-more : (d old new : SessionData) (commands : List Command) (command : Command)
+pub session-more : (d old new : SessionData) (commands : List ScriptCommand) (command : ScriptCommand)
     → old ≡ session_after d (fold edits_with [] commands) → GoesOn old command new
     → new ≡ session_after d (fold edits_with [] (commands ++ command ∷ []))
 session-more d old new commands command e on =
@@ -55,11 +56,11 @@ session-more d old new commands command e on =
     (sym (fold-more {Y = ℕ} (λ _ _ _. ⊤) edits_with [] commands command))
 
 -- one command more is answered
-pub answered-more : {T E : Type 0} (result : Result T E) (job now : Answers) (command : Command)
+pub answered-more : {T E : Type 0} (result : Result T E) (job now : Answers) (command : ScriptCommand)
     (before after : List ℕ) → now.show ≡ job.show
     → OnOk result (PutsAnswer job.session job.show command before after)
     → OnOk result (GoesOn job.session command now.session)
-    → OnOk result ((first : Answers) (commands : List Command) (lines : List (List ℕ))
+    → OnOk result ((first : Answers) (commands : List ScriptCommand) (lines : List (List ℕ))
     → HasAnswered first job commands lines
     → Adds (HasAnswered first now (commands ++ command ∷ [])) lines before after)
 answered-more (Err error) job now command before after same p on = tt
@@ -79,7 +80,7 @@ answered-more (Ok done) job now command before after same p on = λ first comman
     }
 
 -- every command has an answer
-pub line_exists : (d : SessionData) (show : Show) (edits : List Edit) (command : Command)
+pub line_exists : (d : SessionData) (show : Show) (edits : List Edit) (command : ScriptCommand)
     → (line : List ℕ) × AnswersAfter d show edits command line
 line_exists d show edits (Block x y) =
     (edit_line (reply_to_edit (session_after d edits) (edit_at x y Blocked)), refl)
@@ -106,7 +107,7 @@ answers-complete first now some others lines h =
           h.answers all.1);
     }
   where
-    left-over : (others : List Command) (more : List (List ℕ)) → IsLeft false others
+    left-over : (others : List ScriptCommand) (more : List (List ℕ)) → IsLeft false others
         → length more ≡ length others → more ≢ []
     left-over [] more (inl left) e = absurd (left refl)
     left-over (c ∷ others) [] (inl left) e = absurd (omega arith)

@@ -5,7 +5,7 @@ use Rattle.grid_moves.specs.Layers.{Layers}
 use Rattle.map_text.specs.Map.{Map}
 use Rattle.edit_replay.specs.Edited.{Edit, edited}
 use Rattle.edit_replay.specs.Session.{SessionData}
-use Rattle.script_text.specs.declared.command.Command.{Command}
+use Rattle.script_text.specs.declared.command.ScriptCommand.{ScriptCommand}
 use Rattle.word_list.specs.declared.request.Settings.{Settings}
 use Rattle.word_list.specs.declared.request.Show.{Show}
 use Rattle.jps_run.specs.Answers.{IsAnswerLine, AreAnswers, edits_with}
@@ -19,30 +19,32 @@ pub record AreAnswersOn (set : Settings) (m : Map) (job : Answers) : Type 0 wher
   pub show : job.show ≡ set.show
 
 -- a line that answers the command was appended
-pub record PutsAnswer (d : SessionData) (show : Show) (command : Command) (before now : List ℕ) : Type 0 where
+pub record PutsAnswer (d : SessionData) (show : Show) (command : ScriptCommand) (before now : List ℕ)
+    : Type 0 where
   pub line : List ℕ
   pub answers : IsAnswerLine d show command line
   pub appended : now ≡ before ++ line
 
 -- the session goes on with the edits of the command
-pub record GoesOn (old : SessionData) (command : Command) (new : SessionData) : Type 0 where
+pub record GoesOn (old : SessionData) (command : ScriptCommand) (new : SessionData) : Type 0 where
   pub engine : new.engine ≡ old.engine
   pub layers : (m : Layers) (edits : List Edit) → old.layers ≡ edited m edits
       → new.layers ≡ edited m (edits_with edits command)
 
 -- the counter rose for these commands, and their edits were made
-pub record HaveCounted (first now : Answers) (commands : List Command) (old new : ℕ) : Type 0 where
+pub record HaveCounted (first now : Answers) (commands : List ScriptCommand) (old new : ℕ) : Type 0 where
   pub rose : RoseForCommands first.session commands old new
   pub session : now.session ≡ session_after first.session (fold edits_with [] commands)
 
 -- the commands have these lines, and their edits were made
-pub record HasAnswered (first now : Answers) (commands : List Command) (lines : List (List ℕ)) : Type 0 where
+pub record HasAnswered (first now : Answers) (commands : List ScriptCommand) (lines : List (List ℕ))
+    : Type 0 where
   pub answers : AreAnswers first.session first.show commands lines
   pub session : now.session ≡ session_after first.session (fold edits_with [] commands)
   pub show : now.show ≡ first.show
 
 -- one line answers each command, with status 0
-pub record IsSolved (first : Answers) (commands : List Command) (lines : List (List ℕ)) (status : ℕ)
+pub record IsSolved (first : Answers) (commands : List ScriptCommand) (lines : List (List ℕ)) (status : ℕ)
     : Type 0 where
   pub answers : AreAnswers first.session first.show commands lines
   pub good : status ≡ 0

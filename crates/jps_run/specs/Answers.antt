@@ -5,8 +5,8 @@ use Rattle.grid_moves.specs.declared.Ground.TheVariants.{Blocked, Land, Water}
 use Rattle.edit_replay.specs.Edited.{Edit, edit_at}
 use Rattle.edit_replay.specs.Session.{SessionData}
 use Rattle.edit_replay.specs.declared.reply.Reply.{Reply}
-use Rattle.script_text.specs.declared.command.Command.{Command}
-use Rattle.script_text.specs.declared.command.Command.TheVariants.{Block, Free, Flood, Query}
+use Rattle.script_text.specs.declared.command.ScriptCommand.{ScriptCommand}
+use Rattle.script_text.specs.declared.command.ScriptCommand.TheVariants.{Block, Free, Flood, Query}
 use Rattle.word_list.specs.declared.request.Show.{Show}
 use Rattle.jps_run.specs.Lines.{reply_line, edit_line}
 use Rattle.jps_run.specs.Session.{session_after, reply_to_edit}
@@ -14,7 +14,7 @@ use Rattle.line_work.specs.Turns.{AreInTurn}
 use Rattle.jps_run.specs.Who.{Who, who_is, IsReplyBy}
 
 -- the edits that a command makes
-abbrev pub edits_of : Command → List Edit
+abbrev pub edits_of : ScriptCommand → List Edit
 edits_of (Block x y) = edit_at x y Blocked ∷ []
 edits_of (Free x y) = edit_at x y Land ∷ []
 edits_of (Flood x y) = edit_at x y Water ∷ []
@@ -27,7 +27,7 @@ pub record IsReplyLine (who : Who) (show : Show) (s t : Cell) (line : List ℕ) 
   pub shown : line ≡ reply_line who.layers.land.width show reply
 
 -- the line answers the command
-abbrev pub IsAnswerLine : SessionData → Show → Command → List ℕ → Type 0
+abbrev pub IsAnswerLine : SessionData → Show → ScriptCommand → List ℕ → Type 0
 IsAnswerLine d show (Block x y) line = line ≡ edit_line (reply_to_edit d (edit_at x y Blocked))
 IsAnswerLine d show (Free x y) line = line ≡ edit_line (reply_to_edit d (edit_at x y Land))
 IsAnswerLine d show (Flood x y) line = line ≡ edit_line (reply_to_edit d (edit_at x y Water))
@@ -35,13 +35,13 @@ IsAnswerLine d show (Query sx sy gx gy) line =
     IsReplyLine (who_is d) show (record { x = sx; y = sy }) (record { x = gx; y = gy }) line
 
 -- the line answers the command on the map's session as these edits leave it
-abbrev pub AnswersAfter : SessionData → Show → List Edit → Command → List ℕ → Type 0
+abbrev pub AnswersAfter : SessionData → Show → List Edit → ScriptCommand → List ℕ → Type 0
 AnswersAfter d show edits command line = IsAnswerLine (session_after d edits) show command line
 
 -- these edits, and then those of the command
-abbrev pub edits_with : List Edit → Command → List Edit
+abbrev pub edits_with : List Edit → ScriptCommand → List Edit
 edits_with edits command = edits ++ edits_of command
 
 -- one line answers each command, on the map's session as the edits before the command leave it
-abbrev pub AreAnswers : SessionData → Show → List Command → List (List ℕ) → Type 0
+abbrev pub AreAnswers : SessionData → Show → List ScriptCommand → List (List ℕ) → Type 0
 AreAnswers d show commands lines = AreInTurn (AnswersAfter d show) edits_with [] commands lines

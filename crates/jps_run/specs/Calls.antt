@@ -4,7 +4,7 @@ use Rattle.std.specs.Prelude.{◌≡◌, ℕ, ◌+◌, Bool, true, false, List, 
 use Rattle.std.specs.Prelude.{Option}
 use Rattle.grid_moves.specs.Layers.{query_grid}
 use Rattle.grid_moves.specs.declared.Cell.{Cell}
-use Rattle.io_edge.specs.Told.{Held}
+use Rattle.io_edge.specs.Known.{Held}
 use Rattle.map_text.specs.Writing.{canonical_text}
 use Rattle.map_maker.specs.Drill.{drill_commands}
 use Rattle.map_maker.specs.Making.{made_map}
@@ -20,7 +20,7 @@ use Rattle.word_list.specs.declared.rows.Command.TheVariants as command
 use Rattle.word_list.specs.declared.request.Settings.{Settings}
 use Rattle.call_files.specs.Files.{AreAccepted, File, file_of}
 use Rattle.call_files.specs.Layered.{layers_on}
-use Rattle.call_files.specs.declared.kind.Kind.TheVariants as kind
+use Rattle.call_files.specs.declared.kind.TextKind.TheVariants as kind
 use Rattle.call_files.specs.MapFiles.{map_files}
 use Rattle.grid_answers.specs.BoxLines.{IsBoxText}
 use Rattle.grid_answers.specs.Certificates.{IsProof, IsVerdict}
@@ -97,8 +97,8 @@ task set command.Judge words tables = record {
       ∷ file_of kind.Walks (word_at words 2)
       ∷ [];
   IsRight = λ texts lines status. OnMap texts (λ m behind. (second third : List ℕ) × (behind ≡ second ∷ third ∷ [])
-      × Reads (scen_of second) (λ entries. Reads (walks_of third (length entries)) (λ told.
-      MadeOf lines status judge_lines judge_status (AreRulings (layers_on set m) entries told))));
+      × Reads (scen_of second) (λ entries. Reads (walks_of third (length entries)) (λ claimed.
+      MadeOf lines status judge_lines judge_status (AreRulings (layers_on set m) entries claimed))));
 }
 task set command.Lengths words tables = record {
   name = codes "lengths";

@@ -1,7 +1,7 @@
 -- How many steps a call counts, at least and at most: so many for each state that its searches take, and so
 -- many for its edits.
 use Rattle.std.specs.Prelude.{◌≡◌, ℕ, false, List, [], Option}
-use Rattle.io_edge.specs.Told.{Held}
+use Rattle.io_edge.specs.Known.{Held}
 use Rattle.word_list.specs.Request.{Call}
 use Rattle.call_files.specs.Files.{AreAccepted}
 use Rattle.jps_run.specs.Heard.{RoseHeard}

@@ -12,8 +12,8 @@ use Rattle.edit_replay.specs.declared.reply.Reply.TheVariants as reply
 use Rattle.grid_moves.specs.declared.Ground.TheVariants.{Blocked, Land, Water}
 use Rattle.map_maker.specs.Drill.{drill_commands}
 use Rattle.map_maker.specs.Making.{made_map}
-use Rattle.script_text.specs.declared.command.Command.{Command}
-use Rattle.script_text.specs.declared.command.Command.TheVariants.{Block, Free, Flood, Query}
+use Rattle.script_text.specs.declared.command.ScriptCommand.{ScriptCommand}
+use Rattle.script_text.specs.declared.command.ScriptCommand.TheVariants.{Block, Free, Flood, Query}
 use Rattle.word_list.specs.declared.request.Settings.{Settings}
 use Rattle.jps_run.specs.Answers.{edits_with}
 use Rattle.jps_run.specs.Session.{IsReply, OnSession, reply_to_edit, session_after}
@@ -41,7 +41,7 @@ pub record IsQueried (d : SessionData) (s t : Cell) (found : Finding) : Type 0 w
   pub is : found ≡ finding_of reply
 
 -- the command comes to this
-abbrev pub IsFinding : SessionData → Command → Finding → Type 0
+abbrev pub IsFinding : SessionData → ScriptCommand → Finding → Type 0
 IsFinding d (Block x y) found = found ≡ finding_of_edit (reply_to_edit d (edit_at x y Blocked))
 IsFinding d (Free x y) found = found ≡ finding_of_edit (reply_to_edit d (edit_at x y Land))
 IsFinding d (Flood x y) found = found ≡ finding_of_edit (reply_to_edit d (edit_at x y Water))
@@ -49,11 +49,11 @@ IsFinding d (Query sx sy gx gy) found =
     IsQueried d (record { x = sx; y = sy }) (record { x = gx; y = gy }) found
 
 -- the command comes to this on the map's session as these edits leave it
-abbrev pub FindsAfter : SessionData → List Edit → Command → Finding → Type 0
+abbrev pub FindsAfter : SessionData → List Edit → ScriptCommand → Finding → Type 0
 FindsAfter d edits command found = IsFinding (session_after d edits) command found
 
 -- each command comes to one of these, on the map's session as the edits before the command leave it
-abbrev pub AreFindings : SessionData → List Command → List Finding → Type 0
+abbrev pub AreFindings : SessionData → List ScriptCommand → List Finding → Type 0
 AreFindings d commands found = AreInTurn (FindsAfter d) edits_with [] commands found
 
 abbrev pub is_walk : Finding → Bool

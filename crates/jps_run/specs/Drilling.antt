@@ -1,7 +1,7 @@
 -- How far a drill has come.
 use Rattle.std.specs.Prelude.{◌≡◌, ℕ, ◌+◌, ◌<◌, ◌≤◌, ◌^◌, List, [], ◌∷◌, ◌++◌, length, count_by}
 use Rattle.std.specs.List.{All, fold, sum_by}
-use Rattle.script_text.specs.declared.command.Command.{Command}
+use Rattle.script_text.specs.declared.command.ScriptCommand.{ScriptCommand}
 use Rattle.jps_run.specs.Answers.{edits_with}
 use Rattle.jps_run.specs.Rising.{RoseForCommands}
 use Rattle.jps_run.specs.Drill.{AreFindings, IsShortFinding, drill_line, queries_text, edits_text, costs_text}
@@ -48,7 +48,8 @@ pub record LeavesRoom (job : Summary) (more : ℕ) : Type 0 where
 
 -- the commands came to findings with these sums, and their edits were made; no line is written before the
 -- sums
-pub record HasDrilled (first now : Summary) (commands : List Command) (lines : List (List ℕ)) : Type 0 where
+pub record HasDrilled (first now : Summary) (commands : List ScriptCommand) (lines : List (List ℕ))
+    : Type 0 where
   pub found : List Finding
   pub are : AreFindings first.session commands found
   pub summed : now.sums ≡ sums_of found
@@ -56,12 +57,12 @@ pub record HasDrilled (first now : Summary) (commands : List Command) (lines : L
   pub none : lines ≡ []
 
 -- the counter rose for these commands, and their edits were made
-pub record HaveCounted (first now : Summary) (commands : List Command) (old new : ℕ) : Type 0 where
+pub record HaveCounted (first now : Summary) (commands : List ScriptCommand) (old new : ℕ) : Type 0 where
   pub rose : RoseForCommands first.session commands old new
   pub session : now.session ≡ session_after first.session (fold edits_with [] commands)
 
 -- one line sums up what the commands come to, with status 0
-pub record IsDrilled (first : Summary) (commands : List Command) (lines : List (List ℕ))
+pub record IsDrilled (first : Summary) (commands : List ScriptCommand) (lines : List (List ℕ))
     (status : ℕ) : Type 0 where
   pub found : List Finding
   pub are : AreFindings first.session commands found

@@ -10,7 +10,7 @@ use Rattle.call_files.specs.Files.{FileRose}
 use Rattle.jps_run.specs.Calls.{MayHear, files_of, reads_input}
 use Rattle.jps_run.specs.Outcome.{Spell, Outcome, IsOutcome, IsOutput}
 use Rattle.jps_run.specs.Live.{WrotePending, WroteSomeTaken, WroteLinesTaken}
-use Rattle.io_edge.specs.Told.{Disk, Held, Inflow, Outflow}
+use Rattle.io_edge.specs.Known.{Disk, Held, Inflow, Outflow}
 use Rattle.line_work.specs.Sending.{Wrote, WroteSome, IsPart, AreLines}
 
 -- what `err` gets in place of an outcome's line: where a read failed, where a write failed, for want of
@@ -40,7 +40,7 @@ pub record Comes (words : List (List ℕ)) (holds : List ℕ → Held) (input : 
   pub is : IsOutcome words holds input outcome
   pub same_status : outcome.status ≡ status
   pub wrote : Wrote out out_now (concat outcome.out)
-  pub told : Gets err err_now outcome.line
+  pub printed : Gets err err_now outcome.line
 
 -- the count of a file rose that the words name and that there was reason to read
 pub record NamedRose (words : List (List ℕ)) (disk disk_now : Disk) : Type 0 where
@@ -98,4 +98,4 @@ pub data HasLines (words : List (List ℕ)) (holds : List ℕ → Held) (input i
 pub record Names (words : List (List ℕ)) (before now : Outflow) : Type 0 where
   pub number : ℕ
   pub stops : StopsAt is_call words number
-  pub told : Gets before now (word_line number)
+  pub printed : Gets before now (word_line number)

@@ -4,23 +4,23 @@ use Rattle.std.specs.Prelude.{◌≡◌, ℕ, ◌≤◌, ◌<◌, ⊤, List, len
 use Rattle.std.specs.List.{concat}
 use Rattle.std.specs.Option.{option_map, option_map_or}
 use Rattle.std.specs.Io.KnownBytes.{Consumes, IsAtEnd}
-use Rattle.io_edge.specs.Told.{Outflow}
+use Rattle.io_edge.specs.Known.{Outflow}
 use Rattle.io_edge.specs.Whole.{AppendsSome}
 use Rattle.edit_replay.specs.Session.{SessionData}
-use Rattle.script_text.specs.declared.command.Command.{Command}
+use Rattle.script_text.specs.declared.command.ScriptCommand.{ScriptCommand}
 use Rattle.script_text.specs.Feeding.{commands_of, commands_so_far, fault_of, fault_so_far}
 use Rattle.word_list.specs.declared.request.Show.{Show}
 use Rattle.call_files.specs.FaultLines.{long_line, script_line}
 use Rattle.call_files.specs.Kinds.{limit_of}
-use Rattle.call_files.specs.declared.kind.Kind.TheVariants as kind
+use Rattle.call_files.specs.declared.kind.TextKind.TheVariants as kind
 use Rattle.line_work.specs.Sending.{Wrote}
 use Rattle.jps_run.specs.Answers.{AreAnswers}
 use Rattle.jps_run.specs.Rising.{RoseForCommands}
 
--- what is left to come in is this text, where it is told
-abbrev pub IsTold : Option (List ℕ) → List ℕ → Type 0
-IsTold None text = ⊤
-IsTold (Some left) text = text ≡ left
+-- what is left to come in is this text, where it is known
+abbrev pub IsInput : Option (List ℕ) → List ℕ → Type 0
+IsInput None text = ⊤
+IsInput (Some left) text = text ≡ left
 
 -- of a script that is too long these bytes count
 abbrev pub counted : List ℕ → List ℕ
@@ -29,7 +29,7 @@ counted script = take (limit_of kind.Script) script
 -- the commands of a script before its first refused line, and the line of its refusal, if it is refused:
 -- where it is too long, a line of the bytes that count is refused first, and their last line is not judged
 -- without its line feed
-pub data IsHeard (script : List ℕ) (commands : List Command) (refusal : Option (List ℕ)) : Type 0 where
+pub data IsHeard (script : List ℕ) (commands : List ScriptCommand) (refusal : Option (List ℕ)) : Type 0 where
   whole : length script ≤ limit_of kind.Script → commands ≡ commands_of script
       → refusal ≡ option_map script_line (fault_of script) → IsHeard script commands refusal
   too_long : limit_of kind.Script < length script → commands ≡ commands_so_far (counted script)
@@ -39,7 +39,7 @@ pub data IsHeard (script : List ℕ) (commands : List Command) (refusal : Option
 
 -- the whole commands among bytes that were taken, before the first refused line: those of the lines with line
 -- feed, and at the end that of the last line
-pub data AreWhole (left : Option (List ℕ)) (taken : List ℕ) (commands : List Command) : Type 0 where
+pub data AreWhole (left : Option (List ℕ)) (taken : List ℕ) (commands : List ScriptCommand) : Type 0 where
   so_far : commands ≡ commands_so_far (counted taken) → AreWhole left taken commands
   at_end : IsAtEnd left → length taken ≤ limit_of kind.Script → commands ≡ commands_of taken
       → AreWhole left taken commands
@@ -50,8 +50,8 @@ pub record AnswerHeard (d : SessionData) (show : Show) (input refusal : Option (
     (lines : List (List ℕ))
     : Type 0 where
   pub script : List ℕ
-  pub told : IsTold input script
-  pub commands : List Command
+  pub comes : IsInput input script
+  pub commands : List ScriptCommand
   pub heard : IsHeard script commands refusal
   pub answers : AreAnswers d show commands lines
 
@@ -60,7 +60,7 @@ pub record AnswerTaken (d : SessionData) (show : Show) (input left : Option (Lis
     : Type 0 where
   pub taken : List ℕ
   pub consumed : Consumes input left taken
-  pub commands : List Command
+  pub commands : List ScriptCommand
   pub whole : AreWhole left taken commands
   pub answers : AreAnswers d show commands lines
 
@@ -94,7 +94,7 @@ pub record WroteLines (Stand : List (List ℕ) → Type 0) (before now : Outflow
 -- the counter rose as the commands of the script make it that came in
 pub record RoseHeard (d : SessionData) (input : Option (List ℕ)) (old new : ℕ) : Type 0 where
   pub script : List ℕ
-  pub told : IsTold input script
-  pub commands : List Command
+  pub comes : IsInput input script
+  pub commands : List ScriptCommand
   pub heard : IsHeard script commands None
   pub rose : RoseForCommands d commands old new

@@ -4,7 +4,7 @@ use Rattle.std.specs.Prelude.{Some, None, Result, Ok, Err}
 use Rattle.std.specs.Option.{option_map}
 use Rattle.std.specs.Io.KnownBytes.{Consumes}
 use Rattle.io_edge.specs.Causes.{Rose}
-use Rattle.script_text.specs.declared.command.Command.{Command}
+use Rattle.script_text.specs.declared.command.ScriptCommand.{ScriptCommand}
 use Rattle.script_text.specs.declared.fault.ScriptFault.{ScriptFault}
 use Rattle.script_text.specs.declared.fault.ScriptFault.TheVariants.{NoMemory}
 use Rattle.script_text.specs.declared.feeder.LineFeeder.{LineFeeder}
@@ -15,27 +15,28 @@ use Rattle.jps_run.specs.Answering.{HasAnswered, IsSolved}
 use Rattle.jps_run.specs.Answers.{AreAnswers}
 use Rattle.call_files.specs.FaultLines.{script_line}
 use Rattle.jps_run.specs.Heard.{AnswerHeard, AnswerTaken, AnswerPending, WroteAll, WroteFirst, WroteLines}
-use Rattle.io_edge.specs.Told.{Inflow, Outflow}
+use Rattle.io_edge.specs.Known.{Inflow, Outflow}
 use Rattle.line_work.specs.Sending.{IsPart}
-use Rattle.line_work.specs.Stops.{Stops, Ends}
+use Rattle.line_work.specs.Stops.{Stops, EndsOrStops}
 use Rattle.line_work.specs.Working.{HaveWorked}
 use Rattle.jps_run.specs.declared.replies.answers.Answers.{Answers}
 use Rattle.line_work.specs.declared.stop.Stop.{Stop}
 
 -- the commands are answered, and their lines were written
-abbrev pub HasWritten : Answers → Answers → List Command → Outflow → Outflow → Type 0
+abbrev pub HasWritten : Answers → Answers → List ScriptCommand → Outflow → Outflow → Type 0
 HasWritten first now commands before after = HaveWorked HasAnswered first now commands before after
 
 -- all commands that are known now, with the fault that is known, by an answer and the commands that were
 -- appended
-pub record AreKnown (answer : Result (Unit {0}) ScriptFault) (earlier more all : List Command)
+pub record AreKnown (answer : Result (Unit {0}) ScriptFault) (earlier more all : List ScriptCommand)
     (fault : Option ScriptFault) : Type 0 where
-  pub others : List Command
+  pub others : List ScriptCommand
   pub are : all ≡ earlier ++ (more ++ others)
   pub exact : answer ≢ Err NoMemory → (others ≡ []) × known.Answers answer fault
 
 -- what is known where the answers to all these commands stop, behind which this fault is known
-abbrev pub known_stops : Answers → Answers → List Command → Option ScriptFault → Outflow → Outflow → Stops
+abbrev pub known_stops : Answers → Answers → List ScriptCommand → Option ScriptFault → Outflow → Outflow
+    → Stops
 known_stops first new all fault before now = record {
   Refused = λ line. (option_map script_line fault ≡ Some line) × HasWritten first new all before now;
   Read = ⊥;
@@ -44,12 +45,13 @@ known_stops first new all fault before now = record {
 }
 
 -- all known commands were answered, and no fault is known; or that stops
-abbrev pub AnswersKnown : Answers → Answers → Result (Unit {0}) ScriptFault → List Command → Outflow → Outflow
+abbrev pub AnswersKnown : Answers → Answers → Result (Unit {0}) ScriptFault → List ScriptCommand → Outflow
+    → Outflow
     → Result (Unit {0}) Stop → Type 0
 AnswersKnown old new answer more at now result =
-    (first : Answers) (earlier all : List Command) (fault : Option ScriptFault) (before : Outflow)
+    (first : Answers) (earlier all : List ScriptCommand) (fault : Option ScriptFault) (before : Outflow)
     → HasWritten first old earlier before at → AreKnown answer earlier more all fault
-    → Ends (λ done. (answer ≡ Ok tt) × (fault ≡ None) × HasWritten first new all before now)
+    → EndsOrStops (λ done. (answer ≡ Ok tt) × (fault ≡ None) × HasWritten first new all before now)
     (known_stops first new all fault before now) result
 
 -- these bytes came in, no line is refused, and their whole commands are answered
@@ -65,20 +67,20 @@ abbrev pub HearsPiece : Answers → Answers → LineFeeder → LineFeeder → Li
 HearsPiece old new feeder feeder_now piece at now result =
     (first : Answers) (text : List ℕ) (before : Outflow)
     → HasHeard first old feeder text before at
-    → Ends (λ done. HasHeard first new feeder_now (text ++ piece) before now)
+    → EndsOrStops (λ done. HasHeard first new feeder_now (text ++ piece) before now)
     (known_stops first new (commands_so_far (text ++ piece)) (fault_so_far (text ++ piece)) before now) result
 
 -- nothing more comes in, and the command of the last line is answered too; or that stops
 abbrev pub HearsEnd : Answers → Answers → LineFeeder → Outflow → Outflow → Result ℕ Stop → Type 0
 HearsEnd old new feeder at now result = (first : Answers) (text : List ℕ) (before : Outflow)
     → HasHeard first old feeder text before at
-    → Ends (λ status. (status ≡ 0) × (fault_of text ≡ None)
+    → EndsOrStops (λ status. (status ≡ 0) × (fault_of text ≡ None)
     × HasWritten first new (commands_of text) before now)
     (known_stops first new (commands_of text) (fault_of text) before now) result
 
 -- an answer is passed on, its fault as the line of a refusal
 abbrev pub Refuses : Result (Unit {0}) ScriptFault → Result (Unit {0}) Stop → Type 0
-Refuses answer result = Ends (λ done. answer ≡ Ok tt) (record {
+Refuses answer result = EndsOrStops (λ done. answer ≡ Ok tt) (record {
   Refused = λ line. (fault : ScriptFault) × (answer ≡ Err fault) × (fault ≢ NoMemory)
       × (line ≡ script_line fault);
   Read = ⊥;
@@ -116,7 +118,7 @@ AllIsHeard first input before now status =
 -- all that came in is answered, or that stops
 abbrev pub Hears : Answers → Inflow → Inflow → Outflow → Outflow → Result ℕ Stop → Type 0
 Hears first input input_now before now result =
-    Ends (AllIsHeard first input before now) (hear_stops first input input_now before now) result
+    EndsOrStops (AllIsHeard first input before now) (hear_stops first input input_now before now) result
 
 -- behind turns in which some came in, what came in this turn is answered too, and more may be read; or
 -- nothing more came in, and all is answered; or that stops
@@ -126,5 +128,6 @@ abbrev pub HearsTurn : Answers → Answers → LineFeeder → LineFeeder → Inf
 HearsTurn old new feeder feeder_now mid input_now buffer buffer_now at now result =
     (first : Answers) (input : Inflow) (before : Outflow)
     → IsHearing first old feeder input mid buffer before at
-    → Ends (λ ended. MatchOption ended (IsHearing first new feeder_now input input_now buffer_now before now)
+    → EndsOrStops (λ ended. MatchOption ended
+    (IsHearing first new feeder_now input input_now buffer_now before now)
     (AllIsHeard first input before now)) (hear_stops first input input_now before now) result

@@ -1,4 +1,4 @@
--- How far the judging of told walks has come.
+-- How far the judging of claimed walks has come.
 use Rattle.std.specs.Prelude.{◌≡◌, ℕ, ◌+◌, ◌^◌, ◌<◌, ◌≤◌, ◌++◌, List, [], length, count_by, codes, decimal}
 use Rattle.scen_text.specs.declared.entry.Entry.{Entry}
 use Rattle.call_files.specs.Reading.{AreFit}
@@ -39,7 +39,7 @@ pub record HasJudged (first now : Judge) (entries : List Entry) (lines : List (L
   pub as_many : length rulings ≡ length entries
   pub counted : now.counts ≡ counts_of rulings
   pub same : now.costs ≡ first.costs
-  pub told : now.walks ≡ first.walks
+  pub claimed : now.walks ≡ first.walks
 
 -- nothing is judged yet, and there are walks for so many entries
 pub record IsReady (job : Judge) (entries : ℕ) : Type 0 where

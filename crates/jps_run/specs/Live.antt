@@ -1,6 +1,6 @@
 -- What a call that reads the input answers, and what was written of its lines at each stop.
 use Rattle.std.specs.Prelude.{◌≡◌, ℕ, List, [], ◌∷◌, Option, Ok}
-use Rattle.io_edge.specs.Told.{Held, Outflow}
+use Rattle.io_edge.specs.Known.{Held, Outflow}
 use Rattle.map_text.specs.Map.{Map}
 use Rattle.map_text.specs.Faults.{map_of}
 use Rattle.edit_replay.specs.Session.{SessionData}

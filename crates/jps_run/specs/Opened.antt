@@ -1,13 +1,13 @@
 -- What a call is opened as: the work that is left to be done once its files are read. No public clause cites
 -- this module.
 use Rattle.std.specs.Prelude.{◌≡◌, ℕ, ◌≤◌, ◌⊎◌, true, false, List, [], Result, Ok, Err}
-use Rattle.io_edge.specs.Told.{Disk, Held}
+use Rattle.io_edge.specs.Known.{Disk, Held}
 use Rattle.word_list.specs.Request.{Call}
 use Rattle.call_files.specs.Files.{AreAccepted}
 use Rattle.jps_run.specs.Live.{OnLive}
 use Rattle.jps_run.specs.Calls.{IsAnswered, RoseFor, files_of, reads_input, searches}
 use Rattle.call_files.specs.Reading.{open_stops}
-use Rattle.line_work.specs.Stops.{Ends}
+use Rattle.line_work.specs.Stops.{EndsOrStops}
 use Rattle.jps_run.specs.declared.replies.answers.Answers.{Answers}
 use Rattle.line_work.specs.declared.stop.Stop.{Stop}
 use Rattle.jps_run.specs.declared.commands.Opened.{Opened}
@@ -45,17 +45,17 @@ IsOpenedAs call holds (opened.Listener job) = IsListener call holds job
 -- work was opened for the call, or that stopped
 abbrev pub OpensWork : Call → Disk → Disk → Result Work Stop → Type 0
 OpensWork call disk disk_now result =
-    Ends (IsWorkOn call disk.holds) (open_stops disk disk_now (files_of call)) result
+    EndsOrStops (IsWorkOn call disk.holds) (open_stops disk disk_now (files_of call)) result
 
 -- a session that answers what comes in was opened for the call, or that stopped
 abbrev pub OpensListener : Call → Disk → Disk → Result Answers Stop → Type 0
 OpensListener call disk disk_now result =
-    Ends (IsListener call disk.holds) (open_stops disk disk_now (files_of call)) result
+    EndsOrStops (IsListener call disk.holds) (open_stops disk disk_now (files_of call)) result
 
 -- the call was opened, or that stopped
 abbrev pub Opens : Call → Disk → Disk → Result Opened Stop → Type 0
 Opens call disk disk_now result =
-    Ends (IsOpenedAs call disk.holds) (open_stops disk disk_now (files_of call)) result
+    EndsOrStops (IsOpenedAs call disk.holds) (open_stops disk disk_now (files_of call)) result
 
 -- the work that was opened, or why that stopped, as what a call is opened as
 abbrev pub opened_as : Result Work Stop → Result Opened Stop

@@ -8,15 +8,15 @@ use Rattle.edit_replay.specs.Mended.{IsEditCounted}
 use Rattle.edit_replay.specs.Session.{SessionData}
 use Rattle.edit_replay.specs.declared.reply.Reply.{Reply}
 use Rattle.scen_text.specs.declared.entry.Entry.{Entry}
-use Rattle.script_text.specs.declared.command.Command.{Command}
-use Rattle.script_text.specs.declared.command.Command.TheVariants as command
+use Rattle.script_text.specs.declared.command.ScriptCommand.{ScriptCommand}
+use Rattle.script_text.specs.declared.command.ScriptCommand.TheVariants as command
 use Rattle.jps_run.specs.Answers.{edits_with}
 use Rattle.jps_run.specs.Rows.{has_sides}
 use Rattle.jps_run.specs.Session.{session_after}
 use Rattle.jps_run.specs.Who.{Who, IsReplyBy, fewest_by, most_by, who_is}
 
 -- the counter rose for what comes to a right reply to the query: by at least the fewest steps for each state
--- that is taken away from the goal, and, where a most is told, by no more than that for each state that is
+-- that is taken away from the goal, and, where a most is known, by no more than that for each state that is
 -- taken
 pub record RoseForQuery (who : Who) (s t : Cell) (old new : ℕ) : Type 0 where
   pub reply : Reply
@@ -36,7 +36,7 @@ pub record RoseForEdit (before after : SessionData) (old new : ℕ) : Type 0 whe
   pub counted : IsEditCounted before.engine before.layers after.layers old new
 
 -- it rose for a command that did
-abbrev pub RoseForCommand : SessionData → SessionData → Command → ℕ → ℕ → Type 0
+abbrev pub RoseForCommand : SessionData → SessionData → ScriptCommand → ℕ → ℕ → Type 0
 RoseForCommand before after (command.Block x y) old new = RoseForEdit before after old new
 RoseForCommand before after (command.Free x y) old new = RoseForEdit before after old new
 RoseForCommand before after (command.Flood x y) old new = RoseForEdit before after old new
@@ -44,12 +44,12 @@ RoseForCommand before after (command.Query sx sy gx gy) old new =
     RoseForQuery (who_is before) (record { x = sx; y = sy }) (record { x = gx; y = gy }) old new
 
 -- it rose for a command on the map's session as these edits leave it
-abbrev pub RoseAfter : SessionData → List Edit → Command → ℕ → ℕ → Type 0
+abbrev pub RoseAfter : SessionData → List Edit → ScriptCommand → ℕ → ℕ → Type 0
 RoseAfter d edits c old new =
     RoseForCommand (session_after d edits) (session_after d (edits_with edits c)) c old new
 
 -- it rose for each of the commands in turn
-abbrev pub RoseForCommands : SessionData → List Command → ℕ → ℕ → Type 0
+abbrev pub RoseForCommands : SessionData → List ScriptCommand → ℕ → ℕ → Type 0
 RoseForCommands d commands old new = RoseInTurn (RoseAfter d) edits_with [] commands old new
 
 -- it rose for an entry: not at all where it is not searched

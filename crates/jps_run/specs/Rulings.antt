@@ -8,7 +8,7 @@ use Rattle.grid_moves.specs.Reply.{IsRight, are_free_ends}
 use Rattle.scen_text.specs.declared.entry.Entry.{Entry}
 use Rattle.walk_judge.specs.declared.judging.Judged.{Judged}
 use Rattle.walk_judge.specs.declared.judging.Judged.TheVariants.{Least, NoWalk, BadWalk, Longer, Exists}
-use Rattle.walk_judge.specs.declared.telling.Told.{Told}
+use Rattle.walk_judge.specs.declared.telling.Claimed.{Claimed}
 use Rattle.walk_judge.specs.Judgement.{IsJudgement}
 pub use Rattle.scen_maker.specs.Settling.{goal_of, start_of}
 use Rattle.jps_run.specs.Rows.{has_sides}
@@ -16,40 +16,41 @@ use Rattle.line_work.specs.Turns.{AreInTurn}
 use Rattle.jps_run.specs.declared.replies.ruling.Ruling.{Ruling}
 use Rattle.jps_run.specs.declared.replies.ruling.Ruling.TheVariants as ruling
 
--- each entry with what is told of it
-abbrev pub with_told : List Entry → List Told → List (Entry × Told)
-with_told [] walks = []
-with_told (entry ∷ entries) [] = []
-with_told (entry ∷ entries) (told ∷ walks) = (entry, told) ∷ with_told entries walks
+-- each entry with what is claimed of it
+abbrev pub with_claims : List Entry → List Claimed → List (Entry × Claimed)
+with_claims [] walks = []
+with_claims (entry ∷ entries) [] = []
+with_claims (entry ∷ entries) (claimed ∷ walks) = (entry, claimed) ∷ with_claims entries walks
 
--- the row of an entry and of what is told of it: the entry is meant for another size; or an end lies outside,
--- or is blocked; else what is told is judged so on the grid of the query
-pub data IsRuling (ls : Layers) (entry : Entry) (told : Told) (r : Ruling) : Type 0 where
-  scale : has_sides ls entry ≡ false → r ≡ ruling.Scale → IsRuling ls entry told r
+-- the row of an entry and of what is claimed of it: the entry is meant for another size; or an end lies
+-- outside, or is blocked; else what is claimed is judged so on the grid of the query
+pub data IsRuling (ls : Layers) (entry : Entry) (claimed : Claimed) (r : Ruling) : Type 0 where
+  scale : has_sides ls entry ≡ false → r ≡ ruling.Scale → IsRuling ls entry claimed r
   outside : has_sides ls entry ≡ true → IsRight ls (start_of entry) (goal_of entry) answer.outside
-      → r ≡ ruling.Outside → IsRuling ls entry told r
+      → r ≡ ruling.Outside → IsRuling ls entry claimed r
   blocked : has_sides ls entry ≡ true → IsRight ls (start_of entry) (goal_of entry) answer.blocked
-      → r ≡ ruling.Blocked → IsRuling ls entry told r
+      → r ≡ ruling.Blocked → IsRuling ls entry claimed r
   judged : (how : Judged) → has_sides ls entry ≡ true
       → are_free_ends ls (start_of entry) (goal_of entry) ≡ true
-      → IsJudgement (query_grid ls (start_of entry)) (start_of entry) (goal_of entry) told how
-      → r ≡ ruling.Judged how → IsRuling ls entry told r
+      → IsJudgement (query_grid ls (start_of entry)) (start_of entry) (goal_of entry) claimed how
+      → r ≡ ruling.Judged how → IsRuling ls entry claimed r
 
--- one row for each entry, by what is told of it
-abbrev pub AreRulings : Layers → List Entry → List Told → List Ruling → Type 0
+-- one row for each entry, by what is claimed of it
+abbrev pub AreRulings : Layers → List Entry → List Claimed → List Ruling → Type 0
 AreRulings ls entries walks rulings =
-    AreInTurn {S = Unit {0}} (λ _ both r. IsRuling ls both.0 both.1 r) (λ s _. s) tt (with_told entries walks)
+    AreInTurn {S = Unit {0}} (λ _ both r. IsRuling ls both.0 both.1 r) (λ s _. s) tt
+    (with_claims entries walks)
     rulings
 
 -- ` A B` of a cost
 abbrev pub pair_text : Cost → List ℕ
 pair_text cost = codes " " ++ decimal cost.a ++ codes " " ++ decimal cost.b
 
--- that a told walk is refused by its first bad point
+-- that a claimed walk is refused by its first bad point
 abbrev pub bad_text : ℕ → List ℕ
 bad_text bad = codes "refused walk " ++ decimal bad
 
--- how what is told is judged
+-- how what is claimed is judged
 abbrev pub judged_text : Judged → List ℕ
 judged_text NoWalk = codes "accepted none"
 judged_text (Least cost) = codes "accepted" ++ pair_text cost
@@ -73,13 +74,13 @@ abbrev pub ruling_lines : ℕ → List Ruling → List (List ℕ)
 ruling_lines number [] = []
 ruling_lines number (r ∷ rulings) = ruling_line number r ∷ ruling_lines (number + 1) rulings
 
--- what is told is accepted
+-- what is claimed is accepted
 abbrev pub is_accepted : Ruling → Bool
 is_accepted (ruling.Judged NoWalk) = true
 is_accepted (ruling.Judged (Least cost)) = true
 is_accepted _ = false
 
--- what is told is refused
+-- what is claimed is refused
 abbrev pub is_refused : Ruling → Bool
 is_refused (ruling.Judged (Exists least)) = true
 is_refused (ruling.Judged (BadWalk bad)) = true

@@ -1,14 +1,14 @@
 -- How the work on a call ends. No public clause cites this module.
 use Rattle.std.specs.Prelude.{◌≡◌, ℕ, ◌≤◌, ◌⊎◌, true, [], None, Some, Result}
 use Rattle.io_edge.specs.Causes.{Rose}
-use Rattle.io_edge.specs.Told.{Disk, Inflow, Outflow}
+use Rattle.io_edge.specs.Known.{Disk, Inflow, Outflow}
 use Rattle.word_list.specs.Request.{Call}
 use Rattle.call_files.specs.Files.{HasRefused, FileRose}
 use Rattle.jps_run.specs.Live.{WroteHeard, WrotePending, WroteSomeTaken, WroteLinesTaken}
 use Rattle.jps_run.specs.Calls.{files_of, reads_input}
 use Rattle.jps_run.specs.Outcome.{IsOutput}
 use Rattle.line_work.specs.Sending.{IsAll, IsPart, AreLines, Wrote}
-use Rattle.line_work.specs.Stops.{Stops, Ends}
+use Rattle.line_work.specs.Stops.{Stops, EndsOrStops}
 use Rattle.line_work.specs.declared.stop.Stop.{Stop}
 
 -- what is known where the work on a call stops
@@ -29,7 +29,7 @@ served_stops call disk disk_now input input_now out out_now = record {
 
 -- the work on a call came to a right output, or it stops
 abbrev pub HasServed : Call → Disk → Disk → Inflow → Inflow → Outflow → Outflow → Result ℕ Stop → Type 0
-HasServed call disk disk_now input input_now out out_now result = Ends
+HasServed call disk disk_now input input_now out out_now result = EndsOrStops
     (λ status. (status ≤ 1)
     × (IsAll (IsOutput call disk.holds) out out_now status
     ⊎ ((status ≡ 0) × WroteHeard call disk.holds out out_now input.left None)))

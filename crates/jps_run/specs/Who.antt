@@ -77,7 +77,7 @@ fewest_by (by_session engine) = fewest_of engine
 fewest_by by_boxes = 0
 fewest_by by_moves = 0
 
--- the most steps that are counted for a state that is taken, where this is told; of boxes and first moves it
+-- the most steps that are counted for a state that is taken, where this is known; of boxes and first moves it
 -- is not
 abbrev pub most_by : By → Option ℕ
 most_by (by_session engine) = most_of engine

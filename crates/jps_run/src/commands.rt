@@ -27,7 +27,7 @@ use crate::replies::Answers;
 use crate::texts::{help_text, version_text};
 use crate::work::Work;
 use boxes::boxes;
-use cell_lines::Ends;
+use cell_lines::AskedEnds;
 use check::check;
 use costs::costs;
 use draw::draw;
@@ -98,13 +98,13 @@ fn as_work(work: Result<Work, Stop>) -> Result<Opened, Stop>
 }
 
 /// The ends of a query that the words tell from the second one on.
-fn ends_of(request: Request<'_>) -> Ends
+fn ends_of(request: Request<'_>) -> AskedEnds
     ensures sx { result.sx ≡ number_at (map string_bytes request.entry.words.now) 1 }
     ensures sy { result.sy ≡ number_at (map string_bytes request.entry.words.now) 2 }
     ensures gx { result.gx ≡ number_at (map string_bytes request.entry.words.now) 3 }
     ensures gy { result.gy ≡ number_at (map string_bytes request.entry.words.now) 4 }
 {
-    Ends {
+    AskedEnds {
         sx: request.number(1),
         sy: request.number(2),
         gx: request.number(3),

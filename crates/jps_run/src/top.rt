@@ -48,7 +48,7 @@ fn serve<F: Files, I: Source, O: Sink, L: Ledger>(
 
 // Writes a line to `err`.
 fn tell<E: Sink>(err: &mut E, line: &[u8])
-    ensures told { Gets (E.outflow err.old)
+    ensures printed { Gets (E.outflow err.old)
         (E.outflow err.new) line.now }
     ensures later { (E.outflow err.old).faults ≤ (E.outflow err.new).faults }
 {
@@ -129,7 +129,7 @@ pub fn run<F: Files, I: Source, O: Sink, E: Sink, L: Ledger>(
     ensures unchanged { (F.disk files.new).holds ≡ (F.disk files.old).holds }
     // A call of `query`, `solve`, `live`, `scen`, `drill` or `draw` that comes to its end counts, for each
     // state that its searches took away from their goals, at least the fewest steps of its engine, and for
-    // each that they took no more than the most, where one is told; and for an edit no more than mending its
+    // each that they took no more than the most, where one is known; and for an edit no more than mending its
     // tables may take.
     ensures counted { result ≤ 1 → RoseAsCalled (map string_bytes words.now) (F.disk files.old).holds
         (I.inflow input.old).left steps.old steps.new }

@@ -8,13 +8,13 @@ use crate::replies::{
     Answers, Canvas, Judge, Scen, Summary, write_answers, write_drawing, write_rows, write_rulings,
     write_sums,
 };
-use cell_lines::Ends;
+use cell_lines::AskedEnds;
 use grid_answers::{CostLines, TableFile, write_costs, write_file};
 use io_edge::Sink;
 use line_work::{Stop, send_text};
 use scen_maker::{Lengths, write_lengths};
 use scen_text::Entry;
-use script_text::Command;
+use script_text::ScriptCommand;
 use std::alloc::Global;
 use std::sync::ledger::Ledger;
 use steps::Steps;
@@ -26,7 +26,7 @@ pub enum Work {
     /// The session answers the commands, a line each.
     Answer {
         job: Answers,
-        commands: Vec<Command>,
+        commands: Vec<ScriptCommand>,
     },
     /// The entries of a scenario are judged by the one who answers, a row each, and their sum.
     Scen {
@@ -46,17 +46,17 @@ pub enum Work {
     /// What the commands come to is summed up in one line.
     Drill {
         job: Summary,
-        commands: Vec<Command>,
+        commands: Vec<ScriptCommand>,
     },
     /// The session searches a query, and a picture of it and of the map is drawn.
     Draw {
         canvas: Canvas,
-        ends: Ends,
+        ends: AskedEnds,
         show: Show,
     },
-    /// The least costs from a cell are told.
+    /// The least costs from a cell are printed.
     Costs(CostLines),
-    /// The tables of a map are told as a table file.
+    /// The tables of a map are printed as a table file.
     Tables(TableFile),
     /// A text that was made whole, and the status.
     Print {

@@ -234,7 +234,7 @@ impl<'a> JumpSource for BlockJumps<'a> {
     fn stop<L: Ledger>(&self, at: Cell, d: Dir, goal: Cell, steps: &mut Steps<L>) -> Option<u16>
         requires { JumpsOnSome self.now.bits.now at goal }
         ensures first { JumpsOnEach self.now.bits.now at goal (λ g. IsFirstStop g goal at d result) }
-        ensures most { IsWithin None (λ told. told.stop) steps.old steps.new }
+        ensures most { IsWithin None (λ known. known.stop) steps.old steps.new }
         ensures straight { is_diagonal d ≡ false → JumpsOnEach self.now.bits.now at goal
             (λ g. steps.new ≤ steps.old + most_lanes (scanned g at d result)) }
         ensures fewest { steps.old + 3 ≤ steps.new }
@@ -249,7 +249,7 @@ impl<'a> JumpSource for BlockJumps<'a> {
         requires { (g : GridData) × AreBitsOf self.now.bits.now g × IsTrue (is_free g at) × CanArrive g at by }
         ensures rule { (g : GridData) → AreBitsOf self.now.bits.now g → IsTrue (is_free g at)
             → CanArrive g at by → result ≡ allowed_dirs g at by }
-        ensures most { IsWithin None (λ told. told.allowed) steps.old steps.new }
+        ensures most { IsWithin None (λ known. known.allowed) steps.old steps.new }
         ensures words { steps.new ≤ steps.old + 9 }
         ensures fewest { steps.old + 3 ≤ steps.new }
     {

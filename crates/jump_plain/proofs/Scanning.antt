@@ -161,7 +161,7 @@ module _ (g : GridData) (u : Cell) (d : Dir) (h : is_diagonal d ≡ false) (side
   reached_end e marked is = grind (arith, nat_tests, common_steps)
 
   module _ (v : Cell) (legal : legal_ahead g u d ≡ Some v) (sides_then : Sides)
-      (is : sides_then ≡ sides_of g v d) (read : Bool) (told : read ≡ opens sides sides_then) where
+      (is : sides_then ≡ sides_of g v d) (read : Bool) (given : read ≡ opens sides sides_then) where
     after_test : (b : Bool) → read ≡ b → all ≡ further moves (if b
         then record { moves = mark_ahead g.corner; marked = true }
         else further 1 (left_at g.corner g v d))

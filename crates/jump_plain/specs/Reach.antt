@@ -56,7 +56,7 @@ free_bits s = if s.right then (if s.left then 3 else 1) else if s.left then 2 el
 abbrev pub shut_bits : Sides → ℕ
 shut_bits s = 255 - free_bits s
 
--- the sides at the end of a diagonal move, in its component to that side, told which cells beside the next
+-- the sides at the end of a diagonal move, in its component to that side, given which cells beside the next
 -- move are free, where the cell passed by the move is free
 abbrev pub sides_passed : Sides → Side → Sides
 sides_passed c Right = record { right = true; left = c.left }

@@ -27,10 +27,10 @@ pub fn straight_ahead<T: Terrain>(t: &T, c: Cell, d: Dir) -> Option<Cell>
     straight_by(t, t.place(c), c, d)
 }
 
-// The same, told the cell's place.
+// The same, given the cell's place.
 #[inline(always)]
 pub(crate) fn straight_by<T: Terrain>(t: &T, place: usize, c: Cell, d: Dir) -> Option<Cell>
-    requires told { place ≡ T.place_of t.now c }
+    requires given { place ≡ T.place_of t.now c }
     requires straight { is_diagonal d ≡ false }
     requires free { is_free (T.grid t.now) c ≡ true }
     requires whole { IsGrid (T.grid t.now) }
@@ -54,10 +54,10 @@ impl Sides {
         Sides::by(t, t.place(c), c, d)
     }
 
-    // The same, told the cell's place.
+    // The same, given the cell's place.
     #[inline(always)]
     pub(crate) fn by<T: Terrain>(t: &T, place: usize, c: Cell, d: Dir) -> Sides
-        requires told { place ≡ T.place_of t.now c }
+        requires given { place ≡ T.place_of t.now c }
         requires free { is_free (T.grid t.now) c ≡ true }
         ensures { result ≡ spec.sides_of (T.grid t.now) c d }
     {
@@ -78,10 +78,10 @@ impl Sides {
         Sides::ahead_by(t, t.place(c), c, d)
     }
 
-    // The same, told the cell's place.
+    // The same, given the cell's place.
     #[inline(always)]
     pub(crate) fn ahead_by<T: Terrain>(t: &T, place: usize, c: Cell, d: Dir) -> Sides
-        requires told { place ≡ T.place_of t.now c }
+        requires given { place ≡ T.place_of t.now c }
         requires free { is_free (T.grid t.now) c ≡ true }
         ensures { result ≡ spec.sides_ahead (T.grid t.now) c d }
     {

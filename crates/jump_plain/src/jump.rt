@@ -30,7 +30,7 @@ pub fn moves_to(d: Dir, from: Cell, to: Cell) -> u16
     }
 }
 
-// The first stop of a straight jump, told how far the scan reaches and where the goal lies: the goal where
+// The first stop of a straight jump, given how far the scan reaches and where the goal lies: the goal where
 // the run reaches it, else the mark.
 #[inline(always)]
 fn stop_of(reach: Reach, to_goal: u16) -> Option<u16>
@@ -58,7 +58,7 @@ fn straight_stop<T: Terrain>(t: &T, at: Cell, d: Dir, goal: Cell) -> Option<u16>
     stop_of(reach, to_goal)
 }
 
-// The sides with which a scan begins at the end of a diagonal move, in the component to this side, told the
+// The sides with which a scan begins at the end of a diagonal move, in the component to this side, given the
 // cells ahead of that end. The other component's is a side of the run. Where no corner is cut, the
 // side half behind was passed by the move, and is free.
 #[inline(always)]
@@ -92,7 +92,7 @@ pub struct Next {
 // Whether a diagonal move is legal: it passes, and the cell that it leads to is free.
 #[inline(always)]
 fn leads_on<T: Terrain>(t: &T, passes: bool, place: usize, at: Cell, d: Dir) -> bool
-    requires told { place ≡ T.place_of t.now at }
+    requires given { place ≡ T.place_of t.now at }
     requires free { is_free (T.grid t.now) at ≡ true }
     ensures { result ≡ (is_open (T.grid t.now) at d && passes) }
 {
@@ -120,10 +120,10 @@ pub fn diagonal_ahead<T: Terrain>(t: &T, at: Cell, d: Dir, beside: Sides) -> Opt
     diagonal_by(t, t.place(at), at, d, beside)
 }
 
-// The same, told the cell's place.
+// The same, given the cell's place.
 #[inline(always)]
 fn diagonal_by<T: Terrain>(t: &T, place: usize, at: Cell, d: Dir, beside: Sides) -> Option<Next>
-    requires told { place ≡ T.place_of t.now at }
+    requires given { place ≡ T.place_of t.now at }
     requires diagonal { is_diagonal d ≡ true }
     requires free { is_free (T.grid t.now) at ≡ true }
     requires whole { IsGrid (T.grid t.now) }
@@ -179,11 +179,11 @@ fn finds_on_line<T: Terrain>(t: &T, at: Cell, d: Dir, goal: Cell) -> bool
     straight_stop(t, at, d, goal).is_some()
 }
 
-// Whether a straight jump finds a stop, told the cell's place and the sides that its scan begins with: a mark,
-// or else the goal, which can lie on its line alone.
+// Whether a straight jump finds a stop, given the cell's place and the sides that its scan begins with: a
+// mark, or else the goal, which can lie on its line alone.
 #[inline(always)]
 fn finds_stop<T: Terrain>(t: &T, place: usize, at: Cell, d: Dir, goal: Cell, sides: Sides) -> bool
-    requires told { place ≡ T.place_of t.now at }
+    requires given { place ≡ T.place_of t.now at }
     requires straight { is_diagonal d ≡ false }
     requires free { is_free (T.grid t.now) at ≡ true }
     requires whole { IsGrid (T.grid t.now) }
@@ -199,11 +199,11 @@ fn finds_stop<T: Terrain>(t: &T, place: usize, at: Cell, d: Dir, goal: Cell, sid
     false
 }
 
-// Whether a diagonal jump stops at a cell, told its place and which cells ahead of it are free: it is the goal,
-// or a neighbour is forced there, or a straight jump in a component finds a stop.
+// Whether a diagonal jump stops at a cell, given its place and which cells ahead of it are free: it is the
+// goal, or a neighbour is forced there, or a straight jump in a component finds a stop.
 #[inline(always)]
 fn stops_at<T: Terrain>(t: &T, place: usize, next: Next, d: Dir, goal: Cell, beside: Sides) -> bool
-    requires told { place ≡ T.place_of t.now next.cell }
+    requires given { place ≡ T.place_of t.now next.cell }
     requires diagonal { is_diagonal d ≡ true }
     requires free { is_free (T.grid t.now) next.cell ≡ true }
     requires whole { IsGrid (T.grid t.now) }

@@ -67,7 +67,7 @@ fn free_bits(sides: Sides) -> u8
     u8::from(sides.right) | (u8::from(sides.left) << 1)
 }
 
-// Which are not, told which are.
+// Which are not, given which are.
 #[inline(always)]
 fn shut_bits(free: u8) -> u8
     ensures { result ≡ 255 - free }
@@ -84,8 +84,8 @@ fn opens(shut: u8, free: u8) -> bool
     free & shut != 0
 }
 
-// Whether the last cell of a run, told which sides are shut there, has a mark, which lies between two blocked
-// cells.
+// Whether the last cell of a run, given which sides are shut there, has a mark, which lies between two
+// blocked cells.
 #[inline(always)]
 fn ends_marked<T: Terrain>(t: &T, at: Cell, d: Dir, shut: u8) -> bool
     requires free { is_free (T.grid t.now) at ≡ true }
@@ -96,11 +96,11 @@ fn ends_marked<T: Terrain>(t: &T, at: Cell, d: Dir, shut: u8) -> bool
     may_slip(t.corner()) && opens(shut, free_bits(Sides::ahead(t, at, d)))
 }
 
-/// Scans along the legal run from a free cell in a straight direction, told its place and the sides to begin
+/// Scans along the legal run from a free cell in a straight direction, given its place and the sides to begin
 /// with: to the first cell with a forced neighbour, or else to the run's end. The cell itself is not looked at.
 #[inline(always)]
 pub fn scan_with<T: Terrain>(t: &T, place: usize, at: Cell, d: Dir, sides: Sides) -> Reach
-    requires told { place ≡ T.place_of t.now at }
+    requires given { place ≡ T.place_of t.now at }
     requires straight { is_diagonal d ≡ false }
     requires free { is_free (T.grid t.now) at ≡ true }
     requires whole { IsGrid (T.grid t.now) }

@@ -2,7 +2,7 @@
 use Rattle.std.proofs.Common.{refl, List, [], ◌∷◌, ℕ, suc, ◌≤◌, ◌<◌, ◌≡◌, length, take, arith}
 use Rattle.std.specs.Prelude.{Result, IsErrAnd}
 use Rattle.std.specs.List.{concat}
-use Rattle.io_edge.specs.Told.{Outflow}
+use Rattle.io_edge.specs.Known.{Outflow}
 use Rattle.line_work.specs.Sending.{HasHead, IsAll, SendsWhole, Wrote, WroteSome, work_stops, write_stops}
 use Rattle.line_work.specs.Stops.{StopsSo}
 use Rattle.line_work.specs.Working.{Completes}

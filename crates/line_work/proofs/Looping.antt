@@ -5,10 +5,10 @@ use Rattle.std.proofs.Common.{◌<◌, ◌≤◌, ◌⊎◌, inl, inr, Bool, tru
 use Rattle.std.specs.Prelude.{◌≢◌, Result, IsErrAnd}
 use Rattle.std.proofs.Math.Seq.{take-suc}
 use Rattle.std.proofs.lemmas.List.{take_all, take-append-drop, append-nil}
-use Rattle.io_edge.specs.Told.{Outflow}
+use Rattle.io_edge.specs.Known.{Outflow}
 use Rattle.line_work.specs.Sending.{Wrote, WroteSome, IsAll, SendsWhole, AreSent, AreLines, Sends, work_stops}
 use Rattle.line_work.specs.Sending.{write_stops}
-use Rattle.line_work.specs.Stops.{StopsSo, Ends}
+use Rattle.line_work.specs.Stops.{StopsSo, EndsOrStops}
 use Rattle.line_work.specs.Working.{Adds, CanComplete, Completes, CountsMore, HaveWorked, IsLeft, IsWorking}
 use Rattle.line_work.specs.declared.stop.Stop.{Stop}
 use Rattle.line_work.specs.declared.stop.Stop.TheVariants as stop
@@ -101,7 +101,7 @@ module _ {Job Item : Type 0} (Worked : Job → Job → List Item → List (List 
       (waiting : List ℕ)
       → place < length more → IsWorking (Worked first job) (earlier ++ take place more) before now waiting
       → (result : Result X Stop) → IsErrAnd result (λ s. s ≡ stop.Memory)
-      → Ends Done (work_stops (Whole first (earlier ++ (more ++ others))) before now) result
+      → EndsOrStops Done (work_stops (Whole first (earlier ++ (more ++ others))) before now) result
   working-starved Done job place now waiting h w result m =
       passed Done (no_stops (AreLines (Whole first (earlier ++ (more ++ others))) before now)) _ result
       stop.Memory m
@@ -115,7 +115,7 @@ module _ {Job Item : Type 0} (Worked : Job → Job → List Item → List (List 
       (waiting : List ℕ) → IsWorking (Worked first job) (earlier ++ take place more) before mid waiting
       → (result : Result X Stop) (stop : Stop) → StopsSo (write_stops (WroteSome mid now waiting)) stop
       → IsErrAnd result (λ s. s ≡ stop)
-      → Ends Done (work_stops (Whole first (earlier ++ (more ++ others))) before now) result
+      → EndsOrStops Done (work_stops (Whole first (earlier ++ (more ++ others))) before now) result
   working-unwritten Done job place mid now waiting w result stop k m =
       passed Done (write_stops (WroteSome mid now waiting)) _ result stop m k
       (only_write (part-sent before (Whole first (earlier ++ (more ++ others)))
@@ -127,7 +127,7 @@ module _ {Job Item : Type 0} (Worked : Job → Job → List Item → List (List 
       → length more ≤ place → IsWorking (Worked first job) (earlier ++ take place more) before mid waiting
       → bytes ≡ waiting → mid.faults ≤ now.faults → (result : Result (Unit {0}) Stop)
       → Sends mid now bytes result
-      → Ends (λ done. HaveWorked Worked first job (earlier ++ more) before now)
+      → EndsOrStops (λ done. HaveWorked Worked first job (earlier ++ more) before now)
       (work_stops (Whole first (earlier ++ (more ++ others))) before now) result
   working-done job place mid now waiting bytes h w e l result s =
       ends-on (λ done. Wrote mid now bytes) _ (write_stops (WroteSome mid now bytes)) _ result
@@ -154,7 +154,7 @@ module _ {Job Item : Type 0} (Worked : Job → Job → List Item → List (List 
   -- the work on all items stopped
   pub worked-stops : {X : Type 0} (Done : X → Type 0) (now : Outflow) (result : Result X Stop)
       (stop : Stop) → StopsSo (work_stops (Whole first ([] ++ (items ++ []))) before now) stop
-      → IsErrAnd result (λ s. s ≡ stop) → Ends Done (work_stops (Whole first items) before now) result
+      → IsErrAnd result (λ s. s ≡ stop) → EndsOrStops Done (work_stops (Whole first items) before now) result
   worked-stops Done now result stop k m = grind (arith, passed, append-nil)
 
   -- memory was refused before the line that closes the output

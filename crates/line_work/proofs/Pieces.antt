@@ -9,7 +9,7 @@ use Rattle.std.proofs.lemmas.List.{append-nil, take-append-le}
 use Rattle.std.proofs.lemmas.List.Folds.{concat-append}
 use Rattle.io_edge.specs.Causes.{Rose}
 use Rattle.io_edge.specs.Whole.{AppendsSome}
-use Rattle.io_edge.specs.Told.{Outflow}
+use Rattle.io_edge.specs.Known.{Outflow}
 use Rattle.line_work.specs.Sending.{Wrote, WroteSome, AreSent, IsPart, AreLines}
 use Rattle.line_work.specs.Working.{Completes}
 

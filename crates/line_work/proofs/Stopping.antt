@@ -4,7 +4,7 @@ use Rattle.std.proofs.lemmas.Bool.Decides.{nat_tests}
 use Rattle.std.proofs.Common.{◌≡◌, List, ℕ}
 use Rattle.std.specs.Prelude.{Result, IsErrAnd, OnOk}
 use Rattle.line_work.specs.Sending.{write_stops}
-use Rattle.line_work.specs.Stops.{Stops, StopsSo, Ends}
+use Rattle.line_work.specs.Stops.{Stops, StopsSo, EndsOrStops}
 use Rattle.line_work.specs.declared.stop.Stop.{Stop}
 
 -- what is known at each stop follows from what was known there before
@@ -20,12 +20,14 @@ if_ok result h = grind (arith, nat_tests)
 
 -- an error that is passed on
 pub passed : {X : Type 0} (Done : X → Type 0) (known later : Stops) (result : Result X Stop) (stop : Stop)
-    → IsErrAnd result (λ s. s ≡ stop) → StopsSo known stop → Follow known later → Ends Done later result
+    → IsErrAnd result (λ s. s ≡ stop) → StopsSo known stop → Follow known later
+    → EndsOrStops Done later result
 passed Done known later result stop h i j = grind (arith, nat_tests)
 
 -- what was done, or is known at a stop, says more
 pub ends-on : {X : Type 0} (Done Later : X → Type 0) (known later : Stops) (result : Result X Stop)
-    → ((x : X) → Done x → Later x) → Follow known later → Ends Done known result → Ends Later later result
+    → ((x : X) → Done x → Later x) → Follow known later → EndsOrStops Done known result
+    → EndsOrStops Later later result
 ends-on Done Later known later result h i j = grind (arith, nat_tests)
 
 -- nothing but want of memory

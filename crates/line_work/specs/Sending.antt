@@ -4,8 +4,8 @@ use Rattle.std.specs.List.{concat}
 use Rattle.std.specs.Io.KnownBytes.{Appends}
 use Rattle.io_edge.specs.Causes.{Rose}
 use Rattle.io_edge.specs.Whole.{AppendsSome}
-use Rattle.io_edge.specs.Told.{Outflow}
-use Rattle.line_work.specs.Stops.{Stops, Ends}
+use Rattle.io_edge.specs.Known.{Outflow}
+use Rattle.line_work.specs.Stops.{Stops, EndsOrStops}
 use Rattle.line_work.specs.declared.stop.Stop.{Stop}
 
 -- all these bytes were written
@@ -23,11 +23,11 @@ write_stops Write = record { Refused = λ line. ⊥; Read = ⊥; Write = Write; 
 -- the bytes were written, or a first part of them
 abbrev pub Sends : Outflow → Outflow → List ℕ → Result (Unit {0}) Stop → Type 0
 Sends before now bytes result =
-    Ends (λ done. Wrote before now bytes) (write_stops (WroteSome before now bytes)) result
+    EndsOrStops (λ done. Wrote before now bytes) (write_stops (WroteSome before now bytes)) result
 
 -- what waited was written whole, or waits on
 abbrev pub SendsFull : Outflow → Outflow → List ℕ → List ℕ → Result (Unit {0}) Stop → Type 0
-SendsFull before now waiting waiting_now result = Ends
+SendsFull before now waiting waiting_now result = EndsOrStops
     (λ done. (Wrote before now waiting × (waiting_now ≡ []))
     ⊎ (Wrote before now [] × (waiting_now ≡ waiting)))
     (write_stops (WroteSome before now waiting)) result
@@ -75,7 +75,7 @@ work_stops Whole before now = record {
 
 -- a whole output was written, or it stops
 abbrev pub SendsWhole : (List (List ℕ) → ℕ → Type 0) → Outflow → Outflow → Result ℕ Stop → Type 0
-SendsWhole Whole before now result = Ends (IsAll Whole before now) (work_stops Whole before now) result
+SendsWhole Whole before now result = EndsOrStops (IsAll Whole before now) (work_stops Whole before now) result
 
 -- a line stands before a whole output
 pub record HasHead (head : List ℕ) (Whole : List (List ℕ) → ℕ → Type 0) (lines : List (List ℕ))

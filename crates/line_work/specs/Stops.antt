@@ -19,6 +19,6 @@ StopsSo known stop.Write = known.Write
 StopsSo known stop.Memory = known.Memory
 
 -- a call came to its end, or it stopped
-abbrev pub Ends : {X : Type 0} → (X → Type 0) → Stops → Result X Stop → Type 0
-Ends Done known (Ok x) = Done x
-Ends Done known (Err stop) = StopsSo known stop
+abbrev pub EndsOrStops : {X : Type 0} → (X → Type 0) → Stops → Result X Stop → Type 0
+EndsOrStops Done known (Ok x) = Done x
+EndsOrStops Done known (Err stop) = StopsSo known stop

@@ -1,9 +1,9 @@
 -- How far the work on items has come.
 use Rattle.std.specs.Prelude.{◌≡◌, ◌≢◌, ℕ, ◌+◌, ◌≤◌, ◌⊎◌, Bool, true, List, [], ◌++◌, Result}
 use Rattle.std.specs.List.{concat}
-use Rattle.io_edge.specs.Told.{Outflow}
+use Rattle.io_edge.specs.Known.{Outflow}
 use Rattle.line_work.specs.Sending.{AreSent, Wrote, work_stops}
-use Rattle.line_work.specs.Stops.{Ends}
+use Rattle.line_work.specs.Stops.{EndsOrStops}
 use Rattle.line_work.specs.declared.stop.Stop.{Stop}
 
 -- more lines were appended to the bytes, with which the lines stand so
@@ -66,7 +66,7 @@ abbrev pub WorksMore : {Job Item : Type 0} → (Job → Job → List Item → Li
 WorksMore {Job} {Item} Worked Whole old new more at now result =
     (first : Job) (earlier others : List Item) (before : Outflow)
     → HaveWorked Worked first old earlier before at
-    → Ends (λ done. HaveWorked Worked first new (earlier ++ more) before now)
+    → EndsOrStops (λ done. HaveWorked Worked first new (earlier ++ more) before now)
     (work_stops (Whole first (earlier ++ (more ++ others))) before now) result
 
 -- what is counted for items holds with these too, behind any that were before

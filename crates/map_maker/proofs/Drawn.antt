@@ -7,7 +7,7 @@ use Rattle.std.proofs.lemmas.List.{append_assoc, append-nil, length-map}
 use Rattle.std.specs.List.{list_all}
 use Rattle.rand_pcg.specs.Lcg.{Lcg}
 use Rattle.rand_pcg.specs.Pcg.{pcg32}
-use Rattle.script_text.specs.declared.command.Command.{Command}
+use Rattle.script_text.specs.declared.command.ScriptCommand.{ScriptCommand}
 use Rattle.map_text.specs.Map.{IsMap, is_terrain}
 use Rattle.map_maker.specs.Words.{generator_of, words_from, after_words}
 use Rattle.map_maker.specs.Making.{cell_of}
@@ -62,17 +62,18 @@ own_words number m g =
     ]
 
 -- so many commands of the words that they need
-pub drawn_from : ℕ → ℕ → Lcg → List Command
+pub drawn_from : ℕ → ℕ → Lcg → List ScriptCommand
 drawn_from number count g = commands_of number count (words_from (words_needed number count) g)
 
 -- the commands drawn and those of the words left are the commands of all words
-pub record AreCommands (count : ℕ) (start : Lcg) (done : ℕ) (commands : List Command) (g : Lcg) : Type 0 where
+pub record AreCommands (count : ℕ) (start : Lcg) (done : ℕ) (commands : List ScriptCommand) (g : Lcg)
+    : Type 0 where
   pub all : commands ++ drawn_from (done + 1) (count - done) g ≡ drawn_from 1 count start
 
 module _ (count : ℕ) (start : Lcg) where
-  module _ (done : ℕ) (commands : List Command) (g : Lcg)
+  module _ (done : ℕ) (commands : List ScriptCommand) (g : Lcg)
       (are : AreCommands count start done commands g) where
-    pub command_more : (command : Command) (new : Lcg) → Draws (done + 1) g command new → done < count
+    pub command_more : (command : ScriptCommand) (new : Lcg) → Draws (done + 1) g command new → done < count
         → AreCommands count start (done + 1) (commands ++ command ∷ []) new
     unfolding drawn_from commands_of words_needed
     command_more command new draws more =
@@ -86,7 +87,7 @@ module _ (count : ℕ) (start : Lcg) where
         ap (words_from needed) draws.left ∙ sym (words_later (words_in (done + 1)) needed g) in
         record {
           all = append_assoc commands (command ∷ []) (drawn_from (done + 1 + 1) left new)
-              ∙ ap (λ (first : Command). commands ++ first ∷ drawn_from (done + 1 + 1) left new) made
+              ∙ ap (λ (first : ScriptCommand). commands ++ first ∷ drawn_from (done + 1 + 1) left new) made
               ∙ ap (λ (rest : List ℕ). commands ++ command_of (done + 1) words ∷
               commands_of (done + 1 + 1) left rest) others
               ∙ ap (λ (n : ℕ). commands ++ drawn_from (done + 1) n g) (sym some) ∙ are.all;

@@ -4,7 +4,7 @@ use Rattle.rand_core.specs.Pcg32Seed.{pcg32_seed}
 use Rattle.rand_core.specs.Steps.{u32_at, word_bytes}
 use Rattle.rand_pcg.specs.Lcg.{started, increment_of}
 use Rattle.rand_pcg.specs.Pcg.{multiplier_64}
-use Rattle.script_text.specs.declared.command.Command.TheVariants.{Block, Free, Query}
+use Rattle.script_text.specs.declared.command.ScriptCommand.TheVariants.{Block, Free, Query}
 use Rattle.map_maker.specs.Words.{words_from, words_of}
 use Rattle.map_maker.specs.Making.{made_map}
 use Rattle.map_maker.specs.Drill.{commands_of}

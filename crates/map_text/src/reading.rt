@@ -8,7 +8,7 @@ ghost use Rattle.map_text.specs.declared.fault.MapFault.TheVariants.{NoMemory};
 ghost use Rattle.map_text.specs.Map.{is_terrain as terrain};
 ghost use Rattle.map_text.specs.Spelling.{Spells};
 ghost use Rattle.map_text.specs.Faults as spec;
-ghost use Rattle.map_text.specs.Faults.{bytes_of, side_on as told_side, side_fault, row_fault};
+ghost use Rattle.map_text.specs.Faults.{bytes_of, side_on as named_side, side_fault, row_fault};
 ghost use Rattle.map_text.specs.Faults.{map_of, BreaksFirst, Tells, plain};
 ghost use Rattle.map_text.specs.Progress.{StandsAfterHeader};
 
@@ -95,7 +95,7 @@ fn has_words(line: Option<Line<'_>>, words: &[&[u8]]) -> bool
 
 /// The side that the line with this number names, if it is one of a map.
 fn side(line: Option<Line<'_>>, word: &[u8], number: u32) -> Result<u16, MapFault>
-    ensures { let named = told_side word.now (bytes_of line.entry) in
+    ensures { let named = named_side word.now (bytes_of line.entry) in
         Judges result (side_fault number named) (λ side. named ≡ Some side) }
 {
     match side_on(line, word) {
@@ -107,7 +107,7 @@ fn side(line: Option<Line<'_>>, word: &[u8], number: u32) -> Result<u16, MapFaul
 
 /// The side that a line names, whatever its size: its fields are the word and the side.
 fn side_on(line: Option<Line<'_>>, word: &[u8]) -> Option<u32>
-    ensures { result ≡ told_side word.now (bytes_of line.entry) }
+    ensures { result ≡ named_side word.now (bytes_of line.entry) }
 {
     let mut fields = Fields::of(line?.bytes);
     if fields.next()? != word {

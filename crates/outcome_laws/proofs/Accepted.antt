@@ -4,7 +4,7 @@ use Rattle.std.proofs.Common.{length, append-nil}
 use Rattle.std.specs.Prelude.{Option, Some, None, Result, Ok, Err, if◌then◌else◌}
 use Rattle.grid_moves.specs.declared.Cell.{Cell}
 use Rattle.grid_moves.specs.Layers.{Layers, query_grid}
-use Rattle.io_edge.specs.Told.{Held, absent, holding, untold}
+use Rattle.io_edge.specs.Known.{Held, absent, holding, unknown}
 use Rattle.io_edge.specs.Whole.{IsWhole}
 use Rattle.map_text.specs.Map.{Map}
 use Rattle.map_text.specs.Faults.{map_of}
@@ -28,7 +28,7 @@ use Rattle.call_files.specs.Kinds.{count_in, fault_in, kind_for, limit_of, refus
 use Rattle.call_files.specs.Layered.{layers_on}
 use Rattle.call_files.specs.MapFiles.{map_files}
 use Rattle.call_files.specs.declared.kind.Extent.TheVariants as extent
-use Rattle.call_files.specs.declared.kind.Kind.TheVariants as kind
+use Rattle.call_files.specs.declared.kind.TextKind.TheVariants as kind
 use Rattle.jps_run.specs.Calls.{Task, cell_at, task}
 use Rattle.jps_run.specs.Lines.{reply_line}
 use Rattle.jps_run.specs.Parts.{OnLast, OnMap, Prints, Says}
@@ -193,7 +193,7 @@ module _ (holds : List ℕ → Held) (set : Settings) where
 
 -- a text of a file is no longer than the limit of its kind
 within : (held : Held) (limit : ℕ) (text : List ℕ) → IsWhole held limit text → length text ≤ limit
-within untold limit text w = w
+within unknown limit text w = w
 within absent limit text w = absurd w
 within (holding bytes) limit text w = w.1
 
@@ -271,9 +271,9 @@ module _ (holds : List ℕ → Held) (set : Settings) (words : List (List ℕ)) 
   judge_has (text ∷ second ∷ third ∷ []) p =
       let m = read_of map_line (map_of text) p.0.1 in
       let entries = read_of scen_line (scen_of second) p.1.0.1 in
-      let told = read_of walks_line (walks_of third (length entries.0))
+      let claimed = read_of walks_line (walks_of third (length entries.0))
       (subst (λ (n : ℕ). fault_in walks_line (walks_of third n) ≡ None) (ap count_in entries.1) p.1.1.0.1) in
-      let all = rulings_exist (layers_on set m.0) entries.0 told.0 in (
+      let all = rulings_exist (layers_on set m.0) entries.0 claimed.0 in (
         judge_lines all.0,
         judge_status all.0,
         record {
@@ -290,8 +290,8 @@ module _ (holds : List ℕ → Held) (set : Settings) (words : List (List ℕ)) 
               value = entries.0;
               is = entries.1;
               known = record {
-                value = told.0;
-                is = told.1;
+                value = claimed.0;
+                is = claimed.1;
                 known = record { from = all.0; all = refl; code = refl; known = all.1 };
               };
             },

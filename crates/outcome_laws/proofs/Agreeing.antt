@@ -26,7 +26,7 @@ use Rattle.edit_replay.specs.Replies.{answer_of}
 use Rattle.edit_replay.specs.declared.reply.Reply.{Reply}
 use Rattle.edit_replay.specs.declared.reply.Reply.TheVariants as reply
 use Rattle.problem_maker.specs.declared.sorting.Problem.{Problem}
-use Rattle.problem_maker.specs.declared.tries.Ends.{Ends}
+use Rattle.problem_maker.specs.declared.tries.ProblemEnds.{ProblemEnds}
 use Rattle.scen_lines.specs.declared.line.Problem as lines
 use Rattle.scen_lines.specs.Laws.{AreReadable, IsReadable, Named, entries_from, entries_of, entry_at, line_of}
 use Rattle.scen_lines.specs.Laws.{lines_of, scenario_of}
@@ -222,9 +222,9 @@ module _ (ls : Layers) (are : AreLayers ls) where
   row_agrees who same n is number place r (scale other e) =
       not_both (has_sides ls (entry_at number place n)) (sized n is number place)
       (subst (λ (l : Layers). has_sides l (entry_at number place n) ≡ false) same other)
-  row_agrees who same n is number place r (replied told sides by e) =
-      ap is_agree e ∙ agreed_by n is told
-      (subst (λ (l : Layers). IsRight l (from_of n) (to_of n) (answer_of told)) same by.right)
+  row_agrees who same n is number place r (replied given sides by e) =
+      ap is_agree e ∙ agreed_by n is given
+      (subst (λ (l : Layers). IsRight l (from_of n) (to_of n) (answer_of given)) same by.right)
 
   rows_agree : (who : Who) → who.layers ≡ ls → (named : List Named) → AreCosted ls named
       → (number place : ℕ) (rows : List Row) → AreRows who (entries_from number place named) rows
@@ -324,14 +324,14 @@ module _ (ls : Layers) (are : AreLayers ls) where
     one_entry entry line settled.Blocked stands is none below others = without_line below line none others
     one_entry entry line (settled.Searched from to None) stands is none below others =
         without_line below line none others
-    one_entry entry line (settled.Searched from to (Some cost)) stands is told below others =
+    one_entry entry line (settled.Searched from to (Some cost)) stands is given below others =
         let sides = and_both (nat_eq entry.w ls.land.width) (nat_eq entry.h ls.land.height) is.sides in
         let w : entry.w ≡ ls.land.width = grind (arith, nat_tests, sides.0) in
         let h : entry.h ≡ ls.land.height = grind (arith, nat_tests, sides.1) in
         let n = costed (bytes_at text entry.name) (problem_of entry) cost line stands.is w h
         (subst (λ (s : Cell). IsLeastCost (query_grid ls s) s (record { x = entry.gx; y = entry.gy }) cost)
         is.start (subst (λ (t : Cell). IsLeastCost (query_grid ls from) from t cost) is.goal is.least))
-        told in
+        given in
         with_line below line n.0 n.1 n.2 others
 
     entries_below : (entries : List Entry) (below : List (List ℕ)) → AreLengthLines ls text entries below
@@ -348,7 +348,8 @@ module _ (ls : Layers) (are : AreLayers ls) where
   abbrev HasLeast : Problem → Type 0
   HasLeast p = IsLeastCost (query_grid ls p.start) p.start p.goal p.cost
 
-  priced_have : (kept : List Ends) (priced : List Problem) → ArePriced ls kept priced → All HasLeast priced
+  priced_have : (kept : List ProblemEnds) (priced : List Problem) → ArePriced ls kept priced
+      → All HasLeast priced
   priced_have [] [] t = λ k d below. absurd (omega arith)
   priced_have [] (p ∷ priced) t = absurd t
   priced_have (ends ∷ kept) [] t = absurd t
@@ -380,7 +381,7 @@ module _ (ls : Layers) (are : AreLayers ls) where
       (ap is_line t.0.is ∙ line_there (record { name = name; listed = t.0.listed }))
       (many_lines name problems below t.1)
 
-  many_priced : (kept : List Ends) (priced : List Problem) → ArePriced ls kept priced
+  many_priced : (kept : List ProblemEnds) (priced : List Problem) → ArePriced ls kept priced
       → length priced ≡ length kept
   many_priced [] [] t = refl
   many_priced [] (p ∷ priced) t = absurd t

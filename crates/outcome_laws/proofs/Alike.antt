@@ -127,11 +127,12 @@ module _ (set like : Settings) (words : List (List ℕ)) (tables : Option (List 
       let e : a.0 ∷ a.1 ∷ [] ≡ b.0 ∷ b.1 ∷ [] = sym a.2 ∙ b.2 in
       let second : a.0 ≡ b.0 = same_first a.0 b.0 (a.1 ∷ []) (b.1 ∷ []) e in
       let third : a.1 ≡ b.1 = same_first a.1 b.1 [] [] (same_others a.0 b.0 (a.1 ∷ []) (b.1 ∷ []) e) in
-      let also : Reads (scen_of a.0) (λ entries. Reads (walks_of a.1 (length entries)) (λ told.
-      MadeOf same code judge_lines judge_status (AreRulings (layers_on set m) entries told))) =
+      let also : Reads (scen_of a.0) (λ entries. Reads (walks_of a.1 (length entries)) (λ claimed.
+      MadeOf same code judge_lines judge_status (AreRulings (layers_on set m) entries claimed))) =
       rw (second, third) b.3 in
-      on_value a.3 also (λ entries c d. on_value c d (λ told k l. made_one k l
-      (rulings.one_list (layers_on set m) entries told k.from l.from (are_layers-text set text m read) k.known
+      on_value a.3 also (λ entries c d. on_value c d (λ claimed k l. made_one k l
+      (rulings.one_list (layers_on set m) entries claimed k.from l.from
+      (are_layers-text set text m read) k.known
       l.known))))
 
   -- where costs alone are asked for, whatever the engines

@@ -9,21 +9,21 @@ use Rattle.grid_moves.specs.declared.Dir.TheVariants as dir
 use Rattle.grid_moves.specs.Grid.{GridData, is_free}
 use Rattle.grid_moves.specs.Layers.{Layers, query_grid}
 use Rattle.grid_moves.specs.Move.{all_dirs}
-use Rattle.walk_judge.specs.declared.telling.Told.{Told}
+use Rattle.walk_judge.specs.declared.telling.Claimed.{Claimed}
 use Rattle.goal_boxes.specs.declared.around.CellBoxes.{CellBoxes}
 use Rattle.goal_boxes.specs.declared.area.Area.{Area}
 use Rattle.goal_boxes.specs.Box.{AreBoxes, IsBox}
-use Rattle.goal_boxes.proofs.Existing.{all_boxes, all_told}
+use Rattle.goal_boxes.proofs.Existing.{all_boxes, all_right}
 use Rattle.edit_replay.specs.Session.{SessionData}
 use Rattle.edit_replay.specs.declared.reply.Reply.{Reply}
-use Rattle.script_text.specs.declared.command.Command.{Command}
+use Rattle.script_text.specs.declared.command.ScriptCommand.{ScriptCommand}
 use Rattle.scen_text.specs.declared.entry.Entry.{Entry}
 use Rattle.scen_lines.specs.Line.{version_line}
 use Rattle.word_list.specs.declared.request.Show.{Show}
 use Rattle.line_work.proofs.Turns.{turns-all}
 use Rattle.grid_answers.specs.BoxLines.{IsBoxText, boxes_text}
 use Rattle.grid_answers.specs.Distances.{AreCostLines, AreCosts, IsCostLine, costs_line, none, more}
-use Rattle.outcome_laws.proofs.OfCell.{told_exists}
+use Rattle.outcome_laws.proofs.OfCell.{answer_exists}
 use Rattle.scen_maker.specs.Lengths.{AreLengths, IsLengthLine, lengths_status}
 use Rattle.scen_maker.specs.Settling.{has_sides}
 use Rattle.scen_maker.proofs.Searching.{settled_exists}
@@ -31,7 +31,7 @@ use Rattle.scen_maker.proofs.Listed.{has_line}
 use Rattle.jps_run.specs.Answers.{AnswersAfter, AreAnswers, edits_with}
 use Rattle.jps_run.specs.Drill.{AreFindings, FindsAfter}
 use Rattle.jps_run.specs.Rows.{AreRows, IsRow, row_of, scale, replied}
-use Rattle.jps_run.specs.Rulings.{AreRulings, IsRuling, with_told}
+use Rattle.jps_run.specs.Rulings.{AreRulings, IsRuling, with_claims}
 use Rattle.jps_run.specs.Who.{IsReplyBy, Who}
 use Rattle.jps_run.specs.declared.replies.findings.Finding.{Finding}
 use Rattle.jps_run.specs.declared.replies.row.Row.{Row}
@@ -65,7 +65,7 @@ module _ (g : GridData) (s : Cell) (free : is_free g s ≡ true) where
       let line = line_at n in (rest.0 ++ line.0 ∷ [], more n rest.0 line.0 rest.1 line.1)
 
 pub costs_exist : (ls : Layers) (s : Cell) → (lines : List (List ℕ)) × AreCosts ls s lines
-costs_exist ls s = told_exists ls s (λ line. line ∷ [])
+costs_exist ls s = answer_exists ls s (λ line. line ∷ [])
     (λ free. lines_to (query_grid ls s) s (on_grid ls s free) (query_grid ls s).height)
 
 -- the boxes of a free cell
@@ -74,17 +74,17 @@ module _ (g : GridData) (u : Cell) (free : is_free g u ≡ true) where
   cell_boxes = record { areas = map (all_boxes g u) all_dirs }
 
   boxes_are : AreBoxes g u cell_boxes
-  boxes_are dir.N = (all_told g).boxes u free dir.N
-  boxes_are dir.NE = (all_told g).boxes u free dir.NE
-  boxes_are dir.E = (all_told g).boxes u free dir.E
-  boxes_are dir.SE = (all_told g).boxes u free dir.SE
-  boxes_are dir.S = (all_told g).boxes u free dir.S
-  boxes_are dir.SW = (all_told g).boxes u free dir.SW
-  boxes_are dir.W = (all_told g).boxes u free dir.W
-  boxes_are dir.NW = (all_told g).boxes u free dir.NW
+  boxes_are dir.N = (all_right g).boxes u free dir.N
+  boxes_are dir.NE = (all_right g).boxes u free dir.NE
+  boxes_are dir.E = (all_right g).boxes u free dir.E
+  boxes_are dir.SE = (all_right g).boxes u free dir.SE
+  boxes_are dir.S = (all_right g).boxes u free dir.S
+  boxes_are dir.SW = (all_right g).boxes u free dir.SW
+  boxes_are dir.W = (all_right g).boxes u free dir.W
+  boxes_are dir.NW = (all_right g).boxes u free dir.NW
 
 pub boxes_exist : (ls : Layers) (s : Cell) → (text : List ℕ) × IsBoxText ls s text
-boxes_exist ls s = told_exists ls s (λ line. line) (λ free.
+boxes_exist ls s = answer_exists ls s (λ line. line) (λ free.
     let b : CellBoxes = cell_boxes (query_grid ls s) s (on_grid ls s free) in
     (boxes_text b, (b, boxes_are (query_grid ls s) s (on_grid ls s free), refl)))
 
@@ -98,12 +98,12 @@ lengths_exist ls text entries =
       record { below = all.0; are = all.1; all = refl; same_status = refl },
     )
 
-pub rulings_exist : (ls : Layers) (entries : List Entry) (walks : List Told)
+pub rulings_exist : (ls : Layers) (entries : List Entry) (walks : List Claimed)
     → (rulings : List Ruling) × AreRulings ls entries walks rulings
 rulings_exist ls entries walks =
     turns-all {S = Unit {0}} (λ _ both r. IsRuling ls both.0 both.1 r) (λ s _. s)
     (λ s both. let h = settled_exists ls both.0 in settled-ruled ls both.0 both.1 h.0 h.1) tt []
-    (with_told entries walks) [] tt
+    (with_claims entries walks) [] tt
 
 -- whoever answers each query has the rows of all entries
 pub rows_exist : (who : Who) → ((s t : Cell) → (reply : Reply) × IsReplyBy who s t reply)
@@ -119,11 +119,11 @@ rows_exist who has entries =
         (row_of entry.length p.0, replied p.0 e p.1 refl)
 
 -- a session has an answer to each command
-pub answers_exist : (d : SessionData) (show : Show) (commands : List Command)
+pub answers_exist : (d : SessionData) (show : Show) (commands : List ScriptCommand)
     → (lines : List (List ℕ)) × AreAnswers d show commands lines
 answers_exist d show commands =
     turns-all (AnswersAfter d show) edits_with (line_exists d show) [] [] commands [] tt
 
-pub findings_exist : (d : SessionData) (commands : List Command)
+pub findings_exist : (d : SessionData) (commands : List ScriptCommand)
     → (found : List Finding) × AreFindings d commands found
 findings_exist d commands = turns-all (FindsAfter d) edits_with (finding_exists d) [] [] commands [] tt

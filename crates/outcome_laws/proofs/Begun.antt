@@ -6,7 +6,7 @@ use Rattle.std.specs.List.{concat}
 use Rattle.std.proofs.Math.Seq.{take-append_seam, take-length}
 use Rattle.std.proofs.lemmas.List.{take-append-drop}
 use Rattle.std.proofs.lemmas.List.Folds.{concat-append}
-use Rattle.io_edge.specs.Told.{Disk, Held, Inflow, Outflow}
+use Rattle.io_edge.specs.Known.{Disk, Held, Inflow, Outflow}
 use Rattle.io_edge.specs.Whole.{AppendsSome}
 use Rattle.edit_replay.specs.Session.{SessionData}
 use Rattle.word_list.specs.Request.{Call}
@@ -17,12 +17,12 @@ use Rattle.jps_run.specs.Heard.{AnswerTaken}
 use Rattle.outcome_laws.specs.Alike.{BeginWith}
 use Rattle.outcome_laws.proofs.OnMap.{one_start_on}
 use Rattle.outcome_laws.proofs.Taken.{pending_taken}
-use Rattle.outcome_laws.specs.Files.{AreTold}
+use Rattle.outcome_laws.specs.Files.{AreKnown}
 use Rattle.outcome_laws.proofs.Files.{not_both}
 use Rattle.jps_run.specs.Calls.{files_of}
 use Rattle.jps_run.specs.Ending.{HasFailed, HasLines, HasPart, first, none, of_all, of_file, of_input}
 use Rattle.jps_run.specs.Ending.{of_taken, some}
-use Rattle.outcome_laws.specs.Outcomes.{FilesAreTold, WrittenBeginsTheOutput, WroteLinesOf}
+use Rattle.outcome_laws.specs.Outcomes.{FilesAreKnown, WrittenBeginsTheOutput, WroteLinesOf}
 use Rattle.jps_run.specs.Live.{AreHeard, OnLive}
 use Rattle.jps_run.specs.Outcome.{IsOutcome, IsOutput, Outcome, Spell, done}
 use Rattle.outcome_laws.proofs.Only.{CallComes, broken, finished, refused, replied}
@@ -71,27 +71,27 @@ module _ (before now : Outflow) where
   )
 
 -- what a call was answered that reads the input begins all that it is answered
-module _ (holds : List ℕ → Held) (script : List ℕ) (call : Call) (told : AreTold holds (files_of call))
+module _ (holds : List ℕ → Held) (script : List ℕ) (call : Call) (known : AreKnown holds (files_of call))
     {Known : SessionData → Show → Type 0} (p : OnLive call holds Known) (left : Option (List ℕ))
     (lines : List (List ℕ)) (taken : AnswerTaken p.session call.settings.show (Some script) left lines) where
   heard_begins : (refusal : Option (List ℕ)) (all : List (List ℕ))
       → AreHeard call holds (Some script) all refusal
       → BeginWith all lines
   heard_begins refusal all q =
-      let o = on_one_map holds script call call (itself call) told p q in
+      let o = on_one_map holds script call call (itself call) known p q in
       one_start_on call.settings call.settings p.read refl o.are refl p.session q.session p.answers o.is
       call.settings.show script left refusal lines all taken q.known
 
   call_begins : (outcome : Outcome) → CallComes call holds (Some script) outcome → BeginWith outcome.out lines
   call_begins _ (refused line r) =
-      absurd (not_both holds (files_of call) (p.text ∷ p.behind) line told p.accepted r)
+      absurd (not_both holds (files_of call) (p.text ∷ p.behind) line known p.accepted r)
   call_begins _ (finished all status q) =
       live_call holds call call refl p all status q
   call_begins _ (replied all q) = heard_begins None all q
   call_begins _ (broken all line q) = heard_begins (Some line) all q
 
 module _ (words : List (List ℕ)) (holds : List ℕ → Held) (input input_now : Inflow) (out out_now : Outflow)
-    (script : List ℕ) (outcome : Outcome) (told : FilesAreTold words holds)
+    (script : List ℕ) (outcome : Outcome) (known : FilesAreKnown words holds)
     (comes_in : input.left ≡ Some script) (is : IsOutcome words holds (Some script) outcome) where
   -- the output of a call by its files alone is that of the outcome
   output_one : (call : Call) → Spell words call → (lines : List (List ℕ)) (status : ℕ)
@@ -99,14 +99,14 @@ module _ (words : List (List ℕ)) (holds : List ℕ → Held) (input input_now 
   output_one call spelled lines status right =
       ap (λ (o : Outcome). o.out)
       (outcomes_one words holds script (record { status = status; out = lines; line = [] })
-      outcome told (done call lines status spelled right) is)
+      outcome known (done call lines status spelled right) is)
 
   taken_begins : {Known : SessionData → Show → Type 0} (call : Call) → Spell words call
       → (p : OnLive call holds Known) → (lines : List (List ℕ))
       → AnswerTaken p.session call.settings.show input.left input_now.left lines
       → BeginWith outcome.out lines
   taken_begins call spelled p lines taken =
-      call_begins holds script call (told call spelled) p input_now.left lines
+      call_begins holds script call (known call spelled) p input_now.left lines
       (subst (λ (text : Option (List ℕ)). AnswerTaken p.session call.settings.show text input_now.left lines)
       comes_in
       taken) outcome (call_comes words holds (Some script) call outcome spelled is)
@@ -138,14 +138,14 @@ module _ (words : List (List ℕ)) (holds : List ℕ → Held) (input input_now 
 
 -- so do the lines of a call of which a read failed
 module _ (words : List (List ℕ)) (disk disk_now : Disk) (input input_now : Inflow) (out out_now : Outflow)
-    (script : List ℕ) (outcome : Outcome) (told : FilesAreTold words disk.holds)
+    (script : List ℕ) (outcome : Outcome) (known : FilesAreKnown words disk.holds)
     (comes_in : input.left ≡ Some script) (is : IsOutcome words disk.holds (Some script) outcome) where
   failed_begins : HasFailed words disk disk_now input input_now out out_now → Begun out out_now outcome.out
   unfolding Begun
   failed_begins (of_file rose h) = ([], (outcome.out, refl), h)
   failed_begins (of_input rose p) = (
     p.known.lines,
-    taken_begins words disk.holds input input_now out out_now script outcome told comes_in is rose.call
+    taken_begins words disk.holds input input_now out out_now script outcome known comes_in is rose.call
         rose.spelled p
         p.known.lines
         (pending_taken p.session rose.call.settings.show input.left input_now.left p.known.lines
@@ -157,11 +157,11 @@ module _ (words : List (List ℕ)) (disk disk_now : Disk) (input input_now : Inf
       ⊎ HasLines words disk.holds input input_now out out_now → Begun out out_now outcome.out
   first_lines (inl failed) = failed_begins failed
   first_lines (inr lines) =
-      lines_begin words disk.holds input input_now out out_now script outcome told comes_in is lines
+      lines_begin words disk.holds input input_now out out_now script outcome known comes_in is lines
 
 pub written_begins : WrittenBeginsTheOutput
-written_begins words disk disk_now input input_now out out_now script outcome told comes_in is = (
-  part_begins words disk.holds input input_now out out_now script outcome told comes_in is,
+written_begins words disk disk_now input input_now out out_now script outcome known comes_in is = (
+  part_begins words disk.holds input input_now out out_now script outcome known comes_in is,
   λ stopped. so_begun out out_now outcome.out
-      (first_lines words disk disk_now input input_now out out_now script outcome told comes_in is stopped),
+      (first_lines words disk disk_now input input_now out out_now script outcome known comes_in is stopped),
 )

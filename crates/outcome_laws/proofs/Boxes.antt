@@ -12,7 +12,7 @@ use Rattle.grid_moves.specs.Layers.{AreLayers, Layers, query_grid}
 use Rattle.grid_moves.specs.Move.{all_dirs}
 use Rattle.cell_lines.specs.Cells.{dir_text, texts_of}
 use Rattle.grid_answers.specs.BoxLines.{IsBoxText, area_text, box_line, boxes_text}
-use Rattle.outcome_laws.proofs.OfCell.{one_told}
+use Rattle.outcome_laws.proofs.OfCell.{one_answer}
 
 -- texts of each member are those of the list
 pub texts_same : {X : Type 0} (p q : X → List ℕ) (xs : List X) → ((x : X) → p x ≡ q x)
@@ -29,5 +29,5 @@ same_boxes g s b c are also = texts_same (box_line b) (box_line c) all_dirs (λ 
 
 pub one_text : (ls : Layers) (s : Cell) (one other : List ℕ) → AreLayers ls
     → IsBoxText ls s one → IsBoxText ls s other → one ≡ other
-one_text ls s one other are = one_told ls s (λ line. line) one other are (λ x y free p q.
+one_text ls s one other are = one_answer ls s (λ line. line) one other are (λ x y free p q.
     p.2 ∙ same_boxes (query_grid ls s) s p.0 q.0 p.1 q.1 ∙ sym q.2)

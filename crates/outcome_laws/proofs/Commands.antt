@@ -23,7 +23,7 @@ use Rattle.outcome_laws.proofs.Measured as measured
 use Rattle.outcome_laws.proofs.Posed as posed
 use Rattle.std.specs.Prelude.{Option, Some}
 use Rattle.std.specs.Option.{option_map}
-use Rattle.io_edge.specs.Told.{Held}
+use Rattle.io_edge.specs.Known.{Held}
 use Rattle.map_text.specs.Writing.{canonical_text}
 use Rattle.map_maker.specs.Drill.{drill_commands}
 use Rattle.map_maker.specs.Making.{made_map}

@@ -8,7 +8,7 @@ use Rattle.grid_moves.specs.Grid.{GridData}
 use Rattle.grid_moves.specs.Layers.{AreLayers, Layers, query_grid}
 use Rattle.grid_answers.specs.Distances.{AreCostLines, AreCosts, IsCostLine, cost_field, fields_to}
 use Rattle.grid_answers.specs.Distances.{more, none}
-use Rattle.outcome_laws.proofs.OfCell.{one_told}
+use Rattle.outcome_laws.proofs.OfCell.{one_answer}
 use Rattle.outcome_laws.proofs.Ground.{query_whole}
 use Rattle.outcome_laws.proofs.Least.{one_cost}
 
@@ -66,5 +66,5 @@ module _ (g : GridData) (s : Cell) where
 
 pub one_costs : (ls : Layers) (s : Cell) (one other : List (List ℕ)) → AreLayers ls
     → AreCosts ls s one → AreCosts ls s other → one ≡ other
-one_costs ls s one other are = one_told ls s (λ line. line ∷ []) one other are (λ x y free p q.
+one_costs ls s one other are = one_answer ls s (λ line. line ∷ []) one other are (λ x y free p q.
     one_list (query_grid ls s) s (query_whole ls are s).sides.wide (query_grid ls s).height x y p q)

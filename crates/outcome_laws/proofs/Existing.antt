@@ -3,7 +3,7 @@ use Rattle.std.proofs.Common.{◌≡◌, ◌⊎◌, inl, inr, refl, ap, subst, �
 use Rattle.std.proofs.Common.{◌++◌, length}
 use Rattle.std.specs.Prelude.{Option, Some, None, codes, is_some}
 use Rattle.std.specs.Option.{option_map, option_map_or}
-use Rattle.io_edge.specs.Told.{Held}
+use Rattle.io_edge.specs.Known.{Held}
 use Rattle.script_text.specs.Feeding.{commands_of, commands_so_far, fault_of, fault_so_far}
 use Rattle.edit_replay.specs.Session.{SessionData}
 use Rattle.word_list.specs.Calls.{call_of, is_call}
@@ -16,7 +16,7 @@ use Rattle.word_list.specs.declared.rows.Command.TheVariants.{Live}
 use Rattle.call_files.specs.FaultLines.{long_line, script_line, word_line}
 use Rattle.call_files.specs.Files.{AreAccepted, HasRefused}
 use Rattle.call_files.specs.Kinds.{limit_of}
-use Rattle.call_files.specs.declared.kind.Kind.TheVariants as kind
+use Rattle.call_files.specs.declared.kind.TextKind.TheVariants as kind
 use Rattle.jps_run.specs.Calls.{IsAnswered, files_of, reads_input, task, task_of}
 use Rattle.jps_run.specs.Heard.{AnswerHeard, counted, too_long, whole}
 use Rattle.jps_run.specs.Live.{AreHeard}
@@ -29,7 +29,7 @@ use Rattle.outcome_laws.proofs.Accepted.{HasAnswer, with_tables}
 use Rattle.outcome_laws.proofs.Commands.{answers}
 
 module _ (holds : List ℕ → Held) (set : Settings) where
-  -- a told script that comes in is heard
+  -- a known script that comes in is heard
   heard_exists : (d : SessionData) (show : Show) (script : List ℕ) → (line : Option (List ℕ))
       × (lines : List (List ℕ)) × AnswerHeard d show (Some script) line lines
   heard_exists d show script = by_length (less_or_not (limit_of kind.Script) (length script))
@@ -42,7 +42,7 @@ module _ (holds : List ℕ → Held) (set : Settings) where
             all.0,
             record {
               script = script;
-              told = refl;
+              comes = refl;
               commands = commands_of script;
               heard = whole few refl refl;
               answers = all.1;
@@ -54,7 +54,7 @@ module _ (holds : List ℕ → Held) (set : Settings) where
             all.0,
             record {
               script = script;
-              told = refl;
+              comes = refl;
               commands = commands_so_far (counted script);
               heard = too_long longer refl refl;
               answers = all.1;
@@ -66,12 +66,12 @@ is_live : (command : Command) → reads_input command ≡ true → command ≡ L
 is_live Live reads = refl
 is_live other reads = absurd (cc)
 
-abbrev Ends : List (List ℕ) → (List ℕ → Held) → List ℕ → Type 0
-Ends words holds script = (outcome : Outcome) × IsOutcome words holds (Some script) outcome
+abbrev HasOutcome : List (List ℕ) → (List ℕ → Held) → List ℕ → Type 0
+HasOutcome words holds script = (outcome : Outcome) × IsOutcome words holds (Some script) outcome
 
 module _ (words : List (List ℕ)) (holds : List ℕ → Held) (script : List ℕ) where
   live_ends : (call : Call) → call.request.command ≡ Live → Spell words call → (texts : List (List ℕ))
-      → AreAccepted holds [] (files_of call) texts → Ends words holds script
+      → AreAccepted holds [] (files_of call) texts → HasOutcome words holds script
   live_ends call is spelled texts p =
       let h = with_tables holds call.settings (word_at call.request.words 0) call.request.tables texts
       (subst (λ (c : Command). AreAccepted holds []
@@ -91,14 +91,15 @@ module _ (words : List (List ℕ)) (holds : List ℕ → Held) (script : List �
       })
     where
       by_line : (line : Option (List ℕ)) (lines : List (List ℕ))
-          → AreHeard call holds (Some script) lines line → Ends words holds script
+          → AreHeard call holds (Some script) lines line → HasOutcome words holds script
       by_line None lines are =
           (record { status = 0; out = lines; line = [] }, answered call lines spelled are)
       by_line (Some line) lines are =
           (record { status = 3; out = lines; line = line }, bad_line call lines line spelled are)
 
   done_ends : (call : Call) → Spell words call → (texts : List (List ℕ))
-      → AreAccepted holds [] (files_of call) texts → HasAnswer (task_of call) texts → Ends words holds script
+      → AreAccepted holds [] (files_of call) texts → HasAnswer (task_of call) texts
+      → HasOutcome words holds script
   unfolding IsAnswered
   done_ends call spelled texts p (lines, status, is) = (
     record { status = status; out = lines; line = [] },
@@ -107,27 +108,28 @@ module _ (words : List (List ℕ)) (holds : List ℕ → Held) (script : List �
 
   -- the files of the call are accepted
   call_ends : (call : Call) → Spell words call → (texts : List (List ℕ))
-      → AreAccepted holds [] (files_of call) texts → Ends words holds script
+      → AreAccepted holds [] (files_of call) texts → HasOutcome words holds script
   call_ends call spelled texts p = by_input (reads_input call.request.command) refl
     where
-      by_input : (b : Bool) → reads_input call.request.command ≡ b → Ends words holds script
+      by_input : (b : Bool) → reads_input call.request.command ≡ b → HasOutcome words holds script
       by_input true reads = live_ends call (is_live call.request.command reads) spelled texts p
       by_input false silent = done_ends call spelled texts p
           ((answers call.settings call.request.command call.request.words call.request.tables).1 holds texts p
           silent)
 
   refused_ends : (call : Call) → Spell words call → (line : List ℕ) → HasRefused holds (files_of call) line
-      → Ends words holds script
+      → HasOutcome words holds script
   refused_ends call spelled line p =
       (record { status = 3; out = []; line = line }, bad_text call line spelled p)
 
   files_end : (call : Call) → Spell words call
       → ((texts : List (List ℕ)) × AreAccepted holds [] (files_of call) texts)
-      ⊎ ((line : List ℕ) × HasRefused holds (files_of call) line) → Ends words holds script
+      ⊎ ((line : List ℕ) × HasRefused holds (files_of call) line) → HasOutcome words holds script
   files_end call spelled (inl (texts, p)) = call_ends call spelled texts p
   files_end call spelled (inr (line, p)) = refused_ends call spelled line p
 
-  spelled_ends : (call : Call) → Spell words call → ArePresent holds (files_of call) → Ends words holds script
+  spelled_ends : (call : Call) → Spell words call → ArePresent holds (files_of call)
+      → HasOutcome words holds script
   spelled_ends call spelled present =
       files_end call spelled (accepted_or_refused holds (files_of call) present)
 
@@ -140,7 +142,7 @@ pub outcomes_exist : (words : List (List ℕ)) (holds : List ℕ → Held) (scri
     → (outcome : Outcome) × IsOutcome words holds (Some script) outcome
 outcomes_exist words holds script can = by_call (call_of words) refl
   where
-    by_call : (o : Option Call) → call_of words ≡ o → Ends words holds script
+    by_call : (o : Option Call) → call_of words ≡ o → HasOutcome words holds script
     by_call None e =
         let bad = bad_word_exists words (refused_words words holds script e) in
         (record { status = 2; out = []; line = word_line bad.0 }, bad_word bad.0 bad.1)

@@ -1,28 +1,28 @@
--- Told files are accepted in one way or refused in one way.
+-- Known files are accepted in one way or refused in one way.
 use Rattle.std.proofs.Common.{◌≡◌, ◌≢◌, ℕ, ◌⊎◌, inl, inr, refl, ap, sym, ◌∙◌, subst, arith, List, [], ◌∷◌}
 use Rattle.std.proofs.Common.{◌++◌, length}
 use Rattle.std.specs.Prelude.{Option, Some, None}
 use Rattle.std.proofs.lemmas.List.{append-nil, append_assoc}
-use Rattle.io_edge.specs.Told.{Held, untold, absent, holding}
+use Rattle.io_edge.specs.Known.{Held, unknown, absent, holding}
 use Rattle.io_edge.specs.Whole.{IsLonger, IsWhole}
 use Rattle.call_files.specs.Files.{AreAccepted, File, HasRefused, IsAccepted, IsRefused, too_long, faulty}
 use Rattle.call_files.specs.Kinds.{limit_of, refusal_of}
-use Rattle.call_files.specs.declared.kind.Kind.{Kind}
-use Rattle.outcome_laws.specs.Files.{AreTold}
+use Rattle.call_files.specs.declared.kind.TextKind.{TextKind}
+use Rattle.outcome_laws.specs.Files.{AreKnown}
 
--- whole texts of a told file are the bytes held
-same_whole : (held : Held) (limit : ℕ) (one other : List ℕ) → held ≢ untold
+-- whole texts of a known file are the bytes held
+same_whole : (held : Held) (limit : ℕ) (one other : List ℕ) → held ≢ unknown
     → IsWhole held limit one → IsWhole held limit other → one ≡ other
-same_whole untold limit one other told is also = absurd (told refl)
-same_whole absent limit one other told is also = absurd is
-same_whole (holding bytes) limit one other told is also = is.0 ∙ sym also.0
+same_whole unknown limit one other known is also = absurd (known refl)
+same_whole absent limit one other known is also = absurd is
+same_whole (holding bytes) limit one other known is also = is.0 ∙ sym also.0
 
 -- and no longer ones are held
-not_longer : (held : Held) (limit : ℕ) (text : List ℕ) → held ≢ untold → IsWhole held limit text
+not_longer : (held : Held) (limit : ℕ) (text : List ℕ) → held ≢ unknown → IsWhole held limit text
     → IsLonger held limit → ⊥
-not_longer untold limit text told is longer = told refl
-not_longer absent limit text told is longer = is
-not_longer (holding bytes) limit text told is longer =
+not_longer unknown limit text known is longer = known refl
+not_longer absent limit text known is longer = is
+not_longer (holding bytes) limit text known is longer =
     let same : length text ≡ length bytes = ap (λ (t : List ℕ). length t) is.0 in
     omega (arith, is.1, longer)
 
@@ -33,17 +33,17 @@ with_line line = Some line
 same_line : (one other : List ℕ) → with_line one ≡ with_line other → one ≡ other
 same_line one other e = cc
 
-module _ (earlier : List (List ℕ)) (kind : Kind) (held : Held) (told : held ≢ untold) where
+module _ (earlier : List (List ℕ)) (kind : TextKind) (held : Held) (known : held ≢ unknown) where
   same_accepted : (one other : List ℕ) → IsAccepted earlier kind held one → IsAccepted earlier kind held other
       → one ≡ other
-  same_accepted one other is also = same_whole held (limit_of kind) one other told is.0 also.0
+  same_accepted one other is also = same_whole held (limit_of kind) one other known is.0 also.0
 
   pub accepted_not_refused : (text line : List ℕ) → IsAccepted earlier kind held text
       → IsRefused earlier kind held line → ⊥
   accepted_not_refused text line is (too_long longer e) =
-      not_longer held (limit_of kind) text told is.0 longer
+      not_longer held (limit_of kind) text known is.0 longer
   accepted_not_refused text line is (faulty other whole fault) =
-      let same = same_whole held (limit_of kind) other text told whole is.0 in
+      let same = same_whole held (limit_of kind) other text known whole is.0 in
       let none : refusal_of kind earlier other ≡ None =
       ap (λ (t : List ℕ). refusal_of kind earlier t) same ∙ is.1 in
       cc
@@ -52,11 +52,11 @@ module _ (earlier : List (List ℕ)) (kind : Kind) (held : Held) (told : held �
       → one ≡ other
   same_refused one other (too_long longer e) (too_long also f) = e ∙ sym f
   same_refused one other (too_long longer e) (faulty text whole fault) =
-      absurd (not_longer held (limit_of kind) text told whole longer)
+      absurd (not_longer held (limit_of kind) text known whole longer)
   same_refused one other (faulty text whole fault) (too_long longer e) =
-      absurd (not_longer held (limit_of kind) text told whole longer)
+      absurd (not_longer held (limit_of kind) text known whole longer)
   same_refused one other (faulty text whole fault) (faulty more also wrong) =
-      let same = same_whole held (limit_of kind) text more told whole also in
+      let same = same_whole held (limit_of kind) text more known whole also in
       let both : refusal_of kind earlier text ≡ refusal_of kind earlier more =
       ap (λ (t : List ℕ). refusal_of kind earlier t) same in
       same_line one other (sym fault ∙ both ∙ wrong)
@@ -142,60 +142,60 @@ module _ (holds : List ℕ → Held) where
       has.refused)
 
   accepted_one : (earlier : List (List ℕ)) (files : List File) (one other : List (List ℕ))
-      → AreTold holds files
+      → AreKnown holds files
       → AreAccepted holds earlier files one → AreAccepted holds earlier files other → one ≡ other
-  accepted_one earlier [] [] [] told are also = refl
-  accepted_one earlier [] [] (text ∷ other) told are also = absurd also
-  accepted_one earlier [] (text ∷ one) other told are also = absurd are
-  accepted_one earlier (file ∷ files) [] other told are also = absurd are
-  accepted_one earlier (file ∷ files) (text ∷ one) [] told are also = absurd also
-  accepted_one earlier (file ∷ files) (text ∷ one) (more ∷ other) told are also =
-      let same : more ≡ text = same_accepted earlier file.kind (holds file.name) told.0 more text
+  accepted_one earlier [] [] [] known are also = refl
+  accepted_one earlier [] [] (text ∷ other) known are also = absurd also
+  accepted_one earlier [] (text ∷ one) other known are also = absurd are
+  accepted_one earlier (file ∷ files) [] other known are also = absurd are
+  accepted_one earlier (file ∷ files) (text ∷ one) [] known are also = absurd also
+  accepted_one earlier (file ∷ files) (text ∷ one) (more ∷ other) known are also =
+      let same : more ≡ text = same_accepted earlier file.kind (holds file.name) known.0 more text
       also.0 are.0 in
-      let rest : one ≡ other = accepted_one (earlier ++ text ∷ []) files one other told.1 are.1
+      let rest : one ≡ other = accepted_one (earlier ++ text ∷ []) files one other known.1 are.1
       (subst (λ (t : List ℕ). AreAccepted holds (earlier ++ t ∷ []) files other) same also.1) in
       ap (λ (t : List ℕ). t ∷ one) (sym same) ∙ ap (λ (l : List (List ℕ)). more ∷ l) rest
 
-  refused_one : (earlier : List (List ℕ)) (files : List File) (one other : List ℕ) → AreTold holds files
+  refused_one : (earlier : List (List ℕ)) (files : List File) (one other : List ℕ) → AreKnown holds files
       → ComesToRefusal holds earlier files one → ComesToRefusal holds earlier files other → one ≡ other
-  refused_one earlier [] one other told is also = absurd is
-  refused_one earlier (file ∷ files) one other told (inl is) (inl also) =
-      same_refused earlier file.kind (holds file.name) told.0 one other is also
-  refused_one earlier (file ∷ files) one other told (inl is) (inr later) =
-      absurd (accepted_not_refused earlier file.kind (holds file.name) told.0 later.0 one later.1 is)
-  refused_one earlier (file ∷ files) one other told (inr later) (inl is) =
-      absurd (accepted_not_refused earlier file.kind (holds file.name) told.0 later.0 other later.1 is)
-  refused_one earlier (file ∷ files) one other told (inr later) (inr also) =
-      let same : also.0 ≡ later.0 = same_accepted earlier file.kind (holds file.name) told.0 also.0
+  refused_one earlier [] one other known is also = absurd is
+  refused_one earlier (file ∷ files) one other known (inl is) (inl also) =
+      same_refused earlier file.kind (holds file.name) known.0 one other is also
+  refused_one earlier (file ∷ files) one other known (inl is) (inr later) =
+      absurd (accepted_not_refused earlier file.kind (holds file.name) known.0 later.0 one later.1 is)
+  refused_one earlier (file ∷ files) one other known (inr later) (inl is) =
+      absurd (accepted_not_refused earlier file.kind (holds file.name) known.0 later.0 other later.1 is)
+  refused_one earlier (file ∷ files) one other known (inr later) (inr also) =
+      let same : also.0 ≡ later.0 = same_accepted earlier file.kind (holds file.name) known.0 also.0
       later.0 also.1
       later.1 in
-      refused_one (earlier ++ later.0 ∷ []) files one other told.1 later.2
+      refused_one (earlier ++ later.0 ∷ []) files one other known.1 later.2
       (subst (λ (t : List ℕ). ComesToRefusal holds (earlier ++ t ∷ []) files other) same also.2)
 
   accepted_none_refused : (earlier : List (List ℕ)) (files : List File) (texts : List (List ℕ))
       (line : List ℕ)
-      → AreTold holds files → AreAccepted holds earlier files texts → ComesToRefusal holds earlier files line
+      → AreKnown holds files → AreAccepted holds earlier files texts → ComesToRefusal holds earlier files line
       → ⊥
-  accepted_none_refused earlier [] texts line told are is = is
-  accepted_none_refused earlier (file ∷ files) [] line told are is = are
-  accepted_none_refused earlier (file ∷ files) (text ∷ texts) line told are (inl is) =
-      accepted_not_refused earlier file.kind (holds file.name) told.0 text line are.0 is
-  accepted_none_refused earlier (file ∷ files) (text ∷ texts) line told are (inr later) =
-      let same : later.0 ≡ text = same_accepted earlier file.kind (holds file.name) told.0 later.0 text
+  accepted_none_refused earlier [] texts line known are is = is
+  accepted_none_refused earlier (file ∷ files) [] line known are is = are
+  accepted_none_refused earlier (file ∷ files) (text ∷ texts) line known are (inl is) =
+      accepted_not_refused earlier file.kind (holds file.name) known.0 text line are.0 is
+  accepted_none_refused earlier (file ∷ files) (text ∷ texts) line known are (inr later) =
+      let same : later.0 ≡ text = same_accepted earlier file.kind (holds file.name) known.0 later.0 text
       later.1 are.0 in
-      accepted_none_refused (earlier ++ text ∷ []) files texts line told.1 are.1
+      accepted_none_refused (earlier ++ text ∷ []) files texts line known.1 are.1
       (subst (λ (t : List ℕ). ComesToRefusal holds (earlier ++ t ∷ []) files line) same later.2)
 
-pub one_list : (holds : List ℕ → Held) (files : List File) (one other : List (List ℕ)) → AreTold holds files
+pub one_list : (holds : List ℕ → Held) (files : List File) (one other : List (List ℕ)) → AreKnown holds files
     → AreAccepted holds [] files one → AreAccepted holds [] files other → one ≡ other
-one_list holds files one other told are also = accepted_one holds [] files one other told are also
+one_list holds files one other known are also = accepted_one holds [] files one other known are also
 
-pub one_line : (holds : List ℕ → Held) (files : List File) (one other : List ℕ) → AreTold holds files
+pub one_line : (holds : List ℕ → Held) (files : List File) (one other : List ℕ) → AreKnown holds files
     → HasRefused holds files one → HasRefused holds files other → one ≡ other
-one_line holds files one other told has also =
-    refused_one holds [] files one other told (comes holds files one has) (comes holds files other also)
+one_line holds files one other known has also =
+    refused_one holds [] files one other known (comes holds files one has) (comes holds files other also)
 
 pub not_both : (holds : List ℕ → Held) (files : List File) (texts : List (List ℕ)) (line : List ℕ)
-    → AreTold holds files → AreAccepted holds [] files texts → ¬ HasRefused holds files line
-not_both holds files texts line told are has =
-    accepted_none_refused holds [] files texts line told are (comes holds files line has)
+    → AreKnown holds files → AreAccepted holds [] files texts → ¬ HasRefused holds files line
+not_both holds files texts line known are has =
+    accepted_none_refused holds [] files texts line known are (comes holds files line has)

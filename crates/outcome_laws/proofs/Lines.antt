@@ -7,8 +7,8 @@ use Rattle.map_text.specs.Map.{Map}
 use Rattle.edit_replay.specs.Edited.{Edit, edit_at, edit_reply}
 use Rattle.edit_replay.specs.Session.{SessionData}
 use Rattle.edit_replay.specs.declared.reply.Reply.{Reply}
-use Rattle.script_text.specs.declared.command.Command.{Command}
-use Rattle.script_text.specs.declared.command.Command.TheVariants.{Block, Free, Flood, Query}
+use Rattle.script_text.specs.declared.command.ScriptCommand.{ScriptCommand}
+use Rattle.script_text.specs.declared.command.ScriptCommand.TheVariants.{Block, Free, Flood, Query}
 use Rattle.word_list.specs.declared.request.Show.{Show}
 use Rattle.jps_run.specs.Session.{session_after}
 use Rattle.jps_run.specs.Who.{Who, who_is}
@@ -33,7 +33,8 @@ reply_line_same who other layers one show s t line same p q =
     ∙ sym q.shown
 
 module _ (d e : SessionData) (layers : d.layers ≡ e.layers) where
-  answer_same : ReplyTheSame (who_is d) (who_is e) → (show : Show) (command : Command) (line same : List ℕ)
+  answer_same : ReplyTheSame (who_is d) (who_is e)
+      → (show : Show) (command : ScriptCommand) (line same : List ℕ)
       → IsAnswerLine d show command line → IsAnswerLine e show command same → line ≡ same
   answer_same one show (Block x y) line same p q =
       p ∙ ap (λ (ls : Layers). edit_line (edit_reply ls (edit_at x y Blocked))) layers ∙ sym q
@@ -45,7 +46,7 @@ module _ (d e : SessionData) (layers : d.layers ≡ e.layers) where
       reply_line_same (who_is d) (who_is e) layers one show (record { x = sx; y = sy })
       (record { x = gx; y = gy }) line same p q
 
-  finding_same : FindTheSame (who_is d) (who_is e) → (command : Command) (found also : Finding)
+  finding_same : FindTheSame (who_is d) (who_is e) → (command : ScriptCommand) (found also : Finding)
       → IsFinding d command found → IsFinding e command also → found ≡ also
   finding_same one (Block x y) found also p q =
       p ∙ ap (λ (ls : Layers). finding_of_edit (edit_reply ls (edit_at x y Blocked))) layers ∙ sym q
@@ -61,7 +62,7 @@ module _ (d e : SessionData) (layers : d.layers ≡ e.layers) where
 -- two sessions that answer alike have one line for each command, wherever the edits before it lead
 module _ (d e : SessionData) (show : Show) (are : AreLayers d.layers)
     (alike : AnswerAlike (who_is d) (who_is e)) where
-  one_after : (edits : List Edit) (command : Command) (line same : List ℕ)
+  one_after : (edits : List Edit) (command : ScriptCommand) (line same : List ℕ)
       → AnswersAfter d show edits command line
       → AnswersAfter e show edits command same → line ≡ same
   one_after edits command = answer_same (session_after d edits) (session_after e edits)
@@ -70,7 +71,8 @@ module _ (d e : SessionData) (show : Show) (are : AreLayers d.layers)
       (after_edits d e are edits)
       (alike_after d e are edits alike)) show command
 
-pub answers_same : (d e : SessionData) (show : Show) (commands : List Command) (lines same : List (List ℕ))
+pub answers_same : (d e : SessionData) (show : Show) (commands : List ScriptCommand)
+    (lines same : List (List ℕ))
     → AreLayers d.layers → AnswerAlike (who_is d) (who_is e) → AreAnswers d show commands lines
     → AreAnswers e show commands same → lines ≡ same
 answers_same d e show commands lines same are alike =
@@ -78,7 +80,7 @@ answers_same d e show commands lines same are alike =
     commands lines same
 
 -- the lines of the first commands begin those of more
-pub answers_begin : (d e : SessionData) (show : Show) (commands more : List Command)
+pub answers_begin : (d e : SessionData) (show : Show) (commands more : List ScriptCommand)
     (lines all : List (List ℕ))
     → AreLayers d.layers → AnswerAlike (who_is d) (who_is e) → AreAnswers d show commands lines
     → AreAnswers e show (commands ++ more) all → BeginWith all lines
@@ -86,7 +88,7 @@ answers_begin d e show commands more lines all are alike =
     turns-begin (AnswersAfter d show) (AnswersAfter e show) edits_with (one_after d e show are alike) []
     commands more lines all
 
-pub findings_same : (d e : SessionData) (commands : List Command) (found same : List Finding)
+pub findings_same : (d e : SessionData) (commands : List ScriptCommand) (found same : List Finding)
     → AreLayers d.layers → d.layers ≡ e.layers → AreFindings d commands found
     → AreFindings e commands same → found ≡ same
 findings_same d e commands found same are layers =

@@ -1,7 +1,7 @@
 -- A table file that is accepted changes nothing of what a call comes to.
 use Rattle.std.proofs.Common.{◌≡◌, ◌⊎◌, inl, inr, refl, ap, sym, ◌∙◌, subst, ℕ, List, [], ◌∷◌, ◌++◌}
 use Rattle.std.specs.Prelude.{Option, Some, None}
-use Rattle.io_edge.specs.Told.{Held}
+use Rattle.io_edge.specs.Known.{Held}
 use Rattle.grid_moves.specs.declared.Corner.{Corner}
 use Rattle.word_list.specs.Kinds.{word_at}
 use Rattle.word_list.specs.Request.{Call}
@@ -12,7 +12,7 @@ use Rattle.word_list.specs.declared.request.Settings.{Settings}
 use Rattle.word_list.specs.declared.rows.Command.{Command}
 use Rattle.call_files.specs.Files.{AreAccepted, File, HasRefused, file_of, faulty, too_long}
 use Rattle.call_files.specs.Kinds.{extent_for, kind_for}
-use Rattle.call_files.specs.declared.kind.Kind.TheVariants as kind
+use Rattle.call_files.specs.declared.kind.TextKind.TheVariants as kind
 use Rattle.jps_run.specs.Calls.{IsAnswered, call_with, files_of, task}
 use Rattle.jps_run.specs.Live.{AreHeard}
 use Rattle.jps_run.specs.Outcome.{IsOutcome, IsOutput, Outcome, Spell, answered, bad_line, bad_text, done}
@@ -92,7 +92,7 @@ module _ (holds : List ℕ → Held) where
         off : ComesToRefusal holds [] with_tables line → ComesToRefusal holds [] without line
         off (inl is) = inl is
         off (inr (text, acc, inl is)) = absurd (accepted_not_refused (text ∷ []) (kind.Tables rule)
-            (holds tables) right.told right.loaded line (right.accepted text acc) is)
+            (holds tables) right.known right.loaded line (right.accepted text acc) is)
         off (inr (text, acc, inr (loaded, too, later))) =
             inr (text, acc, refused_anew (text ∷ loaded ∷ []) (text ∷ []) rest line alone later)
 

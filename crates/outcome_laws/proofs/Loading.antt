@@ -10,13 +10,13 @@ use Rattle.word_list.specs.Settings.{all_follow, can_load, has_tables, is_comple
 use Rattle.word_list.specs.declared.request.Pick.{Pick}
 use Rattle.word_list.specs.declared.request.Pick.TheVariants.{Session}
 use Rattle.word_list.specs.declared.request.SessionEngine.TheVariants.{Plus}
-use Rattle.word_list.specs.declared.rows.Kind.{Kind}
+use Rattle.word_list.specs.declared.rows.WordKind.{WordKind}
 use Rattle.word_list.specs.declared.settings.Family.{Family}
 use Rattle.jps_run.specs.Calls.{call_with}
 use Rattle.jps_run.specs.Outcome.{Spell}
 
 -- words that are of their kinds and then settings lack none
-none_missing : (takes : List Kind) (allows : List Family) (words : List (List ℕ))
+none_missing : (takes : List WordKind) (allows : List Family) (words : List (List ℕ))
     → fits takes allows words ≡ true → is_complete (drop (length takes) words) ≡ true
 none_missing [] allows words fit = (and_parts (all_follow allows [] words) (is_complete words) fit).1
 none_missing (kind ∷ takes) allows [] fit = absurd (cc)

@@ -20,17 +20,17 @@ use Rattle.first_moves.proofs.Picking.{first_is}
 use Rattle.first_moves.proofs.Rows.{without_moves}
 use Rattle.goal_boxes.proofs.Existing.{begins_or_not}
 use Rattle.grid_answers.specs.RunLines.{IsRunText, runs_text}
-use Rattle.outcome_laws.proofs.OfCell.{told_exists}
+use Rattle.outcome_laws.proofs.OfCell.{answer_exists}
 use Rattle.outcome_laws.proofs.Reached.{cost_exists, on_grid}
 
 yes_or_no : {A : Type 0} → A ⊎ (A → ⊥) → Bool
 yes_or_no (inl a) = true
 yes_or_no (inr none) = false
 
-told_by : {A : Type 0} (decided : A ⊎ (A → ⊥)) → IsTrue (yes_or_no decided) ↔ A
+decided_by : {A : Type 0} (decided : A ⊎ (A → ⊥)) → IsTrue (yes_or_no decided) ↔ A
 unfolding yes_or_no
-told_by (inl a) = (λ e. a, λ b. refl)
-told_by (inr none) = (λ e. absurd (cc), λ b. absurd (none b))
+decided_by (inl a) = (λ e. a, λ b. refl)
+decided_by (inr none) = (λ e. absurd (cc), λ b. absurd (none b))
 
 -- the first move to each cell
 module _ (g : GridData) (s : Cell) (free : is_free g s ≡ true) where
@@ -42,7 +42,7 @@ module _ (g : GridData) (s : Cell) (free : is_free g s ≡ true) where
   first_exists t =
       let cost = cost_exists g s t free in (
         find (has t) all_dirs,
-        first_is g s t (has t) (λ d. told_by (begins_or_not g s d free t)) cost.0 cost.1,
+        first_is g s t (has t) (λ d. decided_by (begins_or_not g s d free t)) cost.0 cost.1,
       )
 
 -- what a function tells of the first numbers
@@ -103,7 +103,7 @@ module _ (g : GridData) (s : Cell) (free : is_free g s ≡ true) where
   )
 
 pub runs_exist : (ls : Layers) (s : Cell) → (text : List ℕ) × IsRunText ls s text
-runs_exist ls s = told_exists ls s (λ line. line) (λ free.
+runs_exist ls s = answer_exists ls s (λ line. line) (λ free.
     let row = row_exists (query_grid ls s) s (on_grid ls s free) in
     (runs_text (query_grid ls s).width row.0, (row.0, row.1, refl)))
 

@@ -7,7 +7,7 @@ use Rattle.word_list.specs.Request.{Call, Named, Row, row_of, rows}
 use Rattle.jps_run.specs.Calls.{task, task_of}
 use Rattle.outcome_laws.specs.Words.{CallsGoByName, CommandsAreCalled}
 use Rattle.outcome_laws.proofs.Commands.{answers}
-use Rattle.outcome_laws.proofs.Spelled.{call_by, row_told, spelled}
+use Rattle.outcome_laws.proofs.Spelled.{call_by, row_called, spelled}
 
 module _ (set : Settings) (words : List (List ℕ)) (tables : Option (List ℕ)) where
   -- the name that the task of a row's command has
@@ -19,14 +19,14 @@ module _ (set : Settings) (words : List (List ℕ)) (tables : Option (List ℕ))
   is_named one = bytes_eq one.name (name_by one.row)
 
   named : (name : List ℕ) (row : Row) → row_of name ≡ Some row → name ≡ name_by row
-  named name row e = let is = row_told is_named rows name row refl e in
+  named name row e = let is = row_called is_named rows name row refl e in
       is.name_is ∙ (bytes_eq-Decides is.one.name (name_by is.one.row)).0 is.passes ∙ ap name_by is.row_is
 
 pub by_name : CallsGoByName
 by_name [] call e = absurd (cc)
 by_name (name ∷ words) call e = let is = spelled name words call e in
     let made = call_by is.row words in
-    subst (λ (k : Call). Some name ≡ Some (task_of k).name) is.told
+    subst (λ (k : Call). Some name ≡ Some (task_of k).name) is.spells
     (ap Some (named made.settings made.request.words made.request.tables name is.row is.known))
 
 pub called : CommandsAreCalled

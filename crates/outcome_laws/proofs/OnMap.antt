@@ -5,7 +5,7 @@ use Rattle.grid_moves.specs.declared.Cell.{Cell}
 use Rattle.grid_moves.specs.Layers.{AreLayers}
 use Rattle.map_text.specs.Map.{Map}
 use Rattle.edit_replay.specs.Session.{SessionData}
-use Rattle.script_text.specs.declared.command.Command.{Command}
+use Rattle.script_text.specs.declared.command.ScriptCommand.{ScriptCommand}
 use Rattle.scen_text.specs.declared.entry.Entry.{Entry}
 use Rattle.word_list.specs.declared.request.Settings.{Settings}
 use Rattle.word_list.specs.declared.request.Show.{Show}
@@ -44,7 +44,7 @@ module _ (set other : Settings) (m : Map) (rule : set.rule ≡ other.rule)
     one_rows_on entries rows same =
         one_rows (who_on set m) (who_on other m) entries rows same are (who_alike set other m rule way)
 
-    pub one_answers_on : (show : Show) (commands : List Command) (lines same : List (List ℕ))
+    pub one_answers_on : (show : Show) (commands : List ScriptCommand) (lines same : List (List ℕ))
         → OnSession set m (λ d. AreAnswers d show commands lines)
         → OnSession other m (λ d. AreAnswers d show commands same) → lines ≡ same
     one_answers_on show commands lines same p q =

@@ -3,7 +3,7 @@ use Rattle.std.proofs.Common.{◌≡◌, ◌∙◌, refl, ap, sym, subst, ℕ, B
 use Rattle.std.specs.Prelude.{Option, Some, None, ◌≢◌, ◌⊎◌, if◌then◌else◌}
 use Rattle.std.proofs.Common.{inl, inr}
 use Rattle.grid_moves.specs.declared.Corner.{Corner}
-use Rattle.io_edge.specs.Told.{Held, holding, absent, untold}
+use Rattle.io_edge.specs.Known.{Held, holding, absent, unknown}
 use Rattle.io_edge.specs.Whole.{IsWhole}
 use Rattle.grid_moves.specs.Layers.{AreLayers}
 use Rattle.map_text.specs.Map.{Map}
@@ -29,19 +29,19 @@ use Rattle.call_files.specs.Kinds.{kind_for, limit_of}
 use Rattle.call_files.specs.Layered.{layers_on}
 use Rattle.call_files.specs.MapFiles.{map_files}
 use Rattle.call_files.specs.declared.kind.Extent.TheVariants as extent
-use Rattle.call_files.specs.declared.kind.Kind.TheVariants as kind
+use Rattle.call_files.specs.declared.kind.TextKind.TheVariants as kind
 use Rattle.jps_run.specs.Heard.{AnswerHeard}
 use Rattle.jps_run.specs.Session.{IsSessionOn, by_of, layout_for}
 use Rattle.jps_run.specs.Who.{By, by_session, by_boxes, by_moves}
 use Rattle.outcome_laws.specs.Alike.{way_of}
 use Rattle.outcome_laws.proofs.Kept.{are_layers-text}
 use Rattle.outcome_laws.proofs.OnMap.{one_heard_on}
-use Rattle.outcome_laws.specs.Files.{AreTold}
+use Rattle.outcome_laws.specs.Files.{AreKnown}
 use Rattle.outcome_laws.proofs.Files.{one_line, not_both}
 use Rattle.outcome_laws.proofs.Words.{one_bad_word, none_of_calls}
 use Rattle.edit_replay.specs.declared.engine.Engine.TheVariants as engine
 use Rattle.jps_run.specs.Calls.{IsAnswered, call_with, files_of, reads_input, task}
-use Rattle.outcome_laws.specs.Outcomes.{AsksForCosts, DifferInEngine, FilesAreTold, HoldsSmallMap, is_jump}
+use Rattle.outcome_laws.specs.Outcomes.{AsksForCosts, DifferInEngine, FilesAreKnown, HoldsSmallMap, is_jump}
 use Rattle.jps_run.specs.Live.{AreHeard, OnLive}
 use Rattle.jps_run.specs.Outcome.{IsOutcome, IsOutput, Outcome, Spell, answered, bad_line}
 use Rattle.jps_run.specs.Outcome.{bad_text, bad_word, done}
@@ -96,37 +96,38 @@ names : List File → List (List ℕ)
 names [] = []
 names (file ∷ files) = file.name ∷ names files
 
--- a told file holds one text
-same_held : (held : Held) (x y : List ℕ) (limit also : ℕ) → held ≢ untold → IsWhole held limit x
+-- a known file holds one text
+same_held : (held : Held) (x y : List ℕ) (limit also : ℕ) → held ≢ unknown → IsWhole held limit x
     → IsWhole held also y
     → x ≡ y
-same_held untold x y limit also told p q = absurd (told refl)
-same_held absent x y limit also told p q = absurd (p)
-same_held (holding bytes) x y limit also told p q = p.0 ∙ sym q.0
+same_held unknown x y limit also known p q = absurd (known refl)
+same_held absent x y limit also known p q = absurd (p)
+same_held (holding bytes) x y limit also known p q = p.0 ∙ sym q.0
 
 both : (x y : List ℕ) (one two : List (List ℕ)) → x ≡ y → one ≡ two → x ∷ one ≡ y ∷ two
 both x y one two e f =
     ap (λ (text : List ℕ). text ∷ one) e ∙ ap (λ (texts : List (List ℕ)). y ∷ texts) f
 
--- told files of the same names hold the same texts
+-- known files of the same names hold the same texts
 same_texts : (holds : List ℕ → Held) (files others : List File) (earlier before one two : List (List ℕ))
-    → AreTold holds files → names files ≡ names others → AreAccepted holds earlier files one
+    → AreKnown holds files → names files ≡ names others → AreAccepted holds earlier files one
     → AreAccepted holds before others two → one ≡ two
 unfolding names
-same_texts holds [] [] earlier before [] [] told e p q = refl
-same_texts holds [] [] earlier before (x ∷ one) two told e p q = absurd (p)
-same_texts holds [] [] earlier before one (y ∷ two) told e p q = absurd (q)
-same_texts holds [] (file ∷ others) earlier before one two told e p q = absurd (cc)
-same_texts holds (file ∷ files) [] earlier before one two told e p q = absurd (cc)
-same_texts holds (file ∷ files) (other ∷ others) earlier before [] two told e p q = absurd (p)
-same_texts holds (file ∷ files) (other ∷ others) earlier before one [] told e p q = absurd (q)
-same_texts holds (file ∷ files) (other ∷ others) earlier before (x ∷ one) (y ∷ two) told e p q =
+same_texts holds [] [] earlier before [] [] known e p q = refl
+same_texts holds [] [] earlier before (x ∷ one) two known e p q = absurd (p)
+same_texts holds [] [] earlier before one (y ∷ two) known e p q = absurd (q)
+same_texts holds [] (file ∷ others) earlier before one two known e p q = absurd (cc)
+same_texts holds (file ∷ files) [] earlier before one two known e p q = absurd (cc)
+same_texts holds (file ∷ files) (other ∷ others) earlier before [] two known e p q = absurd (p)
+same_texts holds (file ∷ files) (other ∷ others) earlier before one [] known e p q = absurd (q)
+same_texts holds (file ∷ files) (other ∷ others) earlier before (x ∷ one) (y ∷ two) known e p q =
     let name : file.name ≡ other.name = same_first file.name other.name (names files) (names others) e in
     let rest : names files ≡ names others = same_others file.name other.name (names files) (names others) e in
-    let here : x ≡ y = same_held (holds file.name) x y (limit_of file.kind) (limit_of other.kind) told.0 p.0.0
+    let here : x ≡ y = same_held (holds file.name) x y (limit_of file.kind)
+    (limit_of other.kind) known.0 p.0.0
     (subst (λ (n : List ℕ). IsAccepted before other.kind (holds n) y) (sym name) q.0).0 in
     both x y one two here (same_texts holds files others (earlier ++ x ∷ []) (before ++ y ∷ []) one two
-    told.1 rest
+    known.1 rest
     p.1 q.1)
 
 -- the engine is no matter for the names of a call's files
@@ -219,7 +220,7 @@ live_call holds c d same p lines status q =
     unanswered d q.texts lines status (ap reads_input (same ∙ p.is)) q.answered
 
 module _ (holds : List ℕ → Held) (script : List ℕ) (call like : Call) (alike : DifferInEngine call like)
-    (told : AreTold holds (files_of call)) where
+    (known : AreKnown holds (files_of call)) where
   -- the second call reads and is answered what the first one is by its settings
   abbrev as_like : Call
   as_like = call_with call.request like.settings
@@ -241,7 +242,7 @@ module _ (holds : List ℕ → Held) (script : List ℕ) (call like : Call) (ali
 
   pub one_list : (one two : List (List ℕ)) → AreAccepted holds [] (files_of call) one
       → AreAccepted holds [] (files_of like) two → one ≡ two
-  one_list one two p q = same_texts holds (files_of call) (files_of like) [] [] one two told
+  one_list one two p q = same_texts holds (files_of call) (files_of like) [] [] one two known
       (same_names call.request call.settings like.settings ∙ ap names like_files) p q
 
   -- the answers of both calls on the same texts
@@ -285,17 +286,17 @@ module _ (holds : List ℕ → Held) (script : List ℕ) (call like : Call) (ali
   unfolding HeardSame
   both_same files same heard _ _ (refused a p) (refused b q) =
       ap (λ (line : List ℕ). record { status = 3; out = []; line = line })
-      (one_line holds (files_of call) a b told p (files.refused b q))
+      (one_line holds (files_of call) a b known p (files.refused b q))
   both_same files same heard _ _ (refused a p) (finished lines status q) =
-      absurd (not_both holds (files_of call) q.texts a told (files.accepted q.texts q.accepted) p)
+      absurd (not_both holds (files_of call) q.texts a known (files.accepted q.texts q.accepted) p)
   both_same files same heard _ _ (refused a p) (replied lines q) =
-      absurd (not_both holds (files_of call) (q.text ∷ q.behind) a told
+      absurd (not_both holds (files_of call) (q.text ∷ q.behind) a known
       (files.accepted (q.text ∷ q.behind) q.accepted) p)
   both_same files same heard _ _ (refused a p) (broken lines line q) =
-      absurd (not_both holds (files_of call) (q.text ∷ q.behind) a told
+      absurd (not_both holds (files_of call) (q.text ∷ q.behind) a known
       (files.accepted (q.text ∷ q.behind) q.accepted) p)
   both_same files same heard _ _ (finished lines status p) (refused b q) =
-      absurd (not_both holds (files_of call) p.texts b told p.accepted (files.refused b q))
+      absurd (not_both holds (files_of call) p.texts b known p.accepted (files.refused b q))
   both_same files same heard _ _ (finished lines status p) (finished others code q) =
       let e = both_finished same lines others status code p q in
       ap (λ (n : ℕ). record { status = n; out = lines; line = [] }) e.1
@@ -305,7 +306,7 @@ module _ (holds : List ℕ → Held) (script : List ℕ) (call like : Call) (ali
   both_same files same heard _ _ (finished lines status p) (broken others line q) =
       live_call holds like call alike.same.command q lines status p
   both_same files same heard _ _ (replied lines p) (refused b q) =
-      absurd (not_both holds (files_of call) (p.text ∷ p.behind) b told p.accepted (files.refused b q))
+      absurd (not_both holds (files_of call) (p.text ∷ p.behind) b known p.accepted (files.refused b q))
   both_same files same heard _ _ (replied lines p) (finished others code q) =
       live_call holds call like (sym alike.same.command) p others code q
   both_same files same heard _ _ (replied lines p) (replied others q) =
@@ -314,7 +315,7 @@ module _ (holds : List ℕ → Held) (script : List ℕ) (call like : Call) (ali
   both_same files same heard _ _ (replied lines p) (broken others line q) =
       absurd (let e : None ≡ Some line = (heard None (Some line) lines others p q).0 in cc)
   both_same files same heard _ _ (broken lines line p) (refused b q) =
-      absurd (not_both holds (files_of call) (p.text ∷ p.behind) b told p.accepted (files.refused b q))
+      absurd (not_both holds (files_of call) (p.text ∷ p.behind) b known p.accepted (files.refused b q))
   both_same files same heard _ _ (broken lines line p) (finished others code q) =
       live_call holds call like (sym alike.same.command) p others code q
   both_same files same heard _ _ (broken lines line p) (replied others q) =
@@ -403,7 +404,7 @@ module _ (holds : List ℕ → Held) (script : List ℕ) (call like : Call) (ali
     one_cost_outcome one other (inr (inr (inr small))) p q =
         both_same
         (subst (λ (files : List File). AreAlike holds (files_of call) files) like_files
-        (small_alike holds call.settings like.settings alike.rule call.request told small))
+        (small_alike holds call.settings like.settings alike.rule call.request known small))
         one_cost heard_none one other p q
     one_cost_outcome one other (inr (inr (inl few))) p q = by_ends one other few p q
       where
@@ -452,12 +453,12 @@ words_or_call words holds script _ (answered call lines spelled is) = inr (call,
 words_or_call words holds script _ (bad_line call lines line spelled is) = inr (call, spelled)
 
 module _ (words : List (List ℕ)) (holds : List ℕ → Held) (script : List ℕ) (one other : Outcome)
-    (told : FilesAreTold words holds) (p : IsOutcome words holds (Some script) one)
+    (known : FilesAreKnown words holds) (p : IsOutcome words holds (Some script) one)
     (q : IsOutcome words holds (Some script) other) where
   spelled_one : (call : Call) → Spell words call → one ≡ other
   spelled_one call spelled =
       one_outcome holds script call call (itself call)
-      (told call spelled) refl one other (call_comes words holds (Some script) call one spelled p)
+      (known call spelled) refl one other (call_comes words holds (Some script) call one spelled p)
       (call_comes words holds (Some script) call other spelled q)
 
   by_words : IsBadIn words one ⊎ ((call : Call) × Spell words call)
@@ -469,20 +470,20 @@ module _ (words : List (List ℕ)) (holds : List ℕ → Held) (script : List �
       (one_bad_word is_call words a.number b.number a.bad b.bad) ∙ sym b.is
 
 pub outcomes_one : (words : List (List ℕ)) (holds : List ℕ → Held) (script : List ℕ) (one other : Outcome)
-    → FilesAreTold words holds → IsOutcome words holds (Some script) one
+    → FilesAreKnown words holds → IsOutcome words holds (Some script) one
     → IsOutcome words holds (Some script) other
     → one ≡ other
-outcomes_one words holds script one other told p q =
-    by_words words holds script one other told p q (words_or_call words holds script one p)
+outcomes_one words holds script one other known p q =
+    by_words words holds script one other known p q (words_or_call words holds script one p)
     (words_or_call words holds script other q)
 
 pub jumps_same : (words others : List (List ℕ)) (call like : Call) (holds : List ℕ → Held) (script : List ℕ)
-    (one other : Outcome) → AreTold holds (files_of call) → Spell words call → Spell others like
+    (one other : Outcome) → AreKnown holds (files_of call) → Spell words call → Spell others like
     → DifferInEngine call like → is_jump call.settings.pick ≡ true → is_jump like.settings.pick ≡ true
     → call.settings.states ≡ like.settings.states
     → IsOutcome words holds (Some script) one → IsOutcome others holds (Some script) other → one ≡ other
-jumps_same words others call like holds script one other told spelled also alike jump jumps as_many p q =
-    one_outcome holds script call like alike told
+jumps_same words others call like holds script one other known spelled also alike jump jumps as_many p q =
+    one_outcome holds script call like alike known
     (jump_way call.settings.states call.settings.pick jump
     ∙ ap (λ (states : States). by_session (engine.Jps (layout_for states))) as_many
     ∙ sym (jump_way like.settings.states like.settings.pick jumps)) one other
@@ -490,13 +491,13 @@ jumps_same words others call like holds script one other told spelled also alike
     (call_comes others holds (Some script) like other also q)
 
 pub costs_same : (words others : List (List ℕ)) (call like : Call) (holds : List ℕ → Held) (script : List ℕ)
-    (one other : Outcome) → AreTold holds (files_of call) → Spell words call → Spell others like
+    (one other : Outcome) → AreKnown holds (files_of call) → Spell words call → Spell others like
     → DifferInEngine call like → AsksForCosts call.request.command call.settings.show
     → (call.request.command ≡ Drill)
     ⊎ (is_for_small_maps call.settings.pick ≡ is_for_small_maps like.settings.pick)
     ⊎ ((one.status ≢ 3) × (other.status ≢ 3)) ⊎ HoldsSmallMap (holds (word_at call.request.words 0))
     → IsOutcome words holds (Some script) one → IsOutcome others holds (Some script) other → one ≡ other
-costs_same words others call like holds script one other told spelled also alike costs maps p q =
-    one_cost_outcome holds script call like alike told costs one other maps
+costs_same words others call like holds script one other known spelled also alike costs maps p q =
+    one_cost_outcome holds script call like alike known costs one other maps
     (call_comes words holds (Some script) call one spelled p)
     (call_comes others holds (Some script) like other also q)

@@ -8,7 +8,7 @@ use Rattle.problem_maker.proofs.Drawn.{kept_one}
 use Rattle.problem_maker.proofs.Stable.{cheaper_ranks, one_order}
 use Rattle.problem_maker.specs.Ordered.{AreOrdered, is_cheaper}
 use Rattle.problem_maker.specs.declared.sorting.Problem.{Problem}
-use Rattle.problem_maker.specs.declared.tries.Ends.{Ends}
+use Rattle.problem_maker.specs.declared.tries.ProblemEnds.{ProblemEnds}
 use Rattle.scen_lines.specs.Line.{version_line}
 use Rattle.scen_lines.specs.Naming.{name_of}
 use Rattle.scen_maker.specs.Lengths.{IsProblemLine}
@@ -18,7 +18,8 @@ use Rattle.outcome_laws.proofs.Measured.{one_problem_line}
 use Rattle.outcome_laws.proofs.Turns.{turns-same}
 
 -- a try has one cost
-one_priced : (ls : Layers) (ends : Ends) (p q : Problem) → IsPriced ls ends p → IsPriced ls ends q → p ≡ q
+one_priced : (ls : Layers) (ends : ProblemEnds) (p q : Problem) → IsPriced ls ends p → IsPriced ls ends q
+    → p ≡ q
 one_priced ls ends p q one other =
     ap (λ (c : Cell). problem c p.goal p.cost) (one.start ∙ sym other.start)
     ∙ ap (λ (c : Cell). problem q.start c p.cost) (one.goal ∙ sym other.goal)
@@ -51,10 +52,10 @@ pub one_scenario : (ls : Layers) (word : List ℕ) (seed count : ℕ) (one other
 one_scenario ls word seed count one other status code is also =
     let kept : is.kept ≡ also.kept = kept_one ls seed count is.kept also.kept is.are_kept also.are_kept in
     let priced : is.priced ≡ also.priced =
-    turns-same {S = Unit {0}} {X = Ends} {Y = Problem} (λ _ ends p. IsPriced ls ends p)
+    turns-same {S = Unit {0}} {X = ProblemEnds} {Y = Problem} (λ _ ends p. IsPriced ls ends p)
     (λ _ ends p. IsPriced ls ends p) (λ s _. s) (λ s ends p q. one_priced ls ends p q) tt is.kept is.priced
     also.priced is.are_priced
-    (subst (λ (l : List Ends). ArePriced ls l also.priced) (sym kept) also.are_priced) in
+    (subst (λ (l : List ProblemEnds). ArePriced ls l also.priced) (sym kept) also.are_priced) in
     let ordered : is.ordered ≡ also.ordered =
     one_ordered is.priced is.ordered also.ordered is.are_ordered
     (subst (λ (l : List Problem). AreOrdered l also.ordered) (sym priced) also.are_ordered) in (

@@ -17,7 +17,7 @@ use Rattle.problem_maker.specs.Free.{free_cells}
 use Rattle.problem_maker.specs.Ordered.{is_cheaper}
 use Rattle.problem_maker.specs.Tries.{is_kept, kept_ends, most_tries, tries}
 use Rattle.problem_maker.specs.declared.sorting.Problem.{Problem}
-use Rattle.problem_maker.specs.declared.tries.Ends.{Ends}
+use Rattle.problem_maker.specs.declared.tries.ProblemEnds.{ProblemEnds}
 use Rattle.scen_lines.specs.Line.{version_line}
 use Rattle.scen_lines.specs.Naming.{name_of}
 use Rattle.scen_maker.specs.Lengths.{IsProblemLine}
@@ -30,7 +30,7 @@ module _ (ls : Layers) where
   -- whether a walk leads from one cell to another
   record Decided (s t : Cell) : Type 0 where
     is : Bool
-    told : IsTrue is ↔ HasWalk ls s t
+    decides : IsTrue is ↔ HasWalk ls s t
 
   decided : (s t : Cell) → Decided s t
   decided s t = by_start (is_free (query_grid ls s) s) refl
@@ -38,18 +38,18 @@ module _ (ls : Layers) where
       by_cost : (cost : Option Cost) → IsCostTo (query_grid ls s) s t cost → Decided s t
       by_cost None nothing = record {
         is = false;
-        told = (λ no. absurd (let e : false ≡ true = no in cc), λ w. absurd (nothing w.cells w.walk));
+        decides = (λ no. absurd (let e : false ≡ true = no in cc), λ w. absurd (nothing w.cells w.walk));
       }
       by_cost (Some cost) least = record {
         is = true;
-        told = (λ yes. record { cells = least.cells; walk = least.least.walk }, λ w. refl);
+        decides = (λ yes. record { cells = least.cells; walk = least.least.walk }, λ w. refl);
       }
 
       by_start : (b : Bool) → is_free (query_grid ls s) s ≡ b → Decided s t
       by_start true free = let c = cost_exists (query_grid ls s) s t free in by_cost c.0 c.1
       by_start false shut = record {
         is = false;
-        told = (
+        decides = (
           λ no. absurd (let e : false ≡ true = no in cc),
           λ w. absurd (let free = walk_free (query_grid ls s) s w.cells w.walk.legal in cc),
         );
@@ -59,11 +59,11 @@ module _ (ls : Layers) where
   joined s t = (decided s t).is
 
   -- ends between which a walk leads have a cost
-  abbrev AreJoined : List Ends → Type 0
+  abbrev AreJoined : List ProblemEnds → Type 0
   AreJoined [] = ⊤
   AreJoined (ends ∷ more) = (joined ends.start ends.goal ≡ true) × AreJoined more
 
-  kept_joined : (all : List Ends) → AreJoined (filter (is_kept joined) all)
+  kept_joined : (all : List ProblemEnds) → AreJoined (filter (is_kept joined) all)
   kept_joined [] = tt
   kept_joined (ends ∷ all) = by_test (is_kept joined ends) refl (kept_joined all)
     where
@@ -73,12 +73,12 @@ module _ (ls : Layers) where
           ((and_parts (not (is_same ends.start ends.goal)) (joined ends.start ends.goal) e).1, later)
       by_test false e later = later
 
-  first_joined : (n : ℕ) (all : List Ends) → AreJoined all → AreJoined (take n all)
+  first_joined : (n : ℕ) (all : List ProblemEnds) → AreJoined all → AreJoined (take n all)
   first_joined zero all are = tt
   first_joined (suc n) [] are = tt
   first_joined (suc n) (ends ∷ all) are = (are.0, first_joined n all are.1)
 
-  price : (ends : Ends) → HasWalk ls ends.start ends.goal → (p : Problem) × IsPriced ls ends p
+  price : (ends : ProblemEnds) → HasWalk ls ends.start ends.goal → (p : Problem) × IsPriced ls ends p
   price ends walk = let free = walk_free (query_grid ls ends.start) ends.start walk.cells walk.walk.legal in
       let c = cost_exists (query_grid ls ends.start) ends.start ends.goal free in by_cost c.0 c.1
     where
@@ -90,10 +90,10 @@ module _ (ls : Layers) where
         record { start = refl; goal = refl; least = least },
       )
 
-  prices : (all : List Ends) → AreJoined all → (problems : List Problem) × ArePriced ls all problems
+  prices : (all : List ProblemEnds) → AreJoined all → (problems : List Problem) × ArePriced ls all problems
   prices [] are = ([], tt)
   prices (ends ∷ all) are =
-      let first = price ends ((decided ends.start ends.goal).told.0 are.0) in
+      let first = price ends ((decided ends.start ends.goal).decides.0 are.0) in
       let rest = prices all are.1 in (first.0 ∷ rest.0, (first.1, rest.1))
 
   -- problems have a scenario
@@ -106,7 +106,7 @@ module _ (ls : Layers) where
 pub problems_exist : (ls : Layers) (word : List ℕ) (seed count : ℕ)
     → (text : List ℕ) × (status : ℕ) × AreProblems ls word seed count text status
 problems_exist ls word seed count =
-    let kept : List Ends = kept_ends (joined ls) (free_cells ls) seed count in
+    let kept : List ProblemEnds = kept_ends (joined ls) (free_cells ls) seed count in
     let priced = prices ls kept (first_joined ls count _ (kept_joined ls (tries (free_cells ls) seed
     (most_tries count)))) in
     let text = scenario ls (name_of word) (in_order is_cheaper cheaper_ranks priced.0) in (
@@ -114,7 +114,7 @@ problems_exist ls word seed count =
       problems_status count kept,
       record {
         kept = kept;
-        are_kept = record { joined = joined ls; told = λ s t. (decided ls s t).told; are = refl };
+        are_kept = record { joined = joined ls; decides = λ s t. (decided ls s t).decides; are = refl };
         priced = priced.0;
         are_priced = priced.1;
         ordered = in_order is_cheaper cheaper_ranks priced.0;

@@ -7,7 +7,7 @@ use Rattle.map_text.specs.Map.{Map}
 use Rattle.map_maker.specs.Drill.{drill_commands}
 use Rattle.map_maker.specs.Making.{made_map}
 use Rattle.edit_replay.specs.Session.{SessionData}
-use Rattle.script_text.specs.declared.command.Command.{Command}
+use Rattle.script_text.specs.declared.command.ScriptCommand.{ScriptCommand}
 use Rattle.scen_text.specs.declared.entry.Entry.{Entry}
 use Rattle.word_list.specs.declared.request.Settings.{Settings}
 use Rattle.word_list.specs.declared.request.Show.{Show}
@@ -49,7 +49,7 @@ one_rows who other entries rows same are alike =
     rows_same who other alike.layers (reply_same who other are alike) entries rows same
 
 -- on one map, whatever engines two settings pick
-found_on_map : (set other : Settings) (m : Map) (commands : List Command) (found same : List Finding)
+found_on_map : (set other : Settings) (m : Map) (commands : List ScriptCommand) (found same : List Finding)
     → set.rule ≡ other.rule → AreLayers (layers_on set m)
     → OnSession set m (λ d. AreFindings d commands found)
     → OnSession other m (λ d. AreFindings d commands same) → found ≡ same

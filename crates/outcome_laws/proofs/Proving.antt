@@ -37,7 +37,7 @@ module _ (ls : Layers) (s t : Cell) (are : AreLayers ls) where
   by_cases _ _ _ _ (certified text one is read) (blocked on shut) =
       not_blocked (ends_free ls are s t one) shut
   by_cases _ _ _ _ (certified text one is read) (apart free two) = not_apart one two
-  by_cases _ _ _ _ (certified text one is read) (certified more too also told) =
+  by_cases _ _ _ _ (certified text one is read) (certified more too also also_read) =
       (one_certificate (query_grid ls s) s t text more is also, refl)
 
 pub one_proof : (ls : Layers) (s t : Cell) (one other : List ℕ) (status code : ℕ) → AreLayers ls

@@ -3,7 +3,7 @@ use Rattle.std.proofs.Common.{◌≡◌, ◌⊎◌, inl, inr, refl, sym, ap, sub
 use Rattle.std.proofs.Common.{Bool, true, false, List, [], ◌∷◌, ◌++◌, length, drop, take, append-nil}
 use Rattle.std.proofs.Common.{append_assoc}
 use Rattle.std.specs.Prelude.{Option, Some, None, is_some, slice_get}
-use Rattle.io_edge.specs.Told.{Held, holding}
+use Rattle.io_edge.specs.Known.{Held, holding}
 use Rattle.io_edge.specs.Whole.{IsLonger, IsWhole}
 use Rattle.word_list.specs.Calls.{call_of, is_call}
 use Rattle.word_list.specs.Kinds.{is_of}
@@ -12,7 +12,7 @@ use Rattle.word_list.specs.Rule.{IsBadWord}
 use Rattle.word_list.specs.Settings.{is_complete, may_follow, settings_of, tables_of}
 use Rattle.word_list.specs.Steps.{AreOf, AreSettled, is_one_of, one_follows}
 use Rattle.word_list.specs.declared.request.Settings.{Settings}
-use Rattle.word_list.specs.declared.rows.Kind.{Kind}
+use Rattle.word_list.specs.declared.rows.WordKind.{WordKind}
 use Rattle.word_list.specs.declared.settings.Family.{Family}
 use Rattle.word_list.proofs.Calls.{calls, names_first, names_none, names_setting, names_taken}
 use Rattle.call_files.specs.FaultLines.{long_line}
@@ -33,7 +33,7 @@ less_or_not (suc a) (suc b) = elim (less_or_not a b) [
 ]
 
 -- words are of their kinds up to some place
-module _ (kind : Kind) (takes : List Kind) (word : List ℕ) (words : List (List ℕ)) (count : ℕ)
+module _ (kind : WordKind) (takes : List WordKind) (word : List ℕ) (words : List (List ℕ)) (count : ℕ)
     (behind : AreOf takes words count) where
   kinds_first : is_of kind word ≡ true → (k : ℕ) → k < suc count
       → is_one_of (slice_get (kind ∷ takes) k) (slice_get (word ∷ words) k) ≡ true
@@ -52,7 +52,7 @@ module _ (kind : Kind) (takes : List Kind) (word : List ℕ) (words : List (List
     },
   )
 
-kinds_end : (takes : List Kind) (words : List (List ℕ)) → (count : ℕ) × AreOf takes words count
+kinds_end : (takes : List WordKind) (words : List (List ℕ)) → (count : ℕ) × AreOf takes words count
 kinds_end [] words = (
   0,
   record {

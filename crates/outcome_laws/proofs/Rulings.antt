@@ -1,21 +1,21 @@
--- Entries and what is told of each have one list of rows.
+-- Entries and what is claimed of each have one list of rows.
 use Rattle.std.proofs.Common.{◌≡◌, ap, sym, ◌∙◌, true, false, ◌&&◌, List}
 use Rattle.grid_moves.specs.Layers.{AreLayers, Layers, is_on_map, query_grid}
 use Rattle.grid_moves.specs.Reply.{are_free_ends}
 use Rattle.scen_text.specs.declared.entry.Entry.{Entry}
 use Rattle.walk_judge.specs.declared.judging.Judged.{Judged}
-use Rattle.walk_judge.specs.declared.telling.Told.{Told}
+use Rattle.walk_judge.specs.declared.telling.Claimed.{Claimed}
 use Rattle.walk_judge.proofs.Judgements.{one_judgement}
 use Rattle.jps_run.specs.Rows.{has_sides}
 use Rattle.jps_run.specs.Rulings.{AreRulings, IsRuling, blocked, goal_of, judged, outside, scale, start_of}
-use Rattle.jps_run.specs.Rulings.{with_told}
+use Rattle.jps_run.specs.Rulings.{with_claims}
 use Rattle.jps_run.specs.declared.replies.ruling.Ruling.{Ruling}
 use Rattle.jps_run.specs.declared.replies.ruling.Ruling.TheVariants as ruling
 use Rattle.outcome_laws.proofs.Ground.{ends_on, not_both}
 use Rattle.outcome_laws.proofs.Turns.{turns-same}
 
 module _ (ls : Layers) (are : AreLayers ls) where
-  module _ (entry : Entry) (told : Told) where
+  module _ (entry : Entry) (claimed : Claimed) where
     not_scale : {A : Type 0} → has_sides ls entry ≡ true → has_sides ls entry ≡ false → A
     not_scale fits other = not_both (has_sides ls entry) fits other
 
@@ -37,7 +37,7 @@ module _ (ls : Layers) (are : AreLayers ls) where
     not_blocked : {A : Type 0} → AreFree → are_free_ends ls (start_of entry) (goal_of entry) ≡ false → A
     not_blocked free shut = not_both (are_free_ends ls (start_of entry) (goal_of entry)) free shut
 
-    pub one_ruling : (one other : Ruling) → IsRuling ls entry told one → IsRuling ls entry told other
+    pub one_ruling : (one other : Ruling) → IsRuling ls entry claimed one → IsRuling ls entry claimed other
         → one ≡ other
     one_ruling one other (scale p e) (scale q f) = e ∙ sym f
     one_ruling one other (scale p e) (outside q off f) = not_scale q p
@@ -56,14 +56,14 @@ module _ (ls : Layers) (are : AreLayers ls) where
     one_ruling one other (judged how p free is e) (blocked q shut f) = not_blocked free shut.1
     one_ruling one other (judged how p free is e) (judged why q too also f) =
         let same : how ≡ why = one_judgement (query_grid ls (start_of entry)) (start_of entry)
-        (goal_of entry) told
+        (goal_of entry) claimed
         how why is also in
         e ∙ ap (λ (j : Judged). let r : Ruling = ruling.Judged j in r) same ∙ sym f
 
-pub one_list : (ls : Layers) (entries : List Entry) (walks : List Told) (one other : List Ruling)
+pub one_list : (ls : Layers) (entries : List Entry) (walks : List Claimed) (one other : List Ruling)
     → AreLayers ls
     → AreRulings ls entries walks one → AreRulings ls entries walks other → one ≡ other
 one_list ls entries walks one other are is also =
-    turns-same {S = Unit {0}} {X = Entry × Told} {Y = Ruling} (λ _ both r. IsRuling ls both.0 both.1 r)
+    turns-same {S = Unit {0}} {X = Entry × Claimed} {Y = Ruling} (λ _ both r. IsRuling ls both.0 both.1 r)
     (λ _ both r. IsRuling ls both.0 both.1 r) (λ s _. s)
-    (λ s both y z. one_ruling ls are both.0 both.1 y z) tt (with_told entries walks) one other is also
+    (λ s both y z. one_ruling ls are both.0 both.1 y z) tt (with_claims entries walks) one other is also

@@ -15,7 +15,7 @@ use Rattle.grid_moves.specs.declared.Dir.{Dir}
 use Rattle.grid_moves.specs.Grid.{GridData, IsGrid, cell_number, is_inside}
 use Rattle.grid_moves.specs.Layers.{AreLayers, Layers, query_grid}
 use Rattle.grid_answers.specs.RunLines.{IsRunText, runs_text}
-use Rattle.outcome_laws.proofs.OfCell.{one_told}
+use Rattle.outcome_laws.proofs.OfCell.{one_answer}
 use Rattle.outcome_laws.proofs.Ground.{and_true, query_whole}
 
 module _ (g : GridData) (s : Cell) where
@@ -66,6 +66,6 @@ module _ (g : GridData) (s : Cell) where
 
 pub one_text : (ls : Layers) (s : Cell) (one other : List ℕ) → AreLayers ls
     → IsRunText ls s one → IsRunText ls s other → one ≡ other
-one_text ls s one other are = one_told ls s (λ line. line) one other are (λ x y free p q.
+one_text ls s one other are = one_answer ls s (λ line. line) one other are (λ x y free p q.
     p.2 ∙ ap (λ (r : List Run). runs_text (query_grid ls s).width r)
     (one_row (query_grid ls s) s (query_whole ls are s) p.0 q.0 p.1 q.1) ∙ sym q.2)

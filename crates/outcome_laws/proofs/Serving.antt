@@ -9,7 +9,7 @@ use Rattle.word_list.specs.declared.request.Pick.{Pick}
 use Rattle.word_list.specs.declared.request.Pick.TheVariants.{Small}
 use Rattle.word_list.specs.declared.request.SmallEngine.TheVariants.{Boxes, Moves}
 use Rattle.word_list.specs.declared.request.Settings.{Settings}
-use Rattle.word_list.specs.declared.rows.Kind.{Kind}
+use Rattle.word_list.specs.declared.rows.WordKind.{WordKind}
 use Rattle.word_list.specs.declared.settings.Family.{Family}
 use Rattle.word_list.specs.declared.settings.Setting.{Setting}
 use Rattle.word_list.specs.declared.settings.Setting.TheVariants as setting
@@ -17,7 +17,7 @@ use Rattle.word_list.specs.Calls.{fits}
 use Rattle.word_list.specs.Kinds.{is_of}
 use Rattle.word_list.specs.Request.{Call, Named, Row, row_of, rows}
 use Rattle.outcome_laws.specs.Serving.{IsServed, SmallEnginesServeTwo, takes_small_maps}
-use Rattle.outcome_laws.proofs.Spelled.{row_told, spelled}
+use Rattle.outcome_laws.proofs.Spelled.{row_called, spelled}
 use Rattle.word_list.specs.Settings.{setting_of, is_for_small_maps, is_allowed, may_follow, all_follow}
 use Rattle.word_list.specs.Settings.{are_settings, settings_with, default_settings}
 
@@ -48,7 +48,7 @@ module _ (allows : List Family) (bar : BarSmall allows) where
       (with_one set (setting_of word) (and_parts (is_allowed allows (setting_of word)) _ parts.0).0 large)
 
 -- behind the words that a command takes stand its settings
-settings_behind : (takes : List Kind) (allows : List Family) (words : List (List ℕ))
+settings_behind : (takes : List WordKind) (allows : List Family) (words : List (List ℕ))
     → fits takes allows words ≡ true
     → are_settings allows (drop (length takes) words) ≡ true
 settings_behind [] allows words fit = fit
@@ -84,14 +84,14 @@ serving one may = record {
 
 row_serves : (name : List ℕ) (row : Row) → row_of name ≡ Some row → IsServing row
 unfolding may_allow allows_small
-row_serves name row e = let is = row_told may_allow rows name row refl e in
+row_serves name row e = let is = row_called may_allow rows name row refl e in
     subst (λ (r : Row). IsServing r) is.row_is (serving is.one is.passes)
 
 -- so the engine of a call may serve what it asks for
 pub served : SmallEnginesServeTwo
 served [] call e = absurd (cc)
 served (name ∷ words) call e = let is = spelled name words call e in
-    subst (λ (k : Call). IsServed k.request.command k.settings) is.told
+    subst (λ (k : Call). IsServed k.request.command k.settings) is.spells
     (λ no. with_all is.row.allows ((row_serves name is.row is.known).bar no) []
     (drop (length is.row.takes) words) default_settings
     (and_parts (all_follow is.row.allows [] (drop (length is.row.takes) words)) _

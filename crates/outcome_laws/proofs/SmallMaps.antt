@@ -4,7 +4,7 @@ use Rattle.std.specs.Prelude.{◌⊎◌, Option, Some, None, Ok, Err, if◌then�
 use Rattle.std.proofs.Common.{inl, inr}
 use Rattle.std.specs.declared.result.Result.{Result}
 use Rattle.grid_moves.specs.declared.Corner.{Corner}
-use Rattle.io_edge.specs.Told.{Held, holding, absent, untold}
+use Rattle.io_edge.specs.Known.{Held, holding, absent, unknown}
 use Rattle.io_edge.specs.Whole.{IsLonger, IsWhole}
 use Rattle.map_text.specs.Map as maps
 use Rattle.map_text.specs.Faults.{map_of}
@@ -19,9 +19,9 @@ use Rattle.call_files.specs.Files.{too_long}
 use Rattle.call_files.specs.Kinds.{fault_in, kind_for, kind_word, limit_of, refusal_of, small_refusal, takes}
 use Rattle.call_files.specs.MapFiles.{map_files, map_kind}
 use Rattle.call_files.specs.declared.kind.Extent.TheVariants.{Any, Small}
-use Rattle.call_files.specs.declared.kind.Kind.{Kind}
-use Rattle.call_files.specs.declared.kind.Kind.TheVariants as kind
-use Rattle.outcome_laws.specs.Files.{AreTold}
+use Rattle.call_files.specs.declared.kind.TextKind.{TextKind}
+use Rattle.call_files.specs.declared.kind.TextKind.TheVariants as kind
+use Rattle.outcome_laws.specs.Files.{AreKnown}
 use Rattle.jps_run.specs.Calls.{call_with, files_of}
 use Rattle.outcome_laws.specs.Outcomes.{HoldsSmallMap}
 use Rattle.outcome_laws.proofs.Tasks.{TakesNone, TakesTables, tables_taken}
@@ -40,17 +40,17 @@ same_alike holds files others e = record {
 }
 
 -- texts of the kinds have the same limit, and what is held is refused by the same line, if it is
-record AreKindsAlike (held : Held) (one other : Kind) : Type 0 where
+record AreKindsAlike (held : Held) (one other : TextKind) : Type 0 where
   limit : limit_of one ≡ limit_of other
   word : kind_word one ≡ kind_word other
   refusal : (text : List ℕ) → held ≡ holding text → refusal_of one [] text ≡ refusal_of other [] text
 
--- a whole text of a told file is what is held
-whole_held : (held : Held) (limit : ℕ) (text : List ℕ) → held ≢ untold → IsWhole held limit text
+-- a whole text of a known file is what is held
+whole_held : (held : Held) (limit : ℕ) (text : List ℕ) → held ≢ unknown → IsWhole held limit text
     → held ≡ holding text
-whole_held untold limit text told p = absurd (told refl)
-whole_held absent limit text told p = absurd p
-whole_held (holding bytes) limit text told p = ap holding (sym p.0)
+whole_held unknown limit text known p = absurd (known refl)
+whole_held absent limit text known p = absurd p
+whole_held (holding bytes) limit text known p = ap holding (sym p.0)
 
 -- the parts of a list of files
 first_or : File → List File → File
@@ -61,12 +61,12 @@ behind_first : List File → List File
 behind_first [] = []
 behind_first (file ∷ files) = files
 
-module _ (holds : List ℕ → Held) (name : List ℕ) (told : holds name ≢ untold) (one other : Kind)
+module _ (holds : List ℕ → Held) (name : List ℕ) (known : holds name ≢ unknown) (one other : TextKind)
     (alike : AreKindsAlike (holds name) one other) where
   one_accepted : (text : List ℕ) → IsAccepted [] one (holds name) text → IsAccepted [] other (holds name) text
   one_accepted text p = (
     subst (λ (n : ℕ). IsWhole (holds name) n text) alike.limit p.0,
-    sym (alike.refusal text (whole_held (holds name) (limit_of one) text told p.0)) ∙ p.1,
+    sym (alike.refusal text (whole_held (holds name) (limit_of one) text known p.0)) ∙ p.1,
   )
 
   one_refused : (line : List ℕ) → IsRefused [] one (holds name) line → IsRefused [] other (holds name) line
@@ -74,7 +74,7 @@ module _ (holds : List ℕ → Held) (name : List ℕ) (told : holds name ≢ un
       too_long (subst (λ (n : ℕ). IsLonger (holds name) n) alike.limit longer) (e ∙ ap long_line alike.word)
   one_refused line (faulty text whole fault) =
       faulty text (subst (λ (n : ℕ). IsWhole (holds name) n text) alike.limit whole)
-      (sym (alike.refusal text (whole_held (holds name) (limit_of one) text told whole)) ∙ fault)
+      (sym (alike.refusal text (whole_held (holds name) (limit_of one) text known whole)) ∙ fault)
 
   module _ (behind : List File) where
     all_accepted : (texts : List (List ℕ)) → AreAccepted holds [] (file_of one name ∷ behind) texts
@@ -142,22 +142,22 @@ kinds_alike held small false true = record {
 -- the engine is no matter for what is accepted or refused where the map is small
 module _ (holds : List ℕ → Held) (set other : Settings) (rule : set.rule ≡ other.rule) where
   map_alike : (map : List ℕ) (tables : Option (List ℕ)) (rest : List File) → HoldsSmallMap (holds map)
-      → AreTold holds (map_files set map tables ++ rest)
+      → AreKnown holds (map_files set map tables ++ rest)
       → AreAlike holds (map_files set map tables ++ rest) (map_files other map tables ++ rest)
-  map_alike map None rest small told =
+  map_alike map None rest small known =
       let kinds = kinds_alike (holds map) small (is_for_small_maps other.pick) (is_for_small_maps set.pick) in
       record {
-        accepted = all_accepted holds map told.0 (map_kind other) (map_kind set) kinds rest;
-        refused = all_refused holds map told.0 (map_kind other) (map_kind set) kinds rest;
+        accepted = all_accepted holds map known.0 (map_kind other) (map_kind set) kinds rest;
+        refused = all_refused holds map known.0 (map_kind other) (map_kind set) kinds rest;
       }
-  map_alike map (Some tables) rest small told =
+  map_alike map (Some tables) rest small known =
       same_alike holds (map_files set map (Some tables) ++ rest) (map_files other map (Some tables) ++ rest)
       (ap (λ (corner : Corner). file_of kind.Map map ∷ file_of (kind.Tables corner) tables ∷ rest) rule)
 
-  pub small_alike : (asked : Asked) → AreTold holds (files_of (call_with asked set))
+  pub small_alike : (asked : Asked) → AreKnown holds (files_of (call_with asked set))
       → HoldsSmallMap (holds (word_at asked.words 0))
       → AreAlike holds (files_of (call_with asked set)) (files_of (call_with asked other))
-  small_alike asked told small = by_tables (tables_taken asked.command asked.words)
+  small_alike asked known small = by_tables (tables_taken asked.command asked.words)
     where
       by_tables : TakesTables asked.command asked.words ⊎ TakesNone asked.command asked.words
           → AreAlike holds (files_of (call_with asked set)) (files_of (call_with asked other))
@@ -168,7 +168,7 @@ module _ (holds : List ℕ → Held) (set other : Settings) (rule : set.rule ≡
           ++ t.rest) fs)
           (sym (t.files other asked.tables))
           (map_alike (word_at asked.words 0) asked.tables t.rest small
-          (subst (λ (fs : List File). AreTold holds fs) (t.files set asked.tables) told)))
+          (subst (λ (fs : List File). AreKnown holds fs) (t.files set asked.tables) known)))
       by_tables (inr t) =
           same_alike holds (files_of (call_with asked set)) (files_of (call_with asked other))
           (t.files set other asked.tables asked.tables)

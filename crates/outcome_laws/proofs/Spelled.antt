@@ -21,7 +21,7 @@ pub record IsSpelled (name : List ℕ) (words : List (List ℕ)) (call : Call) :
   pub row : Row
   pub known : row_of name ≡ Some row
   pub fit : fits row.takes row.allows words ≡ true
-  pub told : call_by row words ≡ call
+  pub spells : call_by row words ≡ call
 
 same_call : (one other : Call) → Some one ≡ Some other → one ≡ other
 same_call one other e = ap (λ (o : Option Call). unwrap_or o one) e
@@ -36,7 +36,7 @@ spelled name words call e = by_row (row_of name) refl e
       row = row;
       known = is;
       fit = fit;
-      told = same_call (call_by row words) call e;
+      spells = same_call (call_by row words) call e;
     }
     by_fit row is false fit e = absurd (cc)
 
@@ -53,12 +53,12 @@ pub record IsRowOf (test : Named → Bool) (name : List ℕ) (row : Row) : Type 
   pub row_is : one.row ≡ row
   pub passes : test one ≡ true
 
-pub row_told : (test : Named → Bool) (all : List Named) (name : List ℕ) (row : Row)
+pub row_called : (test : Named → Bool) (all : List Named) (name : List ℕ) (row : Row)
     → list_all test all ≡ true → row_in all name ≡ Some row → IsRowOf test name row
-row_told test [] name row pass e = absurd (cc)
-row_told test (one ∷ others) name row pass e =
+row_called test [] name row pass e = absurd (cc)
+row_called test (one ∷ others) name row pass e =
     let parts = and_parts (test one) (list_all test others) pass in
-    by_name (bytes_eq name one.name) refl e parts.0 (row_told test others name row parts.1)
+    by_name (bytes_eq name one.name) refl e parts.0 (row_called test others name row parts.1)
   where
     by_name : (b : Bool) → bytes_eq name one.name ≡ b
         → (if b then Some one.row else row_in others name) ≡ Some row → test one ≡ true

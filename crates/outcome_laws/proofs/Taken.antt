@@ -5,12 +5,12 @@ use Rattle.std.specs.Prelude.{Option, Some, None}
 use Rattle.std.proofs.lemmas.List.{append-nil, take_all}
 use Rattle.grid_moves.specs.Layers.{AreLayers}
 use Rattle.edit_replay.specs.Session.{SessionData}
-use Rattle.script_text.specs.declared.command.Command.{Command}
+use Rattle.script_text.specs.declared.command.ScriptCommand.{ScriptCommand}
 use Rattle.script_text.specs.Feeding.{commands_of, commands_so_far}
 use Rattle.script_text.proofs.Feeding.{commands-end, commands-grow}
 use Rattle.word_list.specs.declared.request.Show.{Show}
 use Rattle.call_files.specs.Kinds.{limit_of}
-use Rattle.call_files.specs.declared.kind.Kind.TheVariants as kind
+use Rattle.call_files.specs.declared.kind.TextKind.TheVariants as kind
 use Rattle.jps_run.specs.Who.{who_is}
 use Rattle.jps_run.specs.Answers.{AreAnswers}
 use Rattle.jps_run.specs.Heard.{AnswerHeard, AnswerPending, AnswerTaken, AreWhole, IsHeard, at_end, counted}
@@ -20,15 +20,15 @@ use Rattle.outcome_laws.proofs.Heard.{not_longer}
 use Rattle.outcome_laws.proofs.Lines.{answers_begin}
 
 -- these commands begin with the first ones
-abbrev Begin : List Command → List Command → Type 0
-Begin first all = (more : List Command) × (all ≡ first ++ more)
+abbrev Begin : List ScriptCommand → List ScriptCommand → Type 0
+Begin first all = (more : List ScriptCommand) × (all ≡ first ++ more)
 
-begin-then : (a b c : List Command) → Begin a b → Begin b c → Begin a c
+begin-then : (a b c : List ScriptCommand) → Begin a b → Begin b c → Begin a c
 begin-then a b c p q =
-    (p.0 ++ q.0, q.1 ∙ ap (λ (l : List Command). l ++ q.0) p.1 ∙ append_assoc a p.0 q.0)
+    (p.0 ++ q.0, q.1 ∙ ap (λ (l : List ScriptCommand). l ++ q.0) p.1 ∙ append_assoc a p.0 q.0)
 
-begin-same : (a b c d : List Command) → a ≡ b → Begin b c → d ≡ c → Begin a d
-begin-same a b c d e p f = (p.0, f ∙ p.1 ∙ ap (λ (l : List Command). l ++ p.0) (sym e))
+begin-same : (a b c d : List ScriptCommand) → a ≡ b → Begin b c → d ≡ c → Begin a d
+begin-same a b c d e p f = (p.0, f ∙ p.1 ∙ ap (λ (l : List ScriptCommand). l ++ p.0) (sym e))
 
 -- the first bytes of more bytes begin with the first bytes
 take-front : (n : ℕ) (xs ys : List ℕ) → (more : List ℕ) × (take n (xs ++ ys) ≡ take n xs ++ more)
@@ -68,7 +68,8 @@ module _ (taken rest : List ℕ) where
   nothing_left end = ap (λ (l : List ℕ). taken ++ l) end ∙ append-nil taken
 
   -- the whole commands among these bytes begin those of the script
-  part-heard : (commands all : List Command) (refusal : Option (List ℕ)) → AreWhole (Some rest) taken commands
+  part-heard : (commands all : List ScriptCommand) (refusal : Option (List ℕ))
+      → AreWhole (Some rest) taken commands
       → IsHeard (taken ++ rest) all refusal → Begin commands all
   part-heard commands all refusal (so_far c) (whole h k r) = begin-same commands _ _ all c (in_whole h) k
   part-heard commands all refusal (so_far c) (too_long h k r) = begin-same commands _ _ all c in_counted k
@@ -85,9 +86,9 @@ pub taken_begins : (d e : SessionData) (show : Show) (script : List ℕ) (left r
 taken_begins d e show script None refusal lines all are alike p q = absurd p.consumed
 taken_begins d e show script (Some rest) refusal lines all are alike p q =
     let begun = part-heard p.taken rest p.commands q.commands refusal p.whole
-    (subst (λ (text : List ℕ). IsHeard text q.commands refusal) (q.told ∙ p.consumed) q.heard) in
+    (subst (λ (text : List ℕ). IsHeard text q.commands refusal) (q.comes ∙ p.consumed) q.heard) in
     answers_begin d e show p.commands begun.0 lines all are alike p.answers
-    (subst (λ (commands : List Command). AreAnswers e show commands all) begun.1 q.answers)
+    (subst (λ (commands : List ScriptCommand). AreAnswers e show commands all) begun.1 q.answers)
 
 -- where no line of the bytes is refused, the lines are those for the whole commands among them
 pub pending_taken : (d : SessionData) (show : Show) (input left : Option (List ℕ)) (lines : List (List ℕ))

@@ -3,7 +3,7 @@
 use Rattle.std.proofs.Common.{◌≡◌, ◌⊎◌, inl, inr, refl, ap, sym, ◌∙◌, subst, ℕ, List, [], ◌∷◌, ◌++◌}
 use Rattle.std.proofs.Common.{true, append-nil}
 use Rattle.std.specs.Prelude.{⊤, Option}
-use Rattle.io_edge.specs.Told.{Held}
+use Rattle.io_edge.specs.Known.{Held}
 use Rattle.map_text.specs.Map.{Map}
 use Rattle.map_text.specs.Faults.{map_of}
 use Rattle.word_list.specs.Kinds.{word_at}
@@ -14,7 +14,7 @@ use Rattle.word_list.specs.declared.rows.Command.TheVariants as command
 use Rattle.call_files.specs.Files.{AreAccepted, File, file_of}
 use Rattle.call_files.specs.Kinds.{refusal_of}
 use Rattle.call_files.specs.MapFiles.{map_files}
-use Rattle.call_files.specs.declared.kind.Kind.TheVariants as kind
+use Rattle.call_files.specs.declared.kind.TextKind.TheVariants as kind
 use Rattle.jps_run.specs.Calls.{IsAnswered, reads_input, task}
 use Rattle.jps_run.specs.Parts.{OnLast, OnMap}
 use Rattle.outcome_laws.proofs.Alike.{last, last_append, same_first, same_others}

@@ -1,7 +1,7 @@
 -- That a call comes to an outcome at all.
 use Rattle.std.specs.Prelude.{◌≡◌, ⊤, ◌⊎◌, ℕ, false, List, [], ◌∷◌, Some}
 use Rattle.grid_moves.specs.Grid.{GridData}
-use Rattle.io_edge.specs.Told.{Held, holding}
+use Rattle.io_edge.specs.Known.{Held, holding}
 use Rattle.potential_check.specs.declared.certificate.Certificate.{Certificate}
 use Rattle.word_list.specs.Calls.{is_call}
 use Rattle.word_list.specs.Request.{Call}
@@ -33,7 +33,7 @@ abbrev pub VerdictsExist : Type 0
 VerdictsExist = (g : GridData) (c : Certificate) → (line : List ℕ) × (status : ℕ) × IsVerdict g c line status
 
 -- Where words spell no call, they come to an outcome; where they spell one, they do if its files are all
--- present. The input is told.
+-- present. The input is known.
 abbrev pub OutcomesExist : Type 0
 OutcomesExist = (words : List (List ℕ)) (holds : List ℕ → Held) (script : List ℕ)
     → ((call : Call) → Spell words call → ArePresent holds (files_of call))

@@ -5,7 +5,7 @@ use Rattle.grid_moves.specs.declared.Cell.{Cell}
 use Rattle.grid_moves.specs.Layers.{AreLayers}
 use Rattle.map_text.specs.Map.{Map}
 use Rattle.edit_replay.specs.Session.{SessionData}
-use Rattle.script_text.specs.declared.command.Command.{Command}
+use Rattle.script_text.specs.declared.command.ScriptCommand.{ScriptCommand}
 use Rattle.scen_text.specs.declared.entry.Entry.{Entry}
 use Rattle.word_list.specs.declared.request.Settings.{Settings}
 use Rattle.word_list.specs.declared.request.Show.{Show}
@@ -28,7 +28,7 @@ ReplyLinesAreOne = (who other : Who) (show : Show) (s t : Cell) (line same : Lis
 
 -- the lines of commands, by two sessions that answer alike
 abbrev pub AnswersAreOne : Type 0
-AnswersAreOne = (d e : SessionData) (show : Show) (commands : List Command) (lines same : List (List ℕ))
+AnswersAreOne = (d e : SessionData) (show : Show) (commands : List ScriptCommand) (lines same : List (List ℕ))
     → AreLayers d.layers → AnswerAlike (who_is d) (who_is e)
     → AreAnswers d show commands lines → AreAnswers e show commands same → lines ≡ same
 
@@ -39,14 +39,14 @@ DrawingsAreOne = (d e : SessionData) (m : Map) (s t : Cell) (show : Show) (text 
     → AreLayers d.layers → AnswerAlike (who_is d) (who_is e)
     → IsDrawing d m s t show text status → IsDrawing e m s t show same also → (text ≡ same) × (status ≡ also)
 
--- the lines for a told script that comes in, and the line of its refusal
+-- the lines for a known script that comes in, and the line of its refusal
 abbrev pub HeardIsOne : Type 0
 HeardIsOne = (d e : SessionData) (show : Show) (script : List ℕ) (refusal also : Option (List ℕ))
     (lines same : List (List ℕ)) → AreLayers d.layers → AnswerAlike (who_is d) (who_is e)
     → AnswerHeard d show (Some script) refusal lines → AnswerHeard e show (Some script) also same
     → (refusal ≡ also) × (lines ≡ same)
 
--- the lines for the bytes of a told script that were taken begin those of the whole script
+-- the lines for the bytes of a known script that were taken begin those of the whole script
 abbrev pub TakenBeginsHeard : Type 0
 TakenBeginsHeard = (d e : SessionData) (show : Show) (script : List ℕ) (left refusal : Option (List ℕ))
     (lines all : List (List ℕ)) → AreLayers d.layers → AnswerAlike (who_is d) (who_is e)
@@ -61,7 +61,7 @@ RowsAreOne = (who other : Who) (entries : List Entry) (rows same : List Row)
 
 -- what commands come to, by two sessions with the same layers, whatever their engines
 abbrev pub FindingsAreOne : Type 0
-FindingsAreOne = (d e : SessionData) (commands : List Command) (found same : List Finding)
+FindingsAreOne = (d e : SessionData) (commands : List ScriptCommand) (found same : List Finding)
     → AreLayers d.layers → d.layers ≡ e.layers
     → AreFindings d commands found → AreFindings e commands same → found ≡ same
 

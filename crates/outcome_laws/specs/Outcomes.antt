@@ -2,7 +2,7 @@
 -- stops.
 use Rattle.std.specs.Prelude.{◌≡◌, ◌≢◌, ⊤, ◌⊎◌, ℕ, Bool, true, List, take, Ok, Option, Some}
 use Rattle.std.specs.List.{concat}
-use Rattle.io_edge.specs.Told.{Disk, Held, Inflow, Outflow, holding}
+use Rattle.io_edge.specs.Known.{Disk, Held, Inflow, Outflow, holding}
 use Rattle.io_edge.specs.Whole.{AppendsSome}
 use Rattle.map_text.specs.Map.{Map}
 use Rattle.map_text.specs.Faults.{map_of}
@@ -18,20 +18,20 @@ use Rattle.word_list.specs.declared.rows.Command.TheVariants.{Drill, Scen}
 use Rattle.line_work.specs.Sending.{Wrote}
 use Rattle.call_files.specs.Kinds.{takes}
 use Rattle.call_files.specs.declared.kind.Extent.TheVariants.{Small}
-use Rattle.outcome_laws.specs.Files.{AreTold}
+use Rattle.outcome_laws.specs.Files.{AreKnown}
 use Rattle.jps_run.specs.Calls.{files_of, task}
 use Rattle.jps_run.specs.Ending.{HasFailed, HasLines, HasPart}
 use Rattle.jps_run.specs.Outcome.{IsOutcome, Outcome, Spell}
 
--- of each file that the words name it is told what stands under its name
-abbrev pub FilesAreTold : List (List ℕ) → (List ℕ → Held) → Type 0
-FilesAreTold words holds = (call : Call) → Spell words call → AreTold holds (files_of call)
+-- of each file that the words name it is known what stands under its name
+abbrev pub FilesAreKnown : List (List ℕ) → (List ℕ → Held) → Type 0
+FilesAreKnown words holds = (call : Call) → Spell words call → AreKnown holds (files_of call)
 
--- Where the files and the input are told, words come to at most one outcome: one status, one output and one
+-- Where the files and the input are known, words come to at most one outcome: one status, one output and one
 -- line.
 abbrev pub OutcomesAreOne : Type 0
 OutcomesAreOne = (words : List (List ℕ)) (holds : List ℕ → Held) (script : List ℕ) (one other : Outcome)
-    → FilesAreTold words holds → IsOutcome words holds (Some script) one
+    → FilesAreKnown words holds → IsOutcome words holds (Some script) one
     → IsOutcome words holds (Some script) other
     → one ≡ other
 
@@ -64,7 +64,7 @@ pub record DifferInEngine (call other : Call) : Type 0 where
 -- their searches go by the same rule of states.
 abbrev pub JumpEnginesPrintTheSame : Type 0
 JumpEnginesPrintTheSame = (words others : List (List ℕ)) (call like : Call) (holds : List ℕ → Held)
-    (script : List ℕ) (one other : Outcome) → AreTold holds (files_of call)
+    (script : List ℕ) (one other : Outcome) → AreKnown holds (files_of call)
     → Spell words call → Spell others like → DifferInEngine call like
     → is_jump call.settings.pick ≡ true → is_jump like.settings.pick ≡ true
     → call.settings.states ≡ like.settings.states
@@ -86,7 +86,7 @@ HoldsSmallMap held = (text : List ℕ) (m : Map) → held ≡ holding text → m
 -- first word names, is that of a small one, or of none.
 abbrev pub EnginesPrintTheSameCosts : Type 0
 EnginesPrintTheSameCosts = (words others : List (List ℕ)) (call like : Call) (holds : List ℕ → Held)
-    (script : List ℕ) (one other : Outcome) → AreTold holds (files_of call)
+    (script : List ℕ) (one other : Outcome) → AreKnown holds (files_of call)
     → Spell words call → Spell others like → DifferInEngine call like
     → AsksForCosts call.request.command call.settings.show
     → (call.request.command ≡ Drill)
@@ -102,7 +102,7 @@ WroteLinesOf lines before now = (count : ℕ) × Wrote before now (concat (take 
 -- its bytes where a write failed; of its lines, each whole, where a read failed or for want of memory.
 abbrev pub WrittenBeginsTheOutput : Type 0
 WrittenBeginsTheOutput = (words : List (List ℕ)) (disk disk_now : Disk) (input input_now : Inflow)
-    (out out_now : Outflow) (script : List ℕ) (outcome : Outcome) → FilesAreTold words disk.holds
+    (out out_now : Outflow) (script : List ℕ) (outcome : Outcome) → FilesAreKnown words disk.holds
     → input.left ≡ Some script → IsOutcome words disk.holds (Some script) outcome
     → (HasPart words disk.holds input input_now out out_now
     → AppendsSome out.written out_now.written (concat outcome.out))

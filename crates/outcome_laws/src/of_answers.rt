@@ -30,17 +30,17 @@ pub fn accepted_or_refused_exist()
     ensures { AcceptedOrRefusedExist }
 {}
 
-/// Files that are told hold at most one list of texts that are accepted in turn.
+/// Files that are known hold at most one list of texts that are accepted in turn.
 pub fn accepted_texts_are_one()
     ensures { AcceptedTextsAreOne }
 {}
 
-/// Files that are told come to at most one line of the first refused one.
+/// Files that are known come to at most one line of the first refused one.
 pub fn refused_lines_are_one()
     ensures { RefusedLinesAreOne }
 {}
 
-/// Files that are told do not hold accepted texts alone and a refused one.
+/// Files that are known do not hold accepted texts alone and a refused one.
 pub fn accepted_or_refused()
     ensures { AcceptedOrRefused }
 {}
@@ -86,12 +86,12 @@ pub fn verdicts_exist()
     ensures { VerdictsExist }
 {}
 
-/// What is told of the walks between two cells has one judgement.
+/// What is claimed of the walks between two cells has one judgement.
 pub fn judgements_are_one()
     ensures { JudgementsAreOne }
 {}
 
-/// The entries of a scenario, with what is told of each, have at most one list of rows.
+/// The entries of a scenario, with what is claimed of each, have at most one list of rows.
 pub fn rulings_are_one()
     ensures { RulingsAreOne }
 {}

@@ -22,13 +22,13 @@ pub fn drawings_are_one()
     ensures { DrawingsAreOne }
 {}
 
-/// Of a told script that comes in, two sessions that answer alike print the same lines and the same line of a
-/// refusal.
+/// Of a known script that comes in, two sessions that answer alike print the same lines and the same line of
+/// a refusal.
 pub fn heard_is_one()
     ensures { HeardIsOne }
 {}
 
-/// What was written for a first part of a told script, at whatever stop, begins what the whole script is
+/// What was written for a first part of a known script, at whatever stop, begins what the whole script is
 /// answered.
 pub fn taken_begins_heard()
     ensures { TakenBeginsHeard }

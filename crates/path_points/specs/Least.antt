@@ -8,4 +8,4 @@ use Rattle.path_points.specs.declared.points.Walk.{Walk}
 
 -- the points stand for a least walk from s to t of this cost, or none is told and no walk exists
 abbrev pub IsLeastOrNone : GridData → Cell → Cell → Option Walk → Type 0
-IsLeastOrNone g s t told = MatchOption told (NoWalk g s t) (λ w. StandsForLeast g s t w.points w.cost)
+IsLeastOrNone g s t found = MatchOption found (NoWalk g s t) (λ w. StandsForLeast g s t w.points w.cost)

@@ -6,12 +6,12 @@ use Rattle.std.specs.List.{list_all}
 use Rattle.std.proofs.lemmas.Bool.Decides.{nat_tests}
 use Rattle.std.proofs.lemmas.List.Sums.{AllPass-from_list_all}
 use Rattle.map_text.specs.Map.{is_terrain}
-use Rattle.picture.specs.declared.kinds.Ground.{Ground}
+use Rattle.picture.specs.declared.kinds.DrawnGround.{DrawnGround}
 use Rattle.picture.specs.Grounds.{is_of, is_background, ground_of}
 use Rattle.picture.specs.Laws.{IsDrawnOnce}
 use Rattle.picture.proofs.Covering.{cells_of}
 
-own_ground : (kind : Ground) (byte : ℕ) → (is_of kind byte ≡ true) ↔ (ground_of byte ≡ Some kind)
+own_ground : (kind : DrawnGround) (byte : ℕ) → (is_of kind byte ≡ true) ↔ (ground_of byte ≡ Some kind)
 own_ground kind byte = grind (arith, nat_tests)
 
 background : (byte : ℕ) → is_terrain byte ≡ true → (is_background byte ≡ true) ↔ (ground_of byte ≡ None)
@@ -28,7 +28,8 @@ pub drawn_once : (row : List ℕ) → list_all is_terrain row ≡ true → (x : 
     → IsDrawnOnce row x
 drawn_once row terrain x below =
     let byte = get_or row x 0 in
-    let drawn = λ (kind : Ground). cells_of x (map (is_of kind) row) ∙ mark_of (is_of kind) row x below in
+    let drawn = λ (kind : DrawnGround). cells_of x (map (is_of kind) row)
+    ∙ mark_of (is_of kind) row x below in
     record {
       strokes = λ kind. (
         λ is. (own_ground kind byte).0 (sym (drawn kind) ∙ is),

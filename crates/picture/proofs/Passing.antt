@@ -6,7 +6,7 @@ use Rattle.std.proofs.Common.{drop-cons, arith}
 use Rattle.std.specs.Prelude.{OnOk}
 use Rattle.std.specs.List.{list_any}
 use Rattle.std.proofs.lemmas.List.{append-nil, drop_all}
-use Rattle.picture.specs.declared.kinds.Ground.{Ground}
+use Rattle.picture.specs.declared.kinds.DrawnGround.{DrawnGround}
 use Rattle.picture.specs.Runs.{runs_from}
 use Rattle.picture.specs.Grounds.{is_of, runs_of}
 use Rattle.picture.specs.Picture.{texts_of, stroke_over}
@@ -14,17 +14,17 @@ use Rattle.picture.specs.Strokes.{run_before}
 use Rattle.picture.proofs.Longest.{marked, marked_more, Halts, run_then, no_run}
 
 -- the strokes of the part of a row from a column on, before which so many cells of a run lie
-abbrev pub left_of_row : Ground → List ℕ → List ℕ → ℕ → ℕ → List ℕ
+abbrev pub left_of_row : DrawnGround → List ℕ → List ℕ → ℕ → ℕ → List ℕ
 left_of_row kind number row x long =
     texts_of (stroke_over number) (runs_from (x - long) (marked long (map (is_of kind) (drop x row))))
 
 -- the strokes of a row whose number is written so
-abbrev pub strokes_of_row : Ground → List ℕ → List ℕ → List ℕ
+abbrev pub strokes_of_row : DrawnGround → List ℕ → List ℕ → List ℕ
 strokes_of_row kind number row = texts_of (stroke_over number) (runs_of kind row)
 
 -- what is written and the strokes that are left are those of the row; the cells of the run under way lie
 -- behind
-pub record HasPassed (kind : Ground) (number old row : List ℕ) (x long : ℕ) (new : List ℕ) : Type 0 where
+pub record HasPassed (kind : DrawnGround) (number old row : List ℕ) (x long : ℕ) (new : List ℕ) : Type 0 where
   pub short : long ≤ x
   pub text : new ++ left_of_row kind number row x long ≡ old ++ strokes_of_row kind number row
 
@@ -34,7 +34,7 @@ run_written : (number : List ℕ) (x long : ℕ) (marks : List Bool) → Halts m
     ≡ texts_of (stroke_over number) (runs_from (x - long) (marked long marks))
 run_written number x long marks h i = grind (arith, nat_tests, run_then)
 
-module _ (kind : Ground) (number old row : List ℕ) where
+module _ (kind : DrawnGround) (number old row : List ℕ) where
   -- a row without a cell of the ground
   pub nothing_drawn : list_any (is_of kind) row ≡ false → old ≡ old ++ strokes_of_row kind number row
   nothing_drawn none = grind (arith, nat_tests, append-nil, no_run)

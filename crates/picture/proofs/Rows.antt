@@ -3,11 +3,11 @@ use Rattle.std.proofs.Common.{◌≡◌, ℕ, suc, ◌+◌, ◌-◌, ◌*◌, �
 use Rattle.std.proofs.Common.{append_assoc, arith}
 use Rattle.std.proofs.lemmas.List.{length-drop}
 use Rattle.map_text.specs.Writing.{rows_of}
-use Rattle.picture.specs.declared.kinds.Ground.{Ground}
+use Rattle.picture.specs.declared.kinds.DrawnGround.{DrawnGround}
 use Rattle.picture.specs.Picture.{row_strokes, strokes_from}
 
 -- what is written and the strokes of the rows left are the strokes of all rows
-pub record AreDrawn (kind : Ground) (old : List ℕ) (height width : ℕ) (cells left : List ℕ) (y : ℕ)
+pub record AreDrawn (kind : DrawnGround) (old : List ℕ) (height width : ℕ) (cells left : List ℕ) (y : ℕ)
     (new : List ℕ) : Type 0 where
   pub long : length left ≡ (height - y) * width
   pub text : new ++ strokes_from kind y (rows_of (height - y) width left)
@@ -16,7 +16,7 @@ pub record AreDrawn (kind : Ground) (old : List ℕ) (height width : ℕ) (cells
 one_less : (n width long : ℕ) → long ≡ suc n * width → long - width ≡ n * width
 one_less n width long is = omega arith
 
-module _ (kind : Ground) (old : List ℕ) (height width : ℕ) (cells : List ℕ) where
+module _ (kind : DrawnGround) (old : List ℕ) (height width : ℕ) (cells : List ℕ) where
   module _ (left : List ℕ) (y : ℕ) (new : List ℕ)
       (drawn : AreDrawn kind old height width cells left y new) where
     pub row_drawn : (now : List ℕ) → y < height → now ≡ new ++ row_strokes kind y (take width left)

@@ -6,9 +6,9 @@ use Rattle.cell_lines.specs.Cells as cells
 pub use Rattle.cell_lines.specs.Cells.{cell_text, texts_of}
 use Rattle.map_text.specs.Map.{Map}
 use Rattle.map_text.specs.Writing.{rows_of, text_of}
-use Rattle.picture.specs.declared.kinds.Ground.{Ground}
-use Rattle.picture.specs.declared.kinds.Ground.TheVariants.{Swamp, Trees, Wall, Water}
-use Rattle.picture.specs.declared.answer.Walk as answer
+use Rattle.picture.specs.declared.kinds.DrawnGround.{DrawnGround}
+use Rattle.picture.specs.declared.kinds.DrawnGround.TheVariants.{Swamp, Trees, Wall, Water}
+use Rattle.picture.specs.declared.answer.DrawnWalk as answer
 use Rattle.picture.specs.Runs.{Run}
 use Rattle.picture.specs.Grounds.{colour, runs_of}
 
@@ -18,7 +18,7 @@ pub record Walk : Type 0 where
   pub cost : Cost
 
 -- a walk without where its points lie in memory
-abbrev pub plain_walk : answer.Walk → Walk
+abbrev pub plain_walk : answer.DrawnWalk → Walk
 plain_walk walk = record { points = walk.points.now; cost = walk.cost }
 
 -- the points, parted by one space
@@ -35,11 +35,11 @@ abbrev pub stroke_text : ℕ → Run → List ℕ
 stroke_text y run = stroke_over (decimal y) run
 
 -- the strokes over the longest runs of the ground's cells in the row of this number
-abbrev pub row_strokes : Ground → ℕ → List ℕ → List ℕ
+abbrev pub row_strokes : DrawnGround → ℕ → List ℕ → List ℕ
 row_strokes kind y row = texts_of (stroke_text y) (runs_of kind row)
 
 -- the strokes of rows, the first of which has this number
-abbrev pub strokes_from : Ground → ℕ → List (List ℕ) → List ℕ
+abbrev pub strokes_from : DrawnGround → ℕ → List (List ℕ) → List ℕ
 strokes_from kind y [] = []
 strokes_from kind y (row ∷ rows) = row_strokes kind y row ++ strokes_from kind (y + 1) rows
 
@@ -59,7 +59,7 @@ abbrev pub stroke_line : List ℕ → List ℕ → List ℕ
 stroke_line colour strokes = path_text colour ++ strokes ++ codes "\"/>"
 
 -- the line of a ground's strokes
-abbrev pub ground_line : Ground → Map → List ℕ
+abbrev pub ground_line : DrawnGround → Map → List ℕ
 ground_line kind map =
     stroke_line (colour kind) (strokes_from kind 0 (rows_of map.height map.width map.cells))
 

@@ -4,7 +4,7 @@ use Rattle.std.specs.Fmt.{digits}
 use Rattle.grid_moves.specs.declared.Cell.{Cell}
 use Rattle.map_text.specs.Map.{Map}
 use Rattle.map_text.specs.Writing.{text_of}
-use Rattle.picture.specs.declared.kinds.Ground.TheVariants.{Wall}
+use Rattle.picture.specs.declared.kinds.DrawnGround.TheVariants.{Wall}
 use Rattle.picture.specs.Runs.{runs_from}
 use Rattle.picture.specs.Picture.{Walk, thickness, tenths_text, state_stroke, strokes_from, points_text}
 use Rattle.picture.specs.Picture.{picture_of}

@@ -7,8 +7,8 @@ ghost use Rattle.map_text.specs.Writing.{text_of};
 ghost use Rattle.picture.specs.Picture as spec;
 
 use crate::NoMemory;
-use crate::answer::Walk;
-use crate::kinds::Ground;
+use crate::answer::DrawnWalk;
+use crate::kinds::DrawnGround;
 use crate::marks::{put_end, put_named, put_walk};
 use crate::strokes::{put_states, put_strokes};
 use cell_lines::put_cell;
@@ -28,7 +28,7 @@ pub fn draw(
     map: &MapText,
     start: Cell,
     goal: Cell,
-    walk: Option<Walk<'_>>,
+    walk: Option<DrawnWalk<'_>>,
     taken: Option<&[u32]>,
 ) -> Result<Vec<u8>, NoMemory>
     ensures { IfOk result (λ text. text.items ≡ spec.picture_of (plain map.now) start goal
@@ -57,7 +57,7 @@ fn put_head(
     map: &MapText,
     start: Cell,
     goal: Cell,
-    walk: Option<Walk<'_>>,
+    walk: Option<DrawnWalk<'_>>,
 ) -> Result<(), NoMemory>
     ensures { OnOk result (out.new.items ≡ out.old.items ++
         text_of (spec.head_lines (plain map.now) start goal (option_map spec.plain_walk walk.entry))) }
@@ -85,7 +85,7 @@ fn put_title(
     out: &mut Vec<u8>,
     start: Cell,
     goal: Cell,
-    walk: Option<Walk<'_>>,
+    walk: Option<DrawnWalk<'_>>,
 ) -> Result<(), NoMemory>
     ensures { OnOk result (out.new.items ≡
         out.old.items ++ text_of (spec.title_line start goal (option_map spec.plain_walk walk.entry) ∷ [])) }
@@ -98,7 +98,7 @@ fn put_title(
 }
 
 /// Appends what was found.
-fn put_found(out: &mut Vec<u8>, walk: Option<Walk<'_>>) -> Result<(), NoMemory>
+fn put_found(out: &mut Vec<u8>, walk: Option<DrawnWalk<'_>>) -> Result<(), NoMemory>
     ensures { OnOk result (out.new.items ≡
         out.old.items ++ spec.found_text (option_map spec.plain_walk walk.entry)) }
 {
@@ -141,14 +141,14 @@ fn put_background(out: &mut Vec<u8>, map: &MapText) -> Result<(), NoMemory>
 fn put_grounds(out: &mut Vec<u8>, map: &MapText) -> Result<(), NoMemory>
     ensures { OnOk result (out.new.items ≡ out.old.items ++ text_of (spec.ground_lines (plain map.now))) }
 {
-    put_ground(out, Ground::Swamp, map)?;
-    put_ground(out, Ground::Trees, map)?;
-    put_ground(out, Ground::Wall, map)?;
-    put_ground(out, Ground::Water, map)
+    put_ground(out, DrawnGround::Swamp, map)?;
+    put_ground(out, DrawnGround::Trees, map)?;
+    put_ground(out, DrawnGround::Wall, map)?;
+    put_ground(out, DrawnGround::Water, map)
 }
 
 /// Appends the line of a ground.
-fn put_ground(out: &mut Vec<u8>, kind: Ground, map: &MapText) -> Result<(), NoMemory>
+fn put_ground(out: &mut Vec<u8>, kind: DrawnGround, map: &MapText) -> Result<(), NoMemory>
     ensures { OnOk result (out.new.items ≡
         out.old.items ++ text_of (spec.ground_line kind (plain map.now) ∷ [])) }
 {

@@ -6,7 +6,7 @@ ghost use Rattle.picture.specs.Grounds as spec;
 
 /// A ground that is drawn in strokes. What is left, `.` and `G`, is the background.
 #[derive(Clone, Copy, Debug, PartialEq, Eq)]
-pub enum Ground {
+pub enum DrawnGround {
     /// `S`
     Swamp,
     /// `T`
@@ -17,16 +17,16 @@ pub enum Ground {
     Water,
 }
 
-impl Ground {
+impl DrawnGround {
     /// Its bytes in a map: two, which may be one.
     pub(crate) fn bytes(self) -> (u8, u8)
         ensures { (byte : ℕ) → (byte == result.0 || byte == result.1) ≡ spec.is_of self byte }
     {
         match self {
-            Ground::Swamp => (b'S', b'S'),
-            Ground::Trees => (b'T', b'T'),
-            Ground::Wall => (b'@', b'O'),
-            Ground::Water => (b'W', b'W'),
+            DrawnGround::Swamp => (b'S', b'S'),
+            DrawnGround::Trees => (b'T', b'T'),
+            DrawnGround::Wall => (b'@', b'O'),
+            DrawnGround::Water => (b'W', b'W'),
         }
     }
 
@@ -35,10 +35,10 @@ impl Ground {
         ensures { result.now ≡ spec.colour self }
     {
         match self {
-            Ground::Swamp => b"#c9bf8f",
-            Ground::Trees => b"#5c8a57",
-            Ground::Wall => b"#3b3f46",
-            Ground::Water => b"#8fbfe0",
+            DrawnGround::Swamp => b"#c9bf8f",
+            DrawnGround::Trees => b"#5c8a57",
+            DrawnGround::Wall => b"#3b3f46",
+            DrawnGround::Water => b"#8fbfe0",
         }
     }
 }

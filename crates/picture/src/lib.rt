@@ -16,7 +16,7 @@ pub mod laws;
 mod marks;
 mod strokes;
 
-pub use answer::Walk;
+pub use answer::DrawnWalk;
 pub use drawing::draw;
-pub use kinds::Ground;
+pub use kinds::DrawnGround;
 pub use std::alloc::AllocError as NoMemory;

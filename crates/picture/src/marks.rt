@@ -6,7 +6,7 @@ ghost use Rattle.map_text.specs.Writing.{text_of};
 ghost use Rattle.picture.specs.Picture as spec;
 
 use crate::NoMemory;
-use crate::answer::Walk;
+use crate::answer::DrawnWalk;
 use cell_lines::put_cell;
 use grid_moves::Cell;
 use text_line::{put, put_number};
@@ -37,7 +37,7 @@ fn put_tenths(out: &mut Vec<u8>, tenths: u64) -> Result<(), NoMemory>
 pub(crate) fn put_walk(
     out: &mut Vec<u8>,
     tenths: u64,
-    walk: Option<Walk<'_>>,
+    walk: Option<DrawnWalk<'_>>,
 ) -> Result<(), NoMemory>
     ensures { OnOk result (out.new.items ≡
         out.old.items ++ text_of (spec.walk_lines tenths (option_map spec.plain_walk walk.entry))) }
@@ -49,7 +49,7 @@ pub(crate) fn put_walk(
 }
 
 /// Appends the line of a walk.
-fn put_line(out: &mut Vec<u8>, tenths: u64, walk: Walk<'_>) -> Result<(), NoMemory>
+fn put_line(out: &mut Vec<u8>, tenths: u64, walk: DrawnWalk<'_>) -> Result<(), NoMemory>
     ensures { OnOk result (out.new.items ≡
         out.old.items ++ text_of (spec.walk_line tenths (spec.plain_walk walk.entry) ∷ [])) }
 {

@@ -8,7 +8,7 @@ ghost use Rattle.picture.specs.Picture as spec;
 ghost use Rattle.picture.specs.Strokes.{run_before};
 
 use crate::NoMemory;
-use crate::kinds::Ground;
+use crate::kinds::DrawnGround;
 use itoa::Buffer;
 use text_line::{put, put_number};
 
@@ -65,7 +65,7 @@ fn put_run(out: &mut Vec<u8>, end: usize, number: &[u8], long: usize) -> Result<
 
 /// Whether a row has a cell of the ground. Every byte is read, since a loop without an exit is compiled
 /// to vectors.
-fn has_ground(kind: Ground, row: &[u8]) -> bool
+fn has_ground(kind: DrawnGround, row: &[u8]) -> bool
     ensures { result ≡ list_any (is_of kind) row.now }
 {
     let bytes = kind.bytes();
@@ -85,7 +85,7 @@ fn is_either(byte: u8, bytes: (u8, u8)) -> bool
 }
 
 /// Appends the strokes over the longest runs of the ground's cells in the row of this number.
-fn put_row(out: &mut Vec<u8>, kind: Ground, y: usize, row: &[u8]) -> Result<(), NoMemory>
+fn put_row(out: &mut Vec<u8>, kind: DrawnGround, y: usize, row: &[u8]) -> Result<(), NoMemory>
     ensures { OnOk result (out.new.items ≡ out.old.items ++ spec.row_strokes kind y row.now) }
 {
     if !has_ground(kind, row) {
@@ -96,7 +96,7 @@ fn put_row(out: &mut Vec<u8>, kind: Ground, y: usize, row: &[u8]) -> Result<(), 
 }
 
 /// The same for the row whose number is written so.
-fn put_runs(out: &mut Vec<u8>, kind: Ground, number: &[u8], row: &[u8]) -> Result<(), NoMemory>
+fn put_runs(out: &mut Vec<u8>, kind: DrawnGround, number: &[u8], row: &[u8]) -> Result<(), NoMemory>
     ensures { OnOk result (out.new.items ≡
         out.old.items ++ spec.texts_of (spec.stroke_over number.now) (runs_of kind row.now)) }
 {
@@ -116,7 +116,7 @@ fn put_runs(out: &mut Vec<u8>, kind: Ground, number: &[u8], row: &[u8]) -> Resul
 /// Appends the strokes over the longest runs of the ground's cells, row by row.
 pub(crate) fn put_strokes(
     out: &mut Vec<u8>,
-    kind: Ground,
+    kind: DrawnGround,
     cells: &[u8],
     width: usize,
     height: usize,

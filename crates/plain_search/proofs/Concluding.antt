@@ -14,7 +14,7 @@ use Rattle.best_first.specs.Mirror.{IsSearching}
 use Rattle.best_first.specs.Progress as search
 use Rattle.best_first.specs.Rule.{Links}
 use Rattle.best_first.specs.Space.{SpaceData}
-use Rattle.best_first.specs.State.{start_at, state_number, state_told}
+use Rattle.best_first.specs.State.{start_at, state_number, state_of_place}
 use Rattle.best_first.specs.Table.{Table, NoneOpen, begun}
 use Rattle.best_first.specs.Trace.{node_cell}
 use Rattle.best_first.specs.Ways.{Onward, IsAmong, with_all}
@@ -41,16 +41,16 @@ on_ok (Err e) p f = tt
 -- the cell of a node that was read differs from t or not: so does that of whatever node stands there
 module _ (nodes : List Node) (at : ℕ) (r n : Node) (c t : Cell) {differs : Bool}
     (read : slice_get nodes at ≡ Some r)
-    (is : c ≡ node_cell r) (told : differs ≡ not (is_same c t)) (there : slice_get nodes at ≡ Some n) where
+    (is : c ≡ node_cell r) (given : differs ≡ not (is_same c t)) (there : slice_get nodes at ≡ Some n) where
   pub differs_there : differs ≡ true → is_same (node_cell n) t ≡ false
   differs_there e =
       let cell : node_cell n ≡ c = ap (λ (m : Node). node_cell m) (some_node n r (sym there ∙ read)) ∙ sym is in
-      ap (λ (u : Cell). is_same u t) cell ∙ not-true (is_same c t) (sym told ∙ e)
+      ap (λ (u : Cell). is_same u t) cell ∙ not-true (is_same c t) (sym given ∙ e)
 
   pub same_there : differs ≡ false → node_cell n ≡ t
   same_there e =
       let cell : node_cell n ≡ c = ap (λ (m : Node). node_cell m) (some_node n r (sym there ∙ read)) ∙ sym is in
-      cell ∙ is_same-cell c t (not-false (is_same c t) (sym told ∙ e))
+      cell ∙ is_same-cell c t (not-false (is_same c t) (sym given ∙ e))
 
 module _ {g : GridData} {s t : Cell} {link : Links} (asked : IsAsked g s t link) where
   -- at the start
@@ -88,7 +88,7 @@ module _ {g : GridData} {s t : Cell} (asked : IsAsked g s t (plain_links g)) {at
       let best = least_offer (plain_rule g t) h.earlier in
       let e = subst (λ (l : Table). (n : Node) → slice_get l.nodes at ≡ Some n → HasExpanded g t at n l later)
       same expanded node h.searching.node_is in
-      let by = (state_told node.place).arrival in
+      let by = (state_of_place node.place).arrival in
       let cell : h.last.state.cell ≡ node_cell node = ap (λ (u : State). u.cell) (sym h.searching.state) in
       let ended : is_same h.last.state.cell t ≡ false =
       ap (λ (u : Cell). is_same u t) cell ∙ open_ended node h.searching.node_is in

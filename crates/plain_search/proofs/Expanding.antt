@@ -10,7 +10,7 @@ use Rattle.grid_moves.specs.Grid.{GridData}
 use Rattle.grid_moves.specs.Move.{all_dirs}
 use Rattle.best_first.specs.declared.node.Node.{Node}
 use Rattle.best_first.specs.Space.{SpaceData}
-use Rattle.best_first.specs.State.{state_told}
+use Rattle.best_first.specs.State.{state_of_place}
 use Rattle.best_first.specs.Table.{Table}
 use Rattle.best_first.specs.Trace.{node_cell, rank_left}
 use Rattle.plain_search.specs.declared.moves.Behind.{Behind}
@@ -52,9 +52,9 @@ module _ (g : GridData) (goal : Cell) (id : ℕ) (n : Node) (cell : Cell) (a mov
 
   -- and then they were
   pub expanded : (old new : Table) (arrival : Option Dir) → s ≡ sides_of arrival
-      → arrival ≡ (state_told n.place).arrival → new ≡ all_offered goal id rank moves cell all_dirs old
+      → arrival ≡ (state_of_place n.place).arrival → new ≡ all_offered goal id rank moves cell all_dirs old
       → HasExpanded g goal id n old new
-  expanded old new arrival sides told t = record {
+  expanded old new arrival sides given t = record {
     around = a;
     is_around = around_node;
     table =
@@ -62,5 +62,5 @@ module _ (g : GridData) (goal : Cell) (id : ℕ) (n : Node) (cell : Cell) (a mov
         ∙ ap (λ (b : Around). all_offered goal id (rank_left goal n) b cell all_dirs old) less
         ∙ ap (λ (c : Cell). all_offered goal id (rank_left goal n) (less_offered a s) c all_dirs old) at
         ∙ ap (λ (q : Behind). all_offered goal id (rank_left goal n) (less_offered a q) (node_cell n) all_dirs
-        old) (sides ∙ ap (λ (d : Option Dir). sides_of d) told);
+        old) (sides ∙ ap (λ (d : Option Dir). sides_of d) given);
   }

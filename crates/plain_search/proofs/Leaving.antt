@@ -25,7 +25,7 @@ pub before_is : (m n : ℕ) → before m ≡ Some n → m ≡ n + 1
 before_is zero n e = absurd (cc)
 before_is (suc m) n e = let f : m ≡ n = some_number m n e in omega arith
 
--- how a cell p lies to x, told the sides
+-- how a cell p lies to x, given the sides
 pub record LiesAt (p x : Cell) (s : Behind) : Type 0 where
   pub left : s.left ≡ true → x.x ≡ p.x + 1
   pub right : s.right ≡ true → p.x ≡ x.x + 1

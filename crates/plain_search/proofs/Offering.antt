@@ -169,7 +169,7 @@ module _ {g : GridData} {s t : Cell} (asked : IsAsked g s t (plain_links g)) whe
       → is_taken (plain_rule g t) (x ∷ earlier) v ≡ false → (d : Dir) → ahead d x.state.cell ≡ Some v.cell
       → is_open_to a d ≡ true → is_open_to (less_offered a (sides_of (Some e))) d ≡ false
       → least_offer (plain_rule g t) (x ∷ earlier) v ≡ least_offer (plain_rule g t) earlier v
-  left_out x [] is a r e told v c m untaken d on opened dropped_is = absurd
+  left_out x [] is a r e given v c m untaken d on opened dropped_is = absurd
       (let first : x ≡ record {
         state = start_at s;
         cost = record { a = 0; b = 0 };
@@ -177,9 +177,9 @@ module _ {g : GridData} {s t : Cell} (asked : IsAsked g s t (plain_links g)) whe
       } = is in
       let at_start : x.parent.cell ≡ s = ap (λ (u : Taken State). u.parent.cell) first in
       let here_start : x.state.cell ≡ s = ap (λ (u : Taken State). u.state.cell) first in
-      ahead_apart e s (ap (λ (u : Cell). ahead e u) (sym at_start) ∙ told
+      ahead_apart e s (ap (λ (u : Cell). ahead e u) (sym at_start) ∙ given
       ∙ ap (λ (u : Cell). Some u) here_start))
-  left_out x (y ∷ rest) is a r e told v c m untaken d on opened dropped_is =
+  left_out x (y ∷ rest) is a r e given v c m untaken d on opened dropped_is =
       let f = least_offer-from (plain_rule g t) (y ∷ rest) x.state
       (record { cost = x.cost; from = x.parent }) is.2.offered in
       let linked : plain_step g x.parent x.state ≡ Some f.offered.step =
@@ -193,7 +193,7 @@ module _ {g : GridData} {s t : Cell} (asked : IsAsked g s t (plain_links g)) whe
       ∙ is_taken-member (plain_rule g t) (plain_consistent g t) (y ∷ rest) f.by f.member in
       let other : is_same x.parent.cell v.cell ≡ false
       = not_parent (is_same x.parent.cell v.cell) refl plain_parent parent_taken in
-      let lies = lies_at e x.parent.cell x.state.cell told in
+      let lies = lies_at e x.parent.cell x.state.cell given in
       let legal = dropped g x.parent.cell x.state.cell v.cell a (sides_of (Some e)) r lies into.legal other
       m.legal d on opened dropped_is in
       let step : plain_step g x.parent v ≡ Some (move_cost x.parent.cell v.cell)
@@ -233,7 +233,7 @@ module _ {g : GridData} {s t : Cell} (asked : IsAsked g s t (plain_links g)) whe
       → is_taken (plain_rule g t) (x ∷ earlier) v ≡ false → plain_step g x.state v ≡ Some c
       → IsAmong (record { to = v; cost = c }) (ways_over (less_offered a (sides_of e)) x.state.cell all_dirs)
       ⊎ (least_offer (plain_rule g t) (x ∷ earlier) v ≡ least_offer (plain_rule g t) earlier v)
-  enough x earlier is a r e told v c untaken l = by_kept e told
+  enough x earlier is a r e given v c untaken l = by_kept e given
     where
       m : IsMove g x.state v c
       m = link_move g x.state v c l

@@ -33,8 +33,9 @@ use Rattle.plain_search.proofs.Right.{way}
 use Rattle.plain_search.proofs.Walks.{plain_are_moves, plain_consistent, walk_chain}
 
 -- a state's printed number tells its cell
-told_cell : (width : ℕ) (c : Cell) → c.x < width → cell_of_number width (state_number width (start_at c)) ≡ c
-told_cell width c h =
+cell_and_back : (width : ℕ) (c : Cell) → c.x < width
+    → cell_of_number width (state_number width (start_at c)) ≡ c
+cell_and_back width c h =
     let nine : (cell_number width c * 9 + 8) / 9 ≡ cell_number width c = omega arith in
     same_cell (cell_of_number width (state_number width (start_at c))) c
     (ap (λ n. n % width) nine ∙ ap (λ n. n % width) (turned (c.y * width) c.x)
@@ -91,21 +92,21 @@ module _ {g : GridData} {s t : Cell} (asked : IsAsked g s t (plain_links g)) {ta
       subst (λ (n : ℕ). n < 65536 * g.width * 9) u.2 (number_at u.0 u.1)
 
   -- the cells of the numbers are those of the states
-  cells_told : (run : List (Taken State)) → ((u : Taken State) → IsIn u run → IsIn u x.run)
+  cells_and_back : (run : List (Taken State)) → ((u : Taken State) → IsIn u run → IsIn u x.run)
       → map (cell_of_number g.width) (map (number g.width) run) ≡ map (λ u. u.state.cell) run
-  cells_told [] sub = refl
-  cells_told (u ∷ run) sub =
+  cells_and_back [] sub = refl
+  cells_and_back (u ∷ run) sub =
       let p = plain_at u (sub u (here run)) in
       let f = free_inside g u.state.cell p.0 in
       let one : cell_of_number g.width (number g.width u) ≡ u.state.cell =
       ap (λ (v : State). cell_of_number g.width (state_number g.width v)) p.1
-      ∙ told_cell g.width u.state.cell f.0 in
-      rw (one, cells_told run (λ v m. sub v (there u run m))) refl
+      ∙ cell_and_back g.width u.state.cell f.0 in
+      rw (one, cells_and_back run (λ v m. sub v (there u run m))) refl
 
   from_states : IsPermutation (map (λ u. u.state.cell) x.run) (map (cell_of_number g.width) taken)
   from_states =
       subst (λ (cs : List Cell). IsPermutation cs (map (cell_of_number g.width) taken))
-      (cells_told x.run (λ u m. m))
+      (cells_and_back x.run (λ u m. m))
       (subst (λ (ns : List ℕ). IsPermutation (map (cell_of_number g.width) (map (number g.width) x.run))
       (map (cell_of_number g.width) ns)) (sym x.numbered)
       (IsPermutation-map (cell_of_number g.width) (map (number g.width) x.run)

@@ -15,7 +15,7 @@ use Rattle.best_first.specs.declared.node.Node.{Node}
 use Rattle.best_first.specs.declared.node.Offer.{Offer}
 use Rattle.best_first.specs.declared.state.Layout.TheVariants.{ByCell}
 use Rattle.best_first.specs.Space.{SpaceData, IsPlaced}
-use Rattle.best_first.specs.State.{start_at, state_told}
+use Rattle.best_first.specs.State.{start_at, state_of_place}
 use Rattle.best_first.specs.Table.{Table, node_for, offered, ClosedBelow}
 use Rattle.best_first.specs.Trace.{node_cell, rank_left}
 use Rattle.best_first.specs.Ways.{Onward}
@@ -101,4 +101,4 @@ pub record HasExpanded (g : GridData) (goal : Cell) (id : ℕ) (n : Node) (old n
   pub around : Around
   pub is_around : IsAround g (node_cell n) around
   pub table : new ≡ all_offered goal id (rank_left goal n)
-      (less_offered around (sides_of (state_told n.place).arrival)) (node_cell n) all_dirs old
+      (less_offered around (sides_of (state_of_place n.place).arrival)) (node_cell n) all_dirs old

@@ -5,7 +5,7 @@ ghost use Rattle.plain_search.specs.Answer.{IsPlainRun, plain_found};
 
 /// The answer of the plain engine's run is a function of the grid and the two cells: it is right where the
 /// first is free, and no other answer is the run's.
-pub fn answers_are_told()
+pub fn answers_are_found()
     ensures { AnswersAre IsPlainRun plain_found }
 {}
 

@@ -27,7 +27,7 @@ pub(crate) struct Behind {
 }
 
 impl Behind {
-    /// The sides where the parent lies, told the direction of the move from it.
+    /// The sides where the parent lies, given the direction of the move from it.
     #[inline(always)]
     pub(crate) fn of(arrival: Option<Dir>) -> Behind
         ensures { result ≡ sides_of arrival }

@@ -2,7 +2,7 @@
 
 ghost use Rattle.std.specs.Prelude.{◌≡◌, ◌+◌, ◌<◌, ◌≤◌, ◌^◌, true, length, slice_get, Some, if◌then◌else◌};
 ghost use Rattle.best_first.specs.Space.{IsPlaced, KeepsShape};
-ghost use Rattle.best_first.specs.State.{state_told};
+ghost use Rattle.best_first.specs.State.{state_of_place};
 ghost use Rattle.best_first.specs.Table.{node_for, offered, ClosedBelow};
 ghost use Rattle.grid_moves.specs.Grid.{IsGrid};
 ghost use Rattle.grid_moves.specs.Move.{all_dirs, dir_cost};
@@ -143,7 +143,7 @@ fn arrival_of(number: usize) -> Option<Dir>
     }
 }
 
-// Makes the offers of a node, told how its state was come to: that is a constant, so the sides on which
+// Makes the offers of a node, given how its state was come to: that is a constant, so the sides on which
 // the parent lies are too.
 fn offer_after<const BY: usize, T: Terrain, L: Ledger>(
     t: &T,
@@ -159,7 +159,7 @@ fn offer_after<const BY: usize, T: Terrain, L: Ledger>(
     requires narrow { space.old.width ≤ 4096 }
     requires room { 8 ≤ space.old.spare }
     requires may { MayExpand (T.grid t.now) goal at node space.old }
-    requires told { arrival_of BY ≡ (state_told node.place).arrival }
+    requires given { arrival_of BY ≡ (state_of_place node.place).arrival }
     ensures expanded { HasExpanded (T.grid t.now) goal at node space.old.table space.new.table }
     ensures shape { KeepsShape space.old space.new }
 {

@@ -6,7 +6,7 @@ use Rattle.grid_moves.specs.declared.Cell.{Cell}
 use Rattle.grid_moves.specs.declared.Dir.{Dir}
 use Rattle.jump_plain.specs.Reach.{moves_to}
 use Rattle.pruning.specs.Turns.{is_diagonal}
-use Rattle.plus_tables.specs.Reading.{is_aimed, mark_of, near_to, stop_told}
+use Rattle.plus_tables.specs.Reading.{is_aimed, mark_of, near_to, stop_read}
 
 -- so no moves in it lead to the goal, or to its row or column
 unaimed_straight : (u goal : Cell) (d : Dir) → is_aimed u d goal ≡ false → is_diagonal d ≡ false
@@ -18,5 +18,5 @@ unaimed_diagonal : (u goal : Cell) (d : Dir) → is_aimed u d goal ≡ false →
 unaimed_diagonal u goal d h k = grind (arith, nat_tests)
 
 pub unaimed : (entry : Cell → Dir → ℤ) (u goal : Cell) (d : Dir) → is_aimed u d goal ≡ false
-    → stop_told entry u d goal ≡ mark_of (entry u d)
+    → stop_read entry u d goal ≡ mark_of (entry u d)
 unaimed entry u goal d h = grind (arith, nat_tests, unaimed_straight, unaimed_diagonal)

@@ -22,7 +22,7 @@ use Rattle.plus_tables.specs.Rows.{is_along, AreSame, IsEntryRow, AreRowsSeen}
 use Rattle.plus_tables.specs.Lines.{AreAlike, AreAlong, IsReady}
 use Rattle.plus_tables.proofs.Following.{is_mark_by-straight}
 use Rattle.plus_tables.proofs.Mirror.{along_seen}
-use Rattle.plus_tables.proofs.Rowing.{row_legal, ring_forced, told_is, along_each, next_along}
+use Rattle.plus_tables.proofs.Rowing.{row_legal, ring_forced, entry_from_is, along_each, next_along}
 
 around_same : (g : GridData) (h : Heading) (n : ℕ) (a b c p q r : List Bool) → AreSame a p → AreSame b q
     → AreSame c r → length p ≡ g.width + 2 → length q ≡ g.width + 2 → length r ≡ g.width + 2
@@ -63,12 +63,12 @@ module _ (g : GridData) (whole : IsGrid g) (h : Heading) (y m : ℕ) (above here
 
     same_by_next : (x : ℕ) → ((k : ℕ) → column_ahead d x ≡ Some k → k < g.width → same_at k) → same_at x
     same_by_next x next =
-        sym (told_is g (record { x = x; y = y }) d (can_move g (record { x = x; y = y }) d)
+        sym (entry_from_is g (record { x = x; y = y }) d (can_move g (record { x = x; y = y }) d)
         (is_forced g (record { x = column_next x; y = y }) d)
         (table_entry g (record { x = column_next x; y = y }) d) refl
         (λ w e. ap (λ (v : Cell). is_forced g v d) (leads y w e) ∙ marked w)
         (λ w e. ap (λ (v : Cell). table_entry g v d) (leads y w e)))
-        ∙ told_is g (record { x = x; y = m }) d (can_move g (record { x = x; y = y }) d)
+        ∙ entry_from_is g (record { x = x; y = m }) d (can_move g (record { x = x; y = y }) d)
         (is_forced g (record { x = column_next x; y = y }) d)
         (table_entry g (record { x = column_next x; y = y }) d) (same_move x d along)
         (λ w e. same_forced (column_next x) d along (free_next w e)

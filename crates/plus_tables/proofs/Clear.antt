@@ -11,7 +11,7 @@ use Rattle.pruning.specs.Allowed.{can_move}
 use Rattle.pruning.specs.Marked.{run_end}
 use Rattle.pruning.specs.First.{first_mark, run_length}
 use Rattle.pruning.specs.Stop.{MarkedAfter}
-use Rattle.pruning.proofs.Runs.{run_length_is_told}
+use Rattle.pruning.proofs.Runs.{run_length_is_exact}
 use Rattle.pruning.proofs.Stopping.{first_mark_is_first}
 use Rattle.plus_tables.specs.Entry.{mark_or_run, table_entry}
 use Rattle.plus_tables.specs.Reading.{mark_of, is_clear, is_move}
@@ -44,7 +44,7 @@ run_reaches g x d k h = by_end (run_end g d k x) refl
     few = grind (arith, nat_tests)
 
     by_end : (o : Option Cell) → run_end g d k x ≡ o → (v : Cell) × (run_end g d k x ≡ Some v)
-    by_end None e = absurd (let some : is_some (run_end g d k x) ≡ true = run_length_is_told g x d k ∙ few in
+    by_end None e = absurd (let some : is_some (run_end g d k x) ≡ true = run_length_is_exact g x d k ∙ few in
         let none = rw e at some in cc)
     by_end (Some v) e = (v, e)
 
@@ -53,7 +53,7 @@ pub run_within : (g : GridData) (x v : Cell) (d : Dir) (k : ℕ) → run_end g d
     → k ≤ run_length g x d
 run_within g x v d k e =
     let some : nat_le k (run_length g x d) ≡ true =
-    sym (run_length_is_told g x d k) ∙ ap (λ (o : Option Cell). is_some o) e in
+    sym (run_length_is_exact g x d k) ∙ ap (λ (o : Option Cell). is_some o) e in
     grind (arith, nat_tests)
 
 -- a clear run is so long

@@ -62,7 +62,7 @@ pub tells_mark-is : (g : GridData) (c : Cell) (d : Dir) → is_free g c ≡ true
     → tells_mark (table_entry g c d) ≡ is_some (first_mark g c d)
 tells_mark-is g c d h = grind (arith, nat_tests, table_entry-free, first_mark-some)
 
--- so the marks at a free cell are told by its entries
+-- so the marks at a free cell are shown by its entries
 pub is_mark_by-is : (g : GridData) (d : Dir) (v : Cell) → is_free g v ≡ true
     → is_mark_by g (table_entry g) d v ≡ is_marked g v d
 is_mark_by-is g d v h =
@@ -101,8 +101,8 @@ entries_follow g c d = by_cell (legal_ahead g c d) refl
     stepped v e = rw (first_on_run-next g d (λ v. is_marked g v d) c v e, run_length-next g c v d e)
         (further (is_marked g v d) (first_mark g v d) (run_length g v d) (λ k. first_mark-some g v d k))
 
-    told : (v : Cell) → is_free g v ≡ true → entry_through g (table_entry g) d v ≡ found v
-    told v f = rw (is_mark_by-is g d v f, table_entry-free g v d f) refl
+    through : (v : Cell) → is_free g v ≡ true → entry_through g (table_entry g) d v ≡ found v
+    through v f = rw (is_mark_by-is g d v f, table_entry-free g v d f) refl
 
     by_cell : (o : Option Cell) → legal_ahead g c d ≡ o → table_entry g c d
         ≡ unwrap_or (option_map (λ v. entry_through g (table_entry g) d v) o) (pos 0)
@@ -110,4 +110,4 @@ entries_follow g c d = by_cell (legal_ahead g c d) refl
     by_cell (Some v) e =
         let legal = legal_is g c v (legal_leads g c v d e).legal in
         table_entry-free g c d legal.source
-        ∙ stepped v e ∙ sym (told v legal.target)
+        ∙ stepped v e ∙ sym (through v legal.target)

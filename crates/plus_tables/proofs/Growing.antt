@@ -10,7 +10,7 @@ use Rattle.grid_moves.specs.Grid.{GridData, is_free}
 use Rattle.grid_moves.proofs.Legal.{free_inside}
 use Rattle.plus_tables.specs.Tables.{IsShort}
 use Rattle.plus_tables.specs.Local.{tells_mark}
-use Rattle.plus_tables.specs.Rows.{flag, number, told, AreShort, IsFlagRow}
+use Rattle.plus_tables.specs.Rows.{flag, number, entry_from, AreShort, IsFlagRow}
 use borrow.Rule.Slice.PartMut.{put_mid}
 use Rattle.plus_tables.proofs.Short.{same_value}
 use Rattle.grid_moves.proofs.Parts.{long_with, read_before, read_behind, read_within}
@@ -43,23 +43,25 @@ row_read g y e row cells end long wide first last read =
     one_more : (k : ℕ) → k + 1 ≡ 1 + k
     one_more k = omega arith
 
--- a told entry, as it is read
-pub told_read : (legal mark : Bool) (next r : ℤ)
-    → ((legal ≡ true → IsShort (to_z w16 (of_z w16 next))) → r ≡ told legal mark (to_z w16 (of_z w16 next)))
-    → (legal ≡ true → IsShort next) → to_z w16 (of_z w16 r) ≡ told legal mark next
-told_read legal mark next r h i = grind (arith, nat_tests)
+-- a made entry, as it is read
+pub entry_from_read : (legal mark : Bool) (next r : ℤ)
+    → ((legal ≡ true → IsShort (to_z w16 (of_z w16 next)))
+    → r ≡ entry_from legal mark (to_z w16 (of_z w16 next)))
+    → (legal ≡ true → IsShort next) → to_z w16 (of_z w16 r) ≡ entry_from legal mark next
+entry_from_read legal mark next r h i = grind (arith, nat_tests)
 
 -- and so is the mark beside it
-pub told_across : (legal legal_too mark forced diagonal right left : Bool) (next beside across r : ℤ)
-    → ((legal_too ≡ true → IsShort (to_z w16 (of_z w16 next))) → r ≡ told legal_too mark
+pub entry_from_across : (legal legal_too mark forced diagonal right left : Bool) (next beside across r : ℤ)
+    → ((legal_too ≡ true → IsShort (to_z w16 (of_z w16 next))) → r ≡ entry_from legal_too mark
     (to_z w16 (of_z w16 next)))
     → legal_too ≡ legal → mark ≡ (forced || (diagonal && (right || left)))
     → right ≡ tells_mark (to_z w16 (of_z w16 beside)) → left ≡ tells_mark (to_z w16 (of_z w16 across))
     → (legal ≡ true → AreShort next beside across)
-    → to_z w16 (of_z w16 r) ≡ told legal (forced || (diagonal && (tells_mark beside || tells_mark across)))
+    → to_z w16 (of_z w16 r)
+    ≡ entry_from legal (forced || (diagonal && (tells_mark beside || tells_mark across)))
     next
-told_across legal legal_too mark forced diagonal right left next beside across r h i j k l m =
-    search (rules, told_read, to_z, of_z, same_value)
+entry_from_across legal legal_too mark forced diagonal right left next beside across r h i j k l m =
+    search (rules, entry_from_read, to_z, of_z, same_value)
 
 -- a number elsewhere stays
 pub number_stays : (row : List ℤ) (x k : ℕ) (v : ℤ) → k ≢ x → number (slice_set row x v) k ≡ number row k

@@ -35,8 +35,8 @@ among (d ∷ ds) e = is_dir e d || among ds e
 
 -- entries with those of cell x changed for these directions, the last of them first
 abbrev with_dirs : List ℤ → ℕ → (Dir → ℤ) → List Dir → List ℤ
-with_dirs row x told [] = row
-with_dirs row x told (d ∷ ds) = with_entry (with_dirs row x told ds) x d (told d)
+with_dirs row x by_dir [] = row
+with_dirs row x by_dir (d ∷ ds) = with_entry (with_dirs row x by_dir ds) x d (by_dir d)
 
 -- the directions of a sweep
 abbrev dirs_of : Heading → List Dir
@@ -54,15 +54,15 @@ same_entry : (k x : ℕ) (d e : Dir) → k * 8 + dir_number e ≡ x * 8 + dir_nu
 same_entry k x d e h = grind (arith, nat_tests)
 
 module _ (row : List ℤ) (x : ℕ) (room : x * 8 + 7 < length row) where
-  module _ (told : Dir → ℤ) where
-    long_dirs : (ds : List Dir) → length (with_dirs row x told ds) ≡ length row
+  module _ (by_dir : Dir → ℤ) where
+    long_dirs : (ds : List Dir) → length (with_dirs row x by_dir ds) ≡ length row
     long_dirs [] = refl
-    long_dirs (d ∷ ds) = length-set _ (x * 8 + dir_number d) (told d) ∙ long_dirs ds
+    long_dirs (d ∷ ds) = length-set _ (x * 8 + dir_number d) (by_dir d) ∙ long_dirs ds
 
     elsewhere : (ds : List Dir) (q : ℕ) → ((d : Dir) → among ds d ≡ true → q ≢ x * 8 + dir_number d)
-        → number (with_dirs row x told ds) q ≡ number row q
+        → number (with_dirs row x by_dir ds) q ≡ number row q
     elsewhere [] q off = refl
-    elsewhere (d ∷ ds) q off = number_stays _ (x * 8 + dir_number d) q (told d) (off d (rw (itself d) refl))
+    elsewhere (d ∷ ds) q off = number_stays _ (x * 8 + dir_number d) q (by_dir d) (off d (rw (itself d) refl))
         ∙ elsewhere ds q (λ e m. off e (later_one (is_dir e d) m))
       where
         later_one : (a : Bool) {b : Bool} → b ≡ true → (a || b) ≡ true
@@ -70,14 +70,15 @@ module _ (row : List ℤ) (x : ℕ) (room : x * 8 + 7 < length row) where
         later_one false m = m
 
     there : (ds : List Dir) (e : Dir) → among ds e ≡ true
-        → number (with_dirs row x told ds) (x * 8 + dir_number e) ≡ told e
+        → number (with_dirs row x by_dir ds) (x * 8 + dir_number e) ≡ by_dir e
     there [] e h = absurd (cc)
     there (d ∷ ds) e h = by_test (is_dir e d)
-        (λ s. ap (λ (i : Dir). number (with_dirs row x told (d ∷ ds)) (x * 8 + dir_number i)) (same_dir e d s)
-        ∙ get_or-set_same _ (x * 8 + dir_number d) (told d) (pos 0)
+        (λ s. ap (λ (i : Dir). number (with_dirs row x by_dir (d ∷ ds)) (x * 8 + dir_number i))
+        (same_dir e d s)
+        ∙ get_or-set_same _ (x * 8 + dir_number d) (by_dir d) (pos 0)
         (let few = dir_number-few d in let long = long_dirs ds in omega (arith, room))
-        ∙ ap told (sym (same_dir e d s)))
-        (λ s. number_stays _ (x * 8 + dir_number d) (x * 8 + dir_number e) (told d)
+        ∙ ap by_dir (sym (same_dir e d s)))
+        (λ s. number_stays _ (x * 8 + dir_number d) (x * 8 + dir_number e) (by_dir d)
         (λ same. absurd (let one = same_entry x x d e same in cc))
         ∙ there ds e (rw s at h))
 
@@ -87,14 +88,14 @@ module _ (row : List ℤ) (x : ℕ) (room : x * 8 + 7 < length row) where
 
   -- one cell more is laid down
   module _ (h : Heading) (line : Line) (old : List ℤ) (laid : AreLaid h line x old row) where
-    abbrev told : Dir → ℤ
-    told d = stored (part h line d)
+    abbrev by_dir : Dir → ℤ
+    by_dir d = stored (part h line d)
 
-    laid_dirs : AreLaid h line (x + 1) old (with_dirs row x told (dirs_of h))
+    laid_dirs : AreLaid h line (x + 1) old (with_dirs row x by_dir (dirs_of h))
     laid_dirs = record {
-      long = long_dirs told (dirs_of h) ∙ laid.long;
-      told = λ k e l i short. by_place k e l i short (nat_lt k x) refl;
-      others = λ k e off. elsewhere told (dirs_of h) (k * 8 + dir_number e) (λ d m same. absurd (
+      long = long_dirs by_dir (dirs_of h) ∙ laid.long;
+      entered = λ k e l i short. by_place k e l i short (nat_lt k x) refl;
+      others = λ k e off. elsewhere by_dir (dirs_of h) (k * 8 + dir_number e) (λ d m same. absurd (
           let one = same_dir e d (same_entry k x d e same) in
           let here : is_swept h e ≡ true = dirs_are h e ∙ ap (λ (i : Dir). among (dirs_of h) i) one ∙ m in
           cc))
@@ -104,13 +105,13 @@ module _ (row : List ℤ) (x : ℕ) (room : x * 8 + 7 < length row) where
         by_place : (k : ℕ) (e : Dir) → k < x + 1 → is_swept h e ≡ true
             → IsShort (number (part h line e) (k + 1))
             → (b : Bool) → nat_lt k x ≡ b
-            → number (with_dirs row x told (dirs_of h)) (k * 8 + dir_number e)
+            → number (with_dirs row x by_dir (dirs_of h)) (k * 8 + dir_number e)
             ≡ number (part h line e) (k + 1)
         by_place k e l i short true t = grind (arith, nat_tests, elsewhere, dir_number-few)
         by_place k e l i short false t =
             let same : x ≡ k = grind (arith, nat_tests) in
-            ap (λ (n : ℕ). number (with_dirs row x told (dirs_of h)) (n * 8 + dir_number e)) (sym same)
-            ∙ there told (dirs_of h) e (sym (dirs_are h e) ∙ i)
+            ap (λ (n : ℕ). number (with_dirs row x by_dir (dirs_of h)) (n * 8 + dir_number e)) (sym same)
+            ∙ there by_dir (dirs_of h) e (sym (dirs_are h e) ∙ i)
             ∙ same_value (number (part h line e) (x + 1)) (number (part h line e) (x + 1))
             (subst (λ (n : ℕ). IsShort (number (part h line e) (n + 1))) (sym same) short) refl
             ∙ ap (λ (n : ℕ). number (part h line e) (n + 1)) same
@@ -154,12 +155,12 @@ parts g h y line i j e k = grind (arith, nat_tests)
 pub row_swept : (g : GridData) → IsGrid g → (h : Heading) (y : ℕ) (line : Line) (old new : List ℤ)
     → AreAhead g h y line → AreAlong g y line → y < g.height → AreLaid h line g.width old new
     → IsRowSwept g h y old new
-row_swept g whole h y line old new told along inside laid = record {
+row_swept g whole h y line old new ahead along inside laid = record {
   long = laid.long;
-  told = λ x e column is.
+  entered = λ x e column is.
       let on : is_inside g (record { x = x; y = y }) ≡ true = grind (arith, nat_tests) in
-      let entry = parts g h y line told along e is (record { x = x; y = y }) refl on in
-      laid.told x e column is (subst (λ (z : ℤ). IsShort z) (sym entry)
+      let entry = parts g h y line ahead along e is (record { x = x; y = y }) refl on in
+      laid.entered x e column is (subst (λ (z : ℤ). IsShort z) (sym entry)
       (table_entry-short g whole (record { x = x; y = y }) e)) ∙ entry;
   others = laid.others;
 }
@@ -191,9 +192,9 @@ module _ (g : GridData) (h : Heading) (y start k : ℕ) (all row : List ℤ) (be
     in_row : c.x * 8 + dir_number e < k
     in_row = grind (arith, nat_tests)
 
-    told_here : c.y ≡ y → is_swept h e ≡ true → number final place ≡ table_entry g c e
+    number_here : c.y ≡ y → is_swept h e ≡ true → number final place ≡ table_entry g c e
     unfolding final
-    told_here same is = grind (arith, nat_tests, final, on_row, read_within, inside, filled, in_row)
+    number_here same is = grind (arith, nat_tests, final, on_row, read_within, inside, filled, in_row)
 
     kept_here : c.y ≡ y → is_swept h e ≡ false → number final place ≡ number all place
     unfolding final
@@ -221,7 +222,7 @@ module _ (g : GridData) (h : Heading) (y start k : ℕ) (all row : List ℤ) (be
       → AreRight (as_tables g (put_mid start k all row)) g after
   unfolding final place
   right_swept before after p i j =
-      grind (arith, nat_tests, elsewhere, final, place, kept_above, kept_below, told_here, kept_here)
+      grind (arith, nat_tests, elsewhere, final, place, kept_above, kept_below, number_here, kept_here)
 
 -- one more row is swept: what was right stays so, and lies in rows that are there
 module _ (height n : ℕ) (below : n < height) (c : Cell) (e : Dir) where

@@ -6,7 +6,7 @@ pub mod Clear
 pub mod Stops
 pub mod Goals
 pub mod Aiming
-pub mod Told
+pub mod StopRead
 pub mod Turning
 pub mod Growing
 pub mod Laying

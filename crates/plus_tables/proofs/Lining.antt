@@ -20,7 +20,7 @@ use Rattle.plus_tables.specs.Sweep.{is_ahead, is_swept, is_upward, nth_row, IsNe
 use Rattle.plus_tables.specs.Laid.{IsAlongRight, seen_part}
 use Rattle.plus_tables.specs.declared.heading.Heading.{Heading}
 use Rattle.plus_tables.specs.declared.heading.Heading.TheVariants.{Upwards, Downwards}
-use Rattle.plus_tables.specs.Rows.{number, IsEntryRow, IsFlagRow, IsRowAt, is_along, seen, AreRowsSeen}
+use Rattle.plus_tables.specs.Rows.{number, IsEntryRow, IsFlagRow, IsRowAt, is_along, dir_seen, AreRowsSeen}
 use Rattle.plus_tables.specs.Lines.{AreAhead, AreAlong, IsLong, IsReady, IsKept, IsBlank}
 use Rattle.plus_tables.proofs.Rowing.{value_is}
 
@@ -53,7 +53,7 @@ pub row_under : (y n : ℕ) → n ≡ y + 1 → IsRowAt (row_ahead S y) n
 row_under y n e = subst (λ (m : ℕ). IsRowAt (row_ahead S y) m) (sym e) (row_itself (y + 1))
 
 -- and the row that is swept next sees this one ahead
-pub row_next : (h : Heading) (y n : ℕ) → IsNext h y n → IsRowAt (row_ahead (seen h N) n) y
+pub row_next : (h : Heading) (y n : ℕ) → IsNext h y n → IsRowAt (row_ahead (dir_seen h N) n) y
 row_next h y n i = grind (arith, nat_tests)
 
 pub next_row : (h : Heading) (height n y : ℕ) → n + 1 < height → y ≡ nth_row h height n
@@ -61,8 +61,9 @@ pub next_row : (h : Heading) (height n y : ℕ) → n + 1 < height → y ≡ nth
 next_row h height n y i j = grind (arith, nat_tests)
 
 -- all that leads ahead leads to one row
-pub leads_ahead : (h : Heading) (d : Dir) (y m : ℕ) → is_ahead d ≡ true → IsRowAt (row_ahead (seen h N) y) m
-    → IsRowAt (row_ahead (seen h d) y) m
+pub leads_ahead : (h : Heading) (d : Dir) (y m : ℕ) → is_ahead d ≡ true
+    → IsRowAt (row_ahead (dir_seen h N) y) m
+    → IsRowAt (row_ahead (dir_seen h d) y) m
 leads_ahead h d y m i j = grind (arith, nat_tests)
 
 -- beside it all leads ahead or along a row
@@ -78,12 +79,12 @@ pub part_long : (g : GridData) (line : Line) → IsLong g line → (d : Dir)
 part_long g line h d = grind (arith, nat_tests)
 
 part_seen : (g : GridData) (h : Heading) (m : ℕ) (line : Line) → AreAhead g h m line → AreAlong g m line
-    → (d : Dir) → is_upward d ≡ true → IsEntryRow g m (seen h d) (seen_part line d)
+    → (d : Dir) → is_upward d ≡ true → IsEntryRow g m (dir_seen h d) (seen_part line d)
 part_seen g h m line i j d k = grind (arith, nat_tests)
 
 pub part_row : (g : GridData) (h : Heading) (m : ℕ) (line : Line) → AreAhead g h m line → AreAlong g m line
     → (d e : Dir) → is_upward d ≡ true → e ≡ d → (row : List ℤ) → row ≡ seen_part line e
-    → IsEntryRow g m (seen h d) row
+    → IsEntryRow g m (dir_seen h d) row
 part_row g h m line i j d e up is row same = rw (same, is) (part_seen g h m line i j d up)
 
 -- the entries along a row, as they are read back
@@ -111,16 +112,16 @@ with_along line east west = record {
   west = with_items line.west west;
 }
 
-pub lines_told : (g : GridData) (h : Heading) (y : ℕ) (this : Line) (east west : List ℤ) → AreAhead g h y this
+pub lines_made : (g : GridData) (h : Heading) (y : ℕ) (this : Line) (east west : List ℤ) → AreAhead g h y this
     → IsEntryRow g y E east → IsEntryRow g y W west → length east ≡ this.east.len
     → length west ≡ this.west.len
     → AreAhead g h y (with_along this east west) × AreAlong g y (with_along this east west)
-lines_told g h y this east west i j k l m = grind (arith, nat_tests, entries_as, with_items_is)
+lines_made g h y this east west i j k l m = grind (arith, nat_tests, entries_as, with_items_is)
 
 -- once the row behind is read
 module _ {g : GridData} {h : Heading} {y n : ℕ} {band : Band} {last : Line} {row : List Bool}
     (ready : IsReady g h y band last) (is : IsFlagRow g n row) (fits : length row ≡ band.back.len)
-    (lies : IsRowAt (row_ahead (seen h S) y) n) where
+    (lies : IsRowAt (row_ahead (dir_seen h S) y) n) where
   behind_is : IsFlagRow g n (with_items band.back row).items
   behind_is = flags_as g n row _ (with_items_is band.back row fits) is
 
@@ -138,7 +139,7 @@ module _ {g : GridData} {h : Heading} {y n : ℕ} {band : Band} {last : Line} {r
       around_next = ready.rows.around_next;
     };
     long = ready.long;
-    told = ready.told;
+    ahead_right = ready.ahead_right;
     along = ready.along;
   }
 
@@ -151,8 +152,8 @@ module _ {g : GridData} {h : Heading} {y n : ℕ} {band : Band} {last : Line} {r
   read_behind = (ready_back, around_row)
 
   -- on to the next row
-  module _ (this : Line) (east west : List ℤ) (rows : Rows) (back : IsRowAt (row_ahead (seen h N) n) y)
-      (told : AreAhead g h y this) (east_is : IsEntryRow g y E east) (west_is : IsEntryRow g y W west)
+  module _ (this : Line) (east west : List ℤ) (rows : Rows) (back : IsRowAt (row_ahead (dir_seen h N) n) y)
+      (ahead_right : AreAhead g h y this) (east_is : IsEntryRow g y E east) (west_is : IsEntryRow g y W west)
       (long : IsLong g this) (east_fits : length east ≡ this.east.len)
       (west_fits : length west ≡ this.west.len)
       (far : rows.band.far.items ≡ band.next.items) (next : rows.band.next.items ≡ band.here.items)
@@ -160,7 +161,7 @@ module _ {g : GridData} {h : Heading} {y n : ℕ} {band : Band} {last : Line} {r
       (beyond : rows.band.back.items ≡ band.far.items) (kept : rows.last ≡ with_along this east west)
       (other : rows.this ≡ last) (forced : length rows.forced.items ≡ g.width + 2) where
     line : AreAhead g h y (with_along this east west) × AreAlong g y (with_along this east west)
-    line = lines_told g h y this east west told east_is west_is east_fits west_fits
+    line = lines_made g h y this east west ahead_right east_is west_is east_fits west_fits
 
     long_on : IsLong g (with_along this east west)
     long_on = grind (arith, nat_tests, with_items_is)
@@ -182,7 +183,7 @@ module _ {g : GridData} {h : Heading} {y n : ℕ} {band : Band} {last : Line} {r
               rows.band.next.items rows.band.here.items far next here around_row;
         };
         long = subst (λ (l : Line). IsLong g l) (sym kept) long_on;
-        told = subst (λ (l : Line). AreAhead g h y l) (sym kept) line.0;
+        ahead_right = subst (λ (l : Line). AreAhead g h y l) (sym kept) line.0;
         along = subst (λ (l : Line). AreAlong g y l) (sym kept) line.1;
       };
       long = subst (λ (l : Line). IsLong g l) (sym other) ready.long;
@@ -197,7 +198,7 @@ module _ (g : GridData) (whole : IsGrid g) (rows begun : Rows) (blank : IsBlank 
     (far : begun.band.far.items ≡ rows.band.far.items) (next : begun.band.next.items ≡ rows.band.next.items)
     (back : begun.band.back.items ≡ rows.band.back.items) (last : begun.last ≡ rows.last)
     (this : begun.this ≡ rows.this) (forced : begun.forced.items ≡ rows.forced.items) where
-  begun_at : (h : Heading) (y n m : ℕ) → g.height ≤ n → g.height ≤ m → IsRowAt (row_ahead (seen h N) y) n
+  begun_at : (h : Heading) (y n m : ℕ) → g.height ≤ n → g.height ≤ m → IsRowAt (row_ahead (dir_seen h N) y) n
       → IsFlagRow g y begun.band.here.items
       → (n < 4096 → AreRowsSeen g h n begun.band.far.items begun.band.next.items begun.band.here.items)
       → IsKept g h y begun
@@ -215,10 +216,10 @@ module _ (g : GridData) (whole : IsGrid g) (rows begun : Rows) (blank : IsBlank 
         around_next = around;
       };
       long = subst (λ (l : Line). IsLong g l) (sym last) blank.last;
-      told = record {
-        ahead = nothing g whole (seen h N) begun.last.ahead.items n high;
-        ahead_east = nothing g whole (seen h NE) begun.last.ahead_east.items n high;
-        ahead_west = nothing g whole (seen h NW) begun.last.ahead_west.items n high;
+      ahead_right = record {
+        ahead = nothing g whole (dir_seen h N) begun.last.ahead.items n high;
+        ahead_east = nothing g whole (dir_seen h NE) begun.last.ahead_east.items n high;
+        ahead_west = nothing g whole (dir_seen h NW) begun.last.ahead_west.items n high;
       };
       along = record {
         east = nothing g whole E begun.last.east.items n high;

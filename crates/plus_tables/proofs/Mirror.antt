@@ -18,7 +18,7 @@ use Rattle.pruning.proofs.Table.{other}
 use Rattle.plus_tables.specs.declared.heading.Heading.{Heading}
 use Rattle.plus_tables.specs.declared.heading.Heading.TheVariants.{Upwards, Downwards}
 use Rattle.plus_tables.specs.Local.{tells_mark, is_mark_by}
-use Rattle.plus_tables.specs.Rows.{ring_of, place_after, is_along, flipped, seen}
+use Rattle.plus_tables.specs.Rows.{ring_of, place_after, is_along, flipped, dir_seen}
 
 -- the flags around a column as they lie on the map
 abbrev pub upright : Heading → List Bool → List Bool → List Bool → ℕ → Ring
@@ -28,10 +28,10 @@ upright Downwards ahead here behind x = ring_of behind here ahead x
 either_way : (a b : Bool) → (a || b) ≡ (b || a)
 either_way a b = grind arith
 
-pub place_seen : (h : Heading) (d : Dir) (x : ℕ) → place_after (seen h d) x ≡ place_after d x
+pub place_seen : (h : Heading) (d : Dir) (x : ℕ) → place_after (dir_seen h d) x ≡ place_after d x
 place_seen h d x = grind (arith, nat_tests)
 
-pub along_seen : (h : Heading) (d : Dir) → is_along d ≡ true → seen h d ≡ d
+pub along_seen : (h : Heading) (d : Dir) → is_along d ≡ true → dir_seen h d ≡ d
 along_seen h d i = grind (arith, nat_tests)
 
 module _ (r : Corner) (a h b : List Bool) (x : ℕ) where
@@ -40,12 +40,12 @@ module _ (r : Corner) (a h b : List Bool) (x : ℕ) where
   forced_on_flipped d s = grind (arith, nat_tests)
 
   pub forced_seen : (heading : Heading) (d : Dir)
-      → forced_on r (ring_of a h b x) d ≡ forced_on r (upright heading a h b x) (seen heading d)
+      → forced_on r (ring_of a h b x) d ≡ forced_on r (upright heading a h b x) (dir_seen heading d)
   forced_seen Upwards d = refl
   forced_seen Downwards d = grind (arith, nat_tests, either_way, forced_on_flipped)
 
   pub can_seen : (heading : Heading) (d : Dir)
-      → leads_on r (ring_of a h b x) d ≡ leads_on r (upright heading a h b x) (seen heading d)
+      → leads_on r (ring_of a h b x) d ≡ leads_on r (upright heading a h b x) (dir_seen heading d)
   can_seen Upwards d = refl
   can_seen Downwards d = grind (arith, nat_tests)
 
@@ -56,8 +56,8 @@ mark_flipped : (forced : Bool) (marks : Dir → Bool) (d : Dir)
 mark_flipped forced marks d = grind (arith, nat_tests, either_way)
 
 pub mark_seen : (h : Heading) (g : GridData) (entry : Cell → Dir → ℤ) (d : Dir) (w : Cell)
-    → is_mark_by g entry (seen h d) w ≡ (is_forced g w (seen h d) || (is_diagonal d
-    && (tells_mark (entry w (seen h (turn Right d))) || tells_mark (entry w (seen h (turn Left d))))))
+    → is_mark_by g entry (dir_seen h d) w ≡ (is_forced g w (dir_seen h d) || (is_diagonal d
+    && (tells_mark (entry w (dir_seen h (turn Right d))) || tells_mark (entry w (dir_seen h (turn Left d))))))
 mark_seen Upwards g entry d w = refl
 mark_seen Downwards g entry d w =
     mark_flipped (is_forced g w (flipped d)) (λ (e : Dir). tells_mark (entry w e)) d

@@ -1,4 +1,4 @@
--- An entry is told by right entries at the next cell.
+-- An entry is made from right entries at the next cell.
 use Rattle.std.proofs.Common.{◌≡◌, arith, true, false, refl, sym, ◌∙◌}
 use Rattle.std.specs.Prelude.{pos, Some, if◌then◌else◌}
 use Rattle.std.proofs.lemmas.Bool.Decides.{nat_tests}
@@ -25,7 +25,7 @@ module _ (t : TablesData) (g : GridData) (c : Cell) (d : Dir) (rests : RestsRigh
     pub next_free : is_free g v ≡ true
     next_free = (legal_is g c v (legal_leads g c v d e).legal).target
 
-    -- the marks at the next cell are told by the entries there
+    -- the marks at the next cell are shown by the entries there
     same_mark : is_mark_by g (entry_at t) d v ≡ is_mark_by g (table_entry g) d v
     same_mark = by_parity d
         (λ h. rw (rests.beside h v e Right, rests.beside h v e Left) refl)
@@ -35,12 +35,12 @@ module _ (t : TablesData) (g : GridData) (c : Cell) (d : Dir) (rests : RestsRigh
         ≡ (if is_mark_by g (entry_at t) d v then pos 1 else from_before (entry_at t v d))
     follows = entries_follow g c d ∙ rw (e, same_mark, rests.ahead v e) refl
 
-    pub told_marked : is_mark_by g (entry_at t) d v ≡ true → pos 1 ≡ table_entry g c d
-    told_marked h = sym (follows ∙ rw h refl)
+    pub entry_marked : is_mark_by g (entry_at t) d v ≡ true → pos 1 ≡ table_entry g c d
+    entry_marked h = sym (follows ∙ rw h refl)
 
-    pub told_further : is_mark_by g (entry_at t) d v ≡ false → from_before (entry_at t v d)
+    pub entry_further : is_mark_by g (entry_at t) d v ≡ false → from_before (entry_at t v d)
         ≡ table_entry g c d
-    told_further h = sym (follows ∙ rw h refl)
+    entry_further h = sym (follows ∙ rw h refl)
 
     pub next_short : IsGrid g → IsShort (entry_at t v d)
     next_short whole = rw (rests.ahead v e) (table_entry-short g whole v d)

@@ -24,9 +24,11 @@ use Rattle.plus_tables.specs.declared.heading.Heading.TheVariants.{Upwards, Down
 use Rattle.plus_tables.specs.Entry.{table_entry}
 use Rattle.plus_tables.specs.Local.{is_mark_by}
 use Rattle.plus_tables.specs.Tables.{IsShort}
-use Rattle.plus_tables.specs.Rows.{flag, number, ring_of, place_after, told, legal_by, mark_by, is_along}
-use Rattle.plus_tables.specs.Rows.{IsFlagRow, IsForcedRow, IsEntryRow, IsRowAt, AreRowsSeen, AreForced, seen}
-use Rattle.plus_tables.specs.Rows.{AreShort, AreToldBelow, IsToldAlong}
+use Rattle.plus_tables.specs.Rows.{flag, number, ring_of, place_after, entry_from, legal_by, mark_by}
+use Rattle.plus_tables.specs.Rows.{is_along}
+use Rattle.plus_tables.specs.Rows.{IsFlagRow, IsForcedRow, IsEntryRow, IsRowAt, AreRowsSeen, AreForced}
+use Rattle.plus_tables.specs.Rows.{dir_seen}
+use Rattle.plus_tables.specs.Rows.{AreShort, AreEntriesBelow, IsEntryAlong}
 use Rattle.plus_tables.proofs.Following.{entries_follow, is_mark_by-straight}
 use Rattle.plus_tables.proofs.Mirror.{upright, along_seen, can_seen, forced_seen, mark_seen, place_seen}
 use Rattle.plus_tables.proofs.Short.{table_entry-short}
@@ -64,14 +66,14 @@ module _ (g : GridData) (whole : IsGrid g) where
     -- so they tell where a neighbour is forced
     pub ring_forced : (x : ℕ) (d : Dir) → is_free g (record { x = x; y = y }) ≡ true
         → forced_on g.corner (ring_of above here below x) d
-        ≡ is_forced g (record { x = x; y = y }) (seen h d)
+        ≡ is_forced g (record { x = x; y = y }) (dir_seen h d)
     ring_forced x d f = forced_seen g.corner above here below x h d
         ∙ forced_of_ring g (record { x = x; y = y }) f (upright h above here below x)
-        (upright_open h y above here below r x) g.corner refl (seen h d)
+        (upright_open h y above here below r x) g.corner refl (dir_seen h d)
 
     pub forced_row : (d : Dir) (corner : Corner) (forced : List Bool) → corner ≡ g.corner
         → length forced ≡ g.width + 2 → AreForced corner above here below d forced
-        → IsForcedRow g y (seen h d) forced
+        → IsForcedRow g y (dir_seen h d) forced
     forced_row d corner forced rule long are v row free =
         let inside = free_inside g v free in
         let below_last : v.x < length forced - 2 = omega (arith, inside.0) in
@@ -80,33 +82,33 @@ module _ (g : GridData) (whole : IsGrid g) where
         are v.x below_last
         ∙ ap (λ (k : Corner). forced_on k (ring_of above here below v.x) d) rule
         ∙ ring_forced v.x d free_here
-        ∙ ap (λ (n : ℕ). is_forced g (record { x = v.x; y = n }) (seen h d)) (sym row)
+        ∙ ap (λ (n : ℕ). is_forced g (record { x = v.x; y = n }) (dir_seen h d)) (sym row)
 
     -- a move is legal from a free cell alone
     pub row_legal : (d : Dir) (corner : Corner) → corner ≡ g.corner → (v : Cell) → v.y ≡ y
-        → legal_by corner above here below d v.x ≡ can_move g v (seen h d)
+        → legal_by corner above here below d v.x ≡ can_move g v (dir_seen h d)
     row_legal d corner rule v row =
         ap (λ (k : Corner). legal_by k above here below d v.x) rule
         ∙ ap (λ (b : Bool). b && leads_on g.corner (ring_of above here below v.x) d)
         (r.here_is.cells v.x)
         ∙ by_test (is_free g (record { x = v.x; y = y })) refl
-        ∙ ap (λ (n : ℕ). can_move g (record { x = v.x; y = n }) (seen h d)) (sym row)
+        ∙ ap (λ (n : ℕ). can_move g (record { x = v.x; y = n }) (dir_seen h d)) (sym row)
       where
         blocked : is_free g (record { x = v.x; y = y }) ≡ false → (b : Bool)
-            → can_move g (record { x = v.x; y = y }) (seen h d) ≡ b
-            → false ≡ can_move g (record { x = v.x; y = y }) (seen h d)
+            → can_move g (record { x = v.x; y = y }) (dir_seen h d) ≡ b
+            → false ≡ can_move g (record { x = v.x; y = y }) (dir_seen h d)
         blocked f false e = sym e
         blocked f true e = absurd (
-            let l = leads_from g (record { x = v.x; y = y }) (seen h d) e in
+            let l = leads_from g (record { x = v.x; y = y }) (dir_seen h d) e in
             let t = (legal_is g (record { x = v.x; y = y }) l.0 l.1.legal).source in cc)
 
         by_test : (b : Bool) → is_free g (record { x = v.x; y = y }) ≡ b
             → (b && leads_on g.corner (ring_of above here below v.x) d)
-            ≡ can_move g (record { x = v.x; y = y }) (seen h d)
+            ≡ can_move g (record { x = v.x; y = y }) (dir_seen h d)
         by_test true f = can_seen g.corner above here below v.x h d
             ∙ leads_on-legal g (record { x = v.x; y = y }) f (upright h above here below v.x)
-            (upright_open h y above here below r v.x) g.corner refl (seen h d)
-        by_test false f = blocked f (can_move g (record { x = v.x; y = y }) (seen h d)) refl
+            (upright_open h y above here below r v.x) g.corner refl (dir_seen h d)
+        by_test false f = blocked f (can_move g (record { x = v.x; y = y }) (dir_seen h d)) refl
 
 -- where the next cell stands
 parts_of : (x y : Option ℕ) (w : Cell)
@@ -120,12 +122,13 @@ value_is m k e = grind (arith, nat_tests)
 place_is : (d : Dir) (x k : ℕ) → column_ahead d x ≡ Some k → place_after d x ≡ k + 1
 place_is d x k h = grind (arith, nat_tests)
 
--- the entry of a cell is told by the next cell
-pub told_is : (g : GridData) (c : Cell) (d : Dir) (legal mark : Bool) (next : ℤ) → legal ≡ can_move g c d
+-- the entry of a cell is made from the next cell
+pub entry_from_is : (g : GridData) (c : Cell) (d : Dir) (legal mark : Bool) (next : ℤ)
+    → legal ≡ can_move g c d
     → ((w : Cell) → legal_ahead g c d ≡ Some w → mark ≡ is_mark_by g (table_entry g) d w)
     → ((w : Cell) → legal_ahead g c d ≡ Some w → next ≡ table_entry g w d)
-    → told legal mark next ≡ table_entry g c d
-told_is g c d legal mark next can marked is = grind (arith, nat_tests, entries_follow)
+    → entry_from legal mark next ≡ table_entry g c d
+entry_from_is g c d legal mark next can marked is = grind (arith, nat_tests, entries_follow)
 
 module _ (g : GridData) (whole : IsGrid g) (c : Cell) (d : Dir) where
   -- what stands at the next place
@@ -153,73 +156,77 @@ module _ (g : GridData) (whole : IsGrid g) (c : Cell) (d : Dir) where
   next_row : (w : Cell) → legal_ahead g c d ≡ Some w → row_ahead d c.y ≡ Some w.y
   next_row w legal = grind (arith, nat_tests)
 
--- an entry of a row, told by the next row
+-- an entry of a row, made from the next row
 module _ (g : GridData) (whole : IsGrid g) (h : Heading) (c : Cell) (d : Dir) (y : ℕ) (forced : List Bool)
-    (ahead right left : List ℤ) (legal : Bool) (can : legal ≡ can_move g c (seen h d))
-    (lies : (w : Cell) → legal_ahead g c (seen h d) ≡ Some w → w.y ≡ y)
-    (forced_is : IsForcedRow g y (seen h d) forced) (ahead_is : IsEntryRow g y (seen h d) ahead)
-    (right_is : IsEntryRow g y (seen h (turn Right d)) right)
-    (left_is : IsEntryRow g y (seen h (turn Left d)) left) where
+    (ahead right left : List ℤ) (legal : Bool) (can : legal ≡ can_move g c (dir_seen h d))
+    (lies : (w : Cell) → legal_ahead g c (dir_seen h d) ≡ Some w → w.y ≡ y)
+    (forced_is : IsForcedRow g y (dir_seen h d) forced) (ahead_is : IsEntryRow g y (dir_seen h d) ahead)
+    (right_is : IsEntryRow g y (dir_seen h (turn Right d)) right)
+    (left_is : IsEntryRow g y (dir_seen h (turn Left d)) left) where
   entry_there : (row : List ℤ) (e : Dir) → IsEntryRow g y e row → (w : Cell)
-      → legal_ahead g c (seen h d) ≡ Some w → number row (place_after d c.x) ≡ table_entry g w e
+      → legal_ahead g c (dir_seen h d) ≡ Some w → number row (place_after d c.x) ≡ table_entry g w e
   entry_there row e is w k = ap (λ (n : ℕ). number row n) (sym (place_seen h d c.x))
-      ∙ next_number g whole c (seen h d) y row e w k (lies w k) is
+      ∙ next_number g whole c (dir_seen h d) y row e w k (lies w k) is
 
-  flag_next : (w : Cell) → legal_ahead g c (seen h d) ≡ Some w
-      → flag forced (place_after d c.x) ≡ is_forced g w (seen h d)
+  flag_next : (w : Cell) → legal_ahead g c (dir_seen h d) ≡ Some w
+      → flag forced (place_after d c.x) ≡ is_forced g w (dir_seen h d)
   flag_next w k = ap (λ (n : ℕ). flag forced n) (sym (place_seen h d c.x))
-      ∙ next_flag g whole c (seen h d) y forced w k (lies w k) forced_is
+      ∙ next_flag g whole c (dir_seen h d) y forced w k (lies w k) forced_is
 
-  mark_across : (w : Cell) → legal_ahead g c (seen h d) ≡ Some w
-      → mark_by forced right left d (place_after d c.x) ≡ is_mark_by g (table_entry g) (seen h d) w
+  mark_across : (w : Cell) → legal_ahead g c (dir_seen h d) ≡ Some w
+      → mark_by forced right left d (place_after d c.x) ≡ is_mark_by g (table_entry g) (dir_seen h d) w
   mark_across w k = rw (
     flag_next w k,
-    entry_there right (seen h (turn Right d)) right_is w k,
-    entry_there left (seen h (turn Left d)) left_is w k,
+    entry_there right (dir_seen h (turn Right d)) right_is w k,
+    entry_there left (dir_seen h (turn Left d)) left_is w k,
   ) (sym (mark_seen h g (table_entry g) d w))
 
-  told_entry : told legal (mark_by forced right left d (place_after d c.x)) (number ahead (place_after d c.x))
-      ≡ table_entry g c (seen h d)
-  told_entry = told_is g c (seen h d) legal _ _ can mark_across (entry_there ahead (seen h d) ahead_is)
+  next_entry_is : entry_from legal (mark_by forced right left d (place_after d c.x))
+      (number ahead (place_after d c.x))
+      ≡ table_entry g c (dir_seen h d)
+  next_entry_is =
+      entry_from_is g c (dir_seen h d) legal _ _ can mark_across (entry_there ahead (dir_seen h d) ahead_is)
 
   short_at : (row : List ℤ) (e : Dir) → IsEntryRow g y e row → legal ≡ true
       → IsShort (number row (place_after d c.x))
   short_at row e is k =
-      let l = leads_from g c (seen h d) (sym can ∙ k) in
+      let l = leads_from g c (dir_seen h d) (sym can ∙ k) in
       subst (λ (z : ℤ). IsShort z)
-      (sym (entry_there row e is l.0 (leads_legal g c l.0 (seen h d) l.1))) (table_entry-short g whole l.0 e)
+      (sym (entry_there row e is l.0 (leads_legal g c l.0 (dir_seen h d) l.1)))
+      (table_entry-short g whole l.0 e)
 
   short_entries : legal ≡ true → AreShort (number ahead (place_after d c.x))
       (number right (place_after d c.x)) (number left (place_after d c.x))
   short_entries k = record {
-    ahead_is = short_at ahead (seen h d) ahead_is k;
-    right_is = short_at right (seen h (turn Right d)) right_is k;
-    left_is = short_at left (seen h (turn Left d)) left_is k;
+    ahead_is = short_at ahead (dir_seen h d) ahead_is k;
+    right_is = short_at right (dir_seen h (turn Right d)) right_is k;
+    left_is = short_at left (dir_seen h (turn Left d)) left_is k;
   }
 
--- a row that is told by the next is the row of entries
-pub told_row : (g : GridData) (whole : IsGrid g) (h : Heading) (y m : ℕ) (d : Dir)
-    → IsRowAt (row_ahead (seen h d) y) m → (corner : Corner) → corner ≡ g.corner
+-- a row that is made from the next is the row of entries
+pub entries_of_row : (g : GridData) (whole : IsGrid g) (h : Heading) (y m : ℕ) (d : Dir)
+    → IsRowAt (row_ahead (dir_seen h d) y) m → (corner : Corner) → corner ≡ g.corner
     → (above here below forced : List Bool) (ahead right left out : List ℤ)
-    → AreRowsSeen g h y above here below → IsForcedRow g m (seen h d) forced
-    → IsEntryRow g m (seen h d) ahead → IsEntryRow g m (seen h (turn Right d)) right
-    → IsEntryRow g m (seen h (turn Left d)) left → length out ≡ g.width + 2
-    → AreToldBelow corner above here below forced ahead right left d out (length out - 2)
-    → IsEntryRow g y (seen h d) out
-told_row g whole h y m d lies corner rule above here below forced ahead right left out around forced_is
-    ahead_is right_is left_is long are_told v row inside =
+    → AreRowsSeen g h y above here below → IsForcedRow g m (dir_seen h d) forced
+    → IsEntryRow g m (dir_seen h d) ahead → IsEntryRow g m (dir_seen h (turn Right d)) right
+    → IsEntryRow g m (dir_seen h (turn Left d)) left → length out ≡ g.width + 2
+    → AreEntriesBelow corner above here below forced ahead right left d out (length out - 2)
+    → IsEntryRow g y (dir_seen h d) out
+entries_of_row g whole h y m d lies corner rule above here below forced ahead right left out around forced_is
+    ahead_is right_is left_is long are_entries v row inside =
     let below_last : v.x < length out - 2 = grind (arith, nat_tests) in
     let can = row_legal g whole h y above here below around d corner rule v row in
     let legal = legal_by corner above here below d v.x in
-    are_told v.x below_last
+    are_entries v.x below_last
     (short_entries g whole h v d m forced ahead right left legal can in_row forced_is ahead_is right_is
     left_is)
-    ∙ told_entry g whole h v d m forced ahead right left legal can in_row forced_is ahead_is right_is left_is
+    ∙ next_entry_is g whole h v d m forced ahead right left legal can in_row forced_is ahead_is right_is
+    left_is
   where
     -- the next cell lies in the row ahead
-    in_row : (w : Cell) → legal_ahead g v (seen h d) ≡ Some w → w.y ≡ m
+    in_row : (w : Cell) → legal_ahead g v (dir_seen h d) ≡ Some w → w.y ≡ m
     in_row w e = sym (lies.some w.y
-        (ap (λ (n : ℕ). row_ahead (seen h d) n) (sym row) ∙ next_row g whole v (seen h d) w e))
+        (ap (λ (n : ℕ). row_ahead (dir_seen h d) n) (sym row) ∙ next_row g whole v (dir_seen h d) w e))
 
 -- along a row all columns have what each has where the next one has it
 pub along_each : (d : Dir) → is_along d ≡ true → (n : ℕ) (P : ℕ → Type 0)
@@ -250,7 +257,7 @@ pub next_along : (g : GridData) (d : Dir) → is_along d ≡ true → (x y : ℕ
     → (column_ahead d x ≡ Some w.x) × (w.x < g.width) × (record { x = w.x; y = y } ≡ w)
 next_along g d along x y w e = grind (arith, nat_tests)
 
--- along a row, told from the end
+-- along a row, made from the end
 module _ (g : GridData) (whole : IsGrid g) (h : Heading) (y : ℕ) (above here below forced : List Bool)
     (out : List ℤ) (around : AreRowsSeen g h y above here below) where
   -- one entry, where the next one is right
@@ -258,9 +265,9 @@ module _ (g : GridData) (whole : IsGrid g) (h : Heading) (y : ℕ) (above here b
       → (flag here (v.x + 1) && flag here (place_after d v.x)) ≡ can_move g v d
       → ((w : Cell) → legal_ahead g v d ≡ Some w → w.y ≡ y)
       → ((w : Cell) → legal_ahead g v d ≡ Some w → number out (place_after d v.x) ≡ table_entry g w d)
-      → IsToldAlong here forced d out v.x → number out (v.x + 1) ≡ table_entry g v d
-  along_one d straight forced_is v row can lies next is_told =
-      is_told short ∙ told_is g v d (flag here (v.x + 1) && flag here (place_after d v.x))
+      → IsEntryAlong here forced d out v.x → number out (v.x + 1) ≡ table_entry g v d
+  along_one d straight forced_is v row can lies next is_entry =
+      is_entry short ∙ entry_from_is g v d (flag here (v.x + 1) && flag here (place_after d v.x))
       (flag forced (place_after d v.x)) (number out (place_after d v.x)) can marked next
     where
       marked : (w : Cell) → legal_ahead g v d ≡ Some w
@@ -278,7 +285,7 @@ module _ (g : GridData) (whole : IsGrid g) (h : Heading) (y : ℕ) (above here b
   -- each column rests on the next
   module _ (d : Dir) (is_along_it : is_along d ≡ true) (straight : is_diagonal d ≡ false)
       (forced_is : IsForcedRow g y d forced) (long : length out ≡ g.width + 2)
-      (are_told : (x : ℕ) → x < length out - 2 → IsToldAlong here forced d out x)
+      (are_entries : (x : ℕ) → x < length out - 2 → IsEntryAlong here forced d out x)
       (same : (x : ℕ) → (flag here (x + 1) && flag here (place_after d x))
       ≡ legal_by g.corner above here below d x) where
     column : (x : ℕ) → x < g.width → number out (x + 1) ≡ table_entry g (record { x = x; y = y }) d
@@ -291,7 +298,7 @@ module _ (g : GridData) (whole : IsGrid g) (h : Heading) (y : ℕ) (above here b
         (λ w e. let n = next_along g d is_along_it x y w e in
         ap (λ (k : ℕ). number out k) (place_is d x w.x n.0) ∙ next w.x n.0 n.1
         ∙ ap (λ (v : Cell). table_entry g v d) n.2)
-        (are_told x (omega arith)))
+        (are_entries x (omega arith)))
 
     entries : IsEntryRow g y d out
     entries v row inside =
@@ -299,19 +306,19 @@ module _ (g : GridData) (whole : IsGrid g) (h : Heading) (y : ℕ) (above here b
         column v.x within ∙ ap (λ (n : ℕ). table_entry g (record { x = v.x; y = n }) d) (sym row)
 
   along_by : (d : Dir) → is_along d ≡ true → IsForcedRow g y d forced → length out ≡ g.width + 2
-      → ((x : ℕ) → x < length out - 2 → IsToldAlong here forced d out x) → IsEntryRow g y d out
+      → ((x : ℕ) → x < length out - 2 → IsEntryAlong here forced d out x) → IsEntryRow g y d out
   along_by d i j k l = grind (arith, nat_tests, entries)
 
-  pub along_row : (d : Dir) → is_along d ≡ true → IsForcedRow g y (seen h d) forced
+  pub along_row : (d : Dir) → is_along d ≡ true → IsForcedRow g y (dir_seen h d) forced
       → length out ≡ g.width + 2
-      → ((x : ℕ) → x < length out - 2 → IsToldAlong here forced d out x) → IsEntryRow g y d out
+      → ((x : ℕ) → x < length out - 2 → IsEntryAlong here forced d out x) → IsEntryRow g y d out
   along_row d i j = along_by d i (subst (λ (e : Dir). IsForcedRow g y e forced) (along_seen h d i) j)
 
 -- where a neighbour is forced in a row that may lie off the map
 pub forced_if : (g : GridData) → IsGrid g → (h : Heading) (m : ℕ) (above here below : List Bool)
     → (m < 4096 → AreRowsSeen g h m above here below) → (d : Dir) (corner : Corner) (forced : List Bool)
     → corner ≡ g.corner → length forced ≡ g.width + 2 → AreForced corner above here below d forced
-    → IsForcedRow g m (seen h d) forced
+    → IsForcedRow g m (dir_seen h d) forced
 forced_if g whole h m above here below around d corner forced rule long are v row free =
     forced_row g whole h m above here below
     (around (let inside = free_inside g v free in let low = whole.sides.low in omega (arith, inside.1))) d

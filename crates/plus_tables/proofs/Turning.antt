@@ -1,4 +1,4 @@
--- The allowed directions that are told by tables.
+-- The allowed directions that are read from tables.
 use Rattle.std.proofs.Common.{rules}
 use Rattle.std.proofs.lemmas.Bool.Decides.{nat_tests}
 use Rattle.std.proofs.Common.{◌≡◌, arith, Bool, true, false, not, refl, ap, sym, ◌∙◌}
@@ -10,8 +10,8 @@ use Rattle.grid_moves.specs.declared.Corner.TheVariants.{Never, Both}
 use Rattle.grid_moves.specs.declared.Dir.{Dir}
 use Rattle.grid_moves.specs.Grid.{GridData, is_free}
 use Rattle.grid_moves.specs.Move.{all_dirs, is_dir, is_open, legal_ahead, may_cut, opposite}
-use Rattle.grid_moves.specs.Ring.{ring_told, is_free_on, is_shut, leads_on}
-use Rattle.grid_moves.proofs.Besides.{told_on}
+use Rattle.grid_moves.specs.Ring.{ring_by, is_free_on, is_shut, leads_on}
+use Rattle.grid_moves.proofs.Besides.{free_on_ring_by}
 use Rattle.grid_moves.proofs.Legal.{legal_is, by_cut}
 use Rattle.pruning.specs.declared.Arrival.{Arrival}
 use Rattle.pruning.specs.declared.Arrival.TheVariants.{Start, By}
@@ -29,11 +29,11 @@ use Rattle.pruning.proofs.Moves.{can_move-straight}
 use Rattle.pruning.proofs.Bridging.{place_of, free_place, open_there, leads_there, legal_leads}
 use Rattle.pruning.proofs.Running.{run_walked}
 use Rattle.plus_tables.specs.Tables.{TablesData, AreTablesOf, entry_at, is_on}
-use Rattle.plus_tables.specs.Reading.{is_move, cell_after, asks_behind, free_past, free_told, told_rule}
+use Rattle.plus_tables.specs.Reading.{is_move, cell_after, asks_behind, free_past, free_read, read_rule}
 use Rattle.plus_tables.specs.Reading.{allowed_by, IsBeforeOn}
 use Rattle.plus_tables.proofs.Clear.{is_move-is}
 use Rattle.plus_tables.proofs.Refreshing.{on_map}
-use Rattle.plus_tables.proofs.Told.{free_is_inside}
+use Rattle.plus_tables.proofs.StopRead.{free_is_inside}
 
 -- what is kept hangs on the walls that the rule asks for
 kept_alike : (r : Corner) (p q : Dir → Bool) (d : Dir)
@@ -53,25 +53,25 @@ rear_not_kept : (r : Corner) (blocked : Dir → Bool) (s : Side) (d : Dir)
 rear_not_kept r blocked s d = grind (arith, nat_tests)
 
 -- which cells count as free by the moves to them
-pub told_here : (r : Corner) (entry : Cell → Dir → ℤ) (at : Cell) (by : Arrival) (e : Dir)
-    → asks_behind r by ≡ false → free_told r entry at by e ≡ is_move (entry at e)
-told_here r entry at by e h = grind (arith, nat_tests)
+pub free_read_here : (r : Corner) (entry : Cell → Dir → ℤ) (at : Cell) (by : Arrival) (e : Dir)
+    → asks_behind r by ≡ false → free_read r entry at by e ≡ is_move (entry at e)
+free_read_here r entry at by e h = grind (arith, nat_tests)
 
-pub told_past : (entry : Cell → Dir → ℤ) (at : Cell) (d e : Dir) → is_diagonal d ≡ false
-    → free_told Never entry at (By d) e ≡ free_past entry at d e
-told_past entry at d e h = rw h refl
+pub free_read_past : (entry : Cell → Dir → ℤ) (at : Cell) (d e : Dir) → is_diagonal d ≡ false
+    → free_read Never entry at (By d) e ≡ free_past entry at d e
+free_read_past entry at d e h = rw h refl
 
 by_move : (r : Corner) (entry : Cell → Dir → ℤ) (at : Cell) (d e : Dir)
     → ((s : Side) → is_diagonal d ≡ false → is_dir e (rear s d) ≡ false)
-    → free_told r entry at (By d) e ≡ is_move (entry at e)
+    → free_read r entry at (By d) e ≡ is_move (entry at e)
 by_move r entry at d e off = by_cut r
     (λ u. by_parity d (λ h. rw (u, h) refl) (λ h. rw (u, h, off Right h, off Left h) refl))
     (λ u. rw u refl)
 
 -- what is kept hangs on whether a corner may be cut alone
-told_kept : (r : Corner) (blocked : Dir → Bool) (by : Arrival) (e : Dir)
-    → is_kept (told_rule r) blocked by e ≡ is_kept r blocked by e
-told_kept r blocked by e = grind (arith, nat_tests)
+read_rule_kept : (r : Corner) (blocked : Dir → Bool) (by : Arrival) (e : Dir)
+    → is_kept (read_rule r) blocked by e ≡ is_kept r blocked by e
+read_rule_kept r blocked by e = grind (arith, nat_tests)
 
 -- under `one` all is told as under `both`
 pub allowed_cut : (r : Corner) (entry : Cell → Dir → ℤ) (at : Cell) (by : Arrival) → may_cut r ≡ true
@@ -92,44 +92,44 @@ cell_before g u at d e =
 
 module _ (t : TablesData) (g : GridData) (right : AreTablesOf t g) where
   -- an entry tells whether a move is legal
-  pub legal_told : (c : Cell) (d : Dir) → is_free g c ≡ true → is_move (entry_at t c d) ≡ can_move g c d
-  legal_told c d f = ap (λ (z : ℤ). is_move z) (right.right c d (free_is_inside g c f)) ∙ is_move-is g c d f
+  pub legal_read : (c : Cell) (d : Dir) → is_free g c ≡ true → is_move (entry_at t c d) ≡ can_move g c d
+  legal_read c d f = ap (λ (z : ℤ). is_move z) (right.right c d (free_is_inside g c f)) ∙ is_move-is g c d f
 
   -- and a straight one whether a cell is blocked
-  blocked_told : (c : Cell) (d : Dir) → is_free g c ≡ true → is_diagonal d ≡ false
+  blocked_read : (c : Cell) (d : Dir) → is_free g c ≡ true → is_diagonal d ≡ false
       → not (is_move (entry_at t c d)) ≡ is_blocked g c d
-  blocked_told c d f h = ap (λ (b : Bool). not b) (legal_told c d f ∙ can_move-straight g c d f h)
+  blocked_read c d f h = ap (λ (b : Bool). not b) (legal_read c d f ∙ can_move-straight g c d f h)
 
   -- where they count as free by the moves to them, straight cells are told right
   straight_open : (at : Cell) → is_free g at ≡ true → (free : Dir → Bool)
       → ((e : Dir) → is_diagonal e ≡ false → free e ≡ can_move g at e) → (e : Dir) → is_diagonal e ≡ false
-      → is_free_on (ring_told free) e ≡ is_open g at e
-  straight_open at f free straight e p = told_on free e ∙ straight e p ∙ can_move-straight g at e f p
+      → is_free_on (ring_by free) e ≡ is_open g at e
+  straight_open at f free straight e p = free_on_ring_by free e ∙ straight e p ∙ can_move-straight g at e f p
 
   -- where cells count as free by the moves to them, but for those behind that are not kept, and walls are
   -- told right, what is allowed is told right
   module _ (at : Cell) (f : is_free g at ≡ true) (by : Arrival) (free : Dir → Bool)
       (straight : (e : Dir) → is_diagonal e ≡ false → free e ≡ can_move g at e)
       (moves : (e : Dir) → is_kept g.corner (is_blocked g at) by e ≡ true → free e ≡ can_move g at e)
-      (kept : (e : Dir) → is_kept g.corner (is_shut (ring_told free)) by e
+      (kept : (e : Dir) → is_kept g.corner (is_shut (ring_by free)) by e
       ≡ is_kept g.corner (is_blocked g at) by e) where
     abbrev rule : Corner
-    rule = told_rule g.corner
+    rule = read_rule g.corner
 
-    leads_told : (e : Dir) → free e ≡ can_move g at e → leads_on rule (ring_told free) e ≡ can_move g at e
-    leads_told e k = grind (arith, nat_tests)
+    leads_read : (e : Dir) → free e ≡ can_move g at e → leads_on rule (ring_by free) e ≡ can_move g at e
+    leads_read e k = grind (arith, nat_tests)
 
-    kept_told : (e : Dir) → is_kept rule (is_shut (ring_told free)) by e
+    kept_read : (e : Dir) → is_kept rule (is_shut (ring_by free)) by e
         ≡ is_kept g.corner (is_blocked g at) by e
-    kept_told e = told_kept g.corner (is_shut (ring_told free)) by e ∙ kept e
+    kept_read e = read_rule_kept g.corner (is_shut (ring_by free)) by e ∙ kept e
 
-    each_told : (e : Dir) → is_allowed_on rule (ring_told free) by e ≡ is_allowed g at by e
-    each_told e = by_test (is_kept g.corner (is_blocked g at) by e)
-        (λ h. rw (kept_told e, h, leads_told e (moves e h)) refl)
-        (λ h. rw (kept_told e, h) refl)
+    each_read : (e : Dir) → is_allowed_on rule (ring_by free) by e ≡ is_allowed g at by e
+    each_read e = by_test (is_kept g.corner (is_blocked g at) by e)
+        (λ h. rw (kept_read e, h, leads_read e (moves e h)) refl)
+        (λ h. rw (kept_read e, h) refl)
 
-    all_told : filter (is_allowed_on rule (ring_told free) by) all_dirs ≡ allowed_dirs g at by
-    all_told = filter_agree (is_allowed_on rule (ring_told free) by) (is_allowed g at by) each_told all_dirs
+    all_read : filter (is_allowed_on rule (ring_by free) by) all_dirs ≡ allowed_dirs g at by
+    all_read = filter_agree (is_allowed_on rule (ring_by free) by) (is_allowed g at by) each_read all_dirs
 
   module _ (u at : Cell) (d : Dir) (e : legal_ahead g u d ≡ Some at) where
     source : is_free g u ≡ true
@@ -151,16 +151,16 @@ module _ (t : TablesData) (g : GridData) (right : AreTablesOf t g) where
     -- where no corner is cut, after a straight move
     wall_behind : (s : Side) → is_diagonal d ≡ false
         → not (is_move (entry_at t (cell_after (opposite d) 1 at) (quarter s d))) ≡ is_blocked g at (rear s d)
-    wall_behind s h = grind (arith, nat_tests, cell_before, blocked_told, source, quarter_parity, seen_behind)
+    wall_behind s h = grind (arith, nat_tests, cell_before, blocked_read, source, quarter_parity, seen_behind)
 
     abbrev free : Dir → Bool
-    free = free_told g.corner (entry_at t) at (By d)
+    free = free_read g.corner (entry_at t) at (By d)
 
     straight : (to : Dir) → is_diagonal to ≡ false → free to ≡ can_move g at to
-    straight to p = search (rules, by_move, legal_told, target, by_test, rear_parity, same_dir)
+    straight to p = search (rules, by_move, legal_read, target, by_test, rear_parity, same_dir)
 
     moves : (to : Dir) → is_kept g.corner (is_blocked g at) (By d) to ≡ true → free to ≡ can_move g at to
-    moves to k = by_move g.corner (entry_at t) at d to (λ s h. not_behind s) ∙ legal_told at to target
+    moves to k = by_move g.corner (entry_at t) at d to (λ s h. not_behind s) ∙ legal_read at to target
       where
         not_behind : (s : Side) → is_dir to (rear s d) ≡ false
         not_behind s = by_test (is_dir to (rear s d))
@@ -170,19 +170,19 @@ module _ (t : TablesData) (g : GridData) (right : AreTablesOf t g) where
             ∙ k in cc))
             (λ b. b)
 
-    behind_told : (s : Side) → may_cut g.corner ≡ false → is_diagonal d ≡ false
+    behind_read : (s : Side) → may_cut g.corner ≡ false → is_diagonal d ≡ false
         → free (rear s d) ≡ is_move (entry_at t (cell_after (opposite d) 1 at) (quarter s d))
-    behind_told s h i = grind (arith, nat_tests)
+    behind_read s h i = grind (arith, nat_tests)
 
-    kept : (to : Dir) → is_kept g.corner (is_shut (ring_told free)) (By d) to
+    kept : (to : Dir) → is_kept g.corner (is_shut (ring_by free)) (By d) to
         ≡ is_kept g.corner (is_blocked g at) (By d) to
-    kept = kept_alike g.corner (is_shut (ring_told free)) (is_blocked g at) d
-        (λ s r h. ap not (told_on free (rear s d) ∙ behind_told s r h) ∙ wall_behind s h)
+    kept = kept_alike g.corner (is_shut (ring_by free)) (is_blocked g at) d
+        (λ s r h. ap not (free_on_ring_by free (rear s d) ∙ behind_read s r h) ∙ wall_behind s h)
         (λ s h. ap not (straight_open at target free straight (rear s d) (rear_parity s ∙ ap not h)))
         (λ s h. ap not (straight_open at target free straight (quarter s d) (quarter_parity s d ∙ h)))
 
     pub arrived : allowed_by g.corner (entry_at t) at (By d) ≡ allowed_dirs g at (By d)
-    arrived = all_told at target (By d) free straight moves kept
+    arrived = all_read at target (By d) free straight moves kept
 
     -- the cell before lies on the map
     pub before_on : is_on t (cell_after (opposite d) 1 at) ≡ true
@@ -190,7 +190,7 @@ module _ (t : TablesData) (g : GridData) (right : AreTablesOf t g) where
 
   started : (at : Cell) → is_free g at ≡ true
       → allowed_by g.corner (entry_at t) at Start ≡ allowed_dirs g at Start
-  started at f = search (rules, all_told, legal_told)
+  started at f = search (rules, all_read, legal_read)
 
   -- by any arrival
   pub allowed_by_tables : (at : Cell) (by : Arrival) → is_free g at ≡ true → CanArrive g at by

@@ -4,7 +4,7 @@ use Rattle.grid_moves.specs.declared.Corner.{Corner}
 use Rattle.grid_moves.specs.declared.Dir.{Dir}
 use Rattle.plus_tables.specs.declared.rows.Three.{Three}
 use Rattle.plus_tables.specs.declared.rows.Ahead.{Ahead}
-use Rattle.plus_tables.specs.Rows.{AreToldBelow, IsToldAlong}
+use Rattle.plus_tables.specs.Rows.{AreEntriesBelow, IsEntryAlong}
 
 -- a row of n places has one before the first column of a map and one after the last
 pub record HasBorder (n : ℕ) : Type 0 where
@@ -30,11 +30,12 @@ pub record FitAlong (n : ℕ) (here forced : List Bool) : Type 0 where
   pub here_is : length here ≡ n
   pub forced_is : length forced ≡ n
 
--- the entries of all columns are told by those of the next row
-abbrev pub AreToldAcross : Corner → Three → List Bool → Ahead → Dir → List ℤ → Type 0
-AreToldAcross corner rows forced next d out = AreToldBelow corner rows.ahead.now rows.here.now rows.behind.now
+-- the entries of all columns are made from those of the next row
+abbrev pub AreEntriesAcross : Corner → Three → List Bool → Ahead → Dir → List ℤ → Type 0
+AreEntriesAcross corner rows forced next d out =
+    AreEntriesBelow corner rows.ahead.now rows.here.now rows.behind.now
     forced next.ahead.now next.right.now next.left.now d out (length out - 2)
 
 -- or by those of the next column
-abbrev pub AreToldAlong : List Bool → List Bool → Dir → List ℤ → Type 0
-AreToldAlong here forced d out = (x : ℕ) → x < length out - 2 → IsToldAlong here forced d out x
+abbrev pub AreEntriesAlong : List Bool → List Bool → Dir → List ℤ → Type 0
+AreEntriesAlong here forced d out = (x : ℕ) → x < length out - 2 → IsEntryAlong here forced d out x

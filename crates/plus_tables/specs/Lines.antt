@@ -7,7 +7,7 @@ use Rattle.plus_tables.specs.declared.lines.Line.{Line}
 use Rattle.plus_tables.specs.declared.lines.Band.{Band}
 use Rattle.plus_tables.specs.declared.lines.Rows.{Rows}
 use Rattle.plus_tables.specs.declared.heading.Heading.{Heading}
-use Rattle.plus_tables.specs.Rows.{AreSame, IsFlagRow, IsEntryRow, IsRowAt, seen, AreRowsSeen}
+use Rattle.plus_tables.specs.Rows.{AreSame, IsFlagRow, IsEntryRow, IsRowAt, dir_seen, AreRowsSeen}
 
 -- each of the five rows has one entry for each column, one before and one after
 pub record IsLong (g : GridData) (line : Line) : Type 0 where
@@ -19,9 +19,9 @@ pub record IsLong (g : GridData) (line : Line) : Type 0 where
 
 -- these are the entries of a row for the directions that lead ahead
 pub record AreAhead (g : GridData) (h : Heading) (y : ℕ) (line : Line) : Type 0 where
-  pub ahead : IsEntryRow g y (seen h N) line.ahead.items
-  pub ahead_east : IsEntryRow g y (seen h NE) line.ahead_east.items
-  pub ahead_west : IsEntryRow g y (seen h NW) line.ahead_west.items
+  pub ahead : IsEntryRow g y (dir_seen h N) line.ahead.items
+  pub ahead_east : IsEntryRow g y (dir_seen h NE) line.ahead_east.items
+  pub ahead_west : IsEntryRow g y (dir_seen h NW) line.ahead_west.items
 
 -- and for those along the row
 pub record AreAlong (g : GridData) (y : ℕ) (line : Line) : Type 0 where
@@ -33,7 +33,7 @@ pub record IsBand (g : GridData) (h : Heading) (y : ℕ) (band : Band) : Type 0 
   pub ahead : ℕ
   pub far_row : ℕ
   pub back_row : ℕ
-  pub ahead_is : IsRowAt (row_ahead (seen h N) y) ahead
+  pub ahead_is : IsRowAt (row_ahead (dir_seen h N) y) ahead
   pub far_is : IsFlagRow g far_row band.far.items
   pub next_is : IsFlagRow g ahead band.next.items
   pub here_is : IsFlagRow g y band.here.items
@@ -50,7 +50,7 @@ pub record AreAlike (band : Band) : Type 0 where
 pub record IsReady (g : GridData) (h : Heading) (y : ℕ) (band : Band) (line : Line) : Type 0 where
   pub rows : IsBand g h y band
   pub long : IsLong g line
-  pub told : AreAhead g h rows.ahead line
+  pub ahead_right : AreAhead g h rows.ahead line
   pub along : AreAlong g rows.ahead line
 
 -- all that is kept before row y is swept

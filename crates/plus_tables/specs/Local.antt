@@ -25,17 +25,17 @@ from_before (pos zero) = negsuc 0
 from_before (pos (suc k)) = pos (suc (suc k))
 from_before (negsuc n) = negsuc (suc n)
 
--- v is marked for d, told by the entries at v: a neighbour is forced there, or d is diagonal and the entry of
+-- v is marked for d, by the entries at v: a neighbour is forced there, or d is diagonal and the entry of
 -- a component tells of a mark
 abbrev pub is_mark_by : GridData → (Cell → Dir → ℤ) → Dir → Cell → Bool
 is_mark_by g entry d v = is_forced g v d
     || (is_diagonal d && (tells_mark (entry v (turn Right d)) || tells_mark (entry v (turn Left d))))
 
--- the entry in d of a cell from which a legal move in d leads to v, told by the entries at v
+-- the entry in d of a cell from which a legal move in d leads to v, made from the entries at v
 abbrev pub entry_through : GridData → (Cell → Dir → ℤ) → Dir → Cell → ℤ
 entry_through g entry d v = if is_mark_by g entry d v then pos 1 else from_before (entry v d)
 
--- the entry in d of a cell, told by the entries at the next cell; 0 where no move leads there
+-- the entry in d of a cell, made from the entries at the next cell; 0 where no move leads there
 abbrev pub entry_by_next : GridData → (Cell → Dir → ℤ) → Cell → Dir → ℤ
 entry_by_next g entry c d = unwrap_or (option_map (λ v. entry_through g entry d v) (legal_ahead g c d))
     (pos 0)

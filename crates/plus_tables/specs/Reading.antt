@@ -7,14 +7,14 @@ use Rattle.grid_moves.specs.declared.Corner.TheVariants.{Never, Both}
 use Rattle.grid_moves.specs.declared.Dir.{Dir}
 use Rattle.grid_moves.specs.declared.Dir.TheVariants.{N, NE, E, SE, S, SW, W, NW}
 use Rattle.grid_moves.specs.Move.{is_dir, opposite, all_dirs, may_cut}
-use Rattle.grid_moves.specs.Ring.{ring_told}
+use Rattle.grid_moves.specs.Ring.{ring_by}
 use Rattle.pruning.specs.declared.Arrival.{Arrival}
 use Rattle.pruning.specs.declared.Arrival.TheVariants.{Start, By}
 use Rattle.pruning.specs.declared.turns.Side.TheVariants.{Right, Left}
 use Rattle.pruning.specs.Turns.{quarter, rear, is_diagonal}
 use Rattle.pruning.specs.Ring.{is_allowed_on}
 use Rattle.jump_plain.specs.Reach.{moves_to}
-use Rattle.plus_tables.specs.declared.turns.Seen.{Seen}
+use Rattle.plus_tables.specs.declared.turns.Sight.{Sight}
 use Rattle.plus_tables.specs.Tables.{TablesData, is_on}
 
 -- the mark that an entry tells of
@@ -103,8 +103,8 @@ sees_goal entry d v columns rows =
     else if nat_lt rows columns then is_clear (entry v (row_part d)) (columns - rows)
     else is_clear (entry v (column_part d)) (rows - columns)
 
--- the stop of a jump, told the entry at its cell, and after how many moves, and whether, it comes to the goal
--- or sees it
+-- the stop of a jump, given the entry at its cell, and after how many moves, and whether, it comes to the
+-- goal or sees it
 abbrev pub stop_by : ℤ → ℕ → Bool → Option ℕ
 stop_by entry near sees = if nat_lt 0 near && is_clear entry near && sees then Some near else mark_of entry
 
@@ -118,8 +118,8 @@ diagonal_by entry u d goal = stop_by (entry u d) (near_to d u goal)
     (sees_goal entry d (cell_after d (near_to d u goal) u) (columns_to d u.x goal.x) (rows_to d u.y goal.y))
 
 -- the stop of a jump
-abbrev pub stop_told : (Cell → Dir → ℤ) → Cell → Dir → Cell → Option ℕ
-stop_told entry u d goal =
+abbrev pub stop_read : (Cell → Dir → ℤ) → Cell → Dir → Cell → Option ℕ
+stop_read entry u d goal =
     if is_diagonal d then diagonal_by entry u d goal else stop_by (entry u d) (moves_to d u goal) true
 
 -- on which side of a number another one lies: 0 where it is less, 1 where they are the same, 2 where it is
@@ -145,7 +145,7 @@ is_aimed u d goal = nat_eq (sides_ahead d) (side_of u.y goal.y * 3 + side_of u.x
 -- Which cells around count as free for the rule: those to which a move is legal, as entries tell. Where no
 -- corner is cut, the walls that count after a straight move stand behind: beside the cell before, whose
 -- entries tell.
-abbrev pub seen_past : Cell → Dir → Dir → Seen
+abbrev pub seen_past : Cell → Dir → Dir → Sight
 seen_past at d e =
     if is_dir e (rear Right d) then record { from = cell_after (opposite d) 1 at; dir = quarter Right d }
     else if is_dir e (rear Left d) then record { from = cell_after (opposite d) 1 at; dir = quarter Left d }
@@ -159,20 +159,20 @@ abbrev pub asks_behind : Corner → Arrival → Bool
 asks_behind corner Start = false
 asks_behind corner (By d) = not (may_cut corner) && not (is_diagonal d)
 
-abbrev pub free_told : Corner → (Cell → Dir → ℤ) → Cell → Arrival → Dir → Bool
-free_told corner entry at Start e = is_move (entry at e)
-free_told corner entry at (By d) e =
+abbrev pub free_read : Corner → (Cell → Dir → ℤ) → Cell → Arrival → Dir → Bool
+free_read corner entry at Start e = is_move (entry at e)
+free_read corner entry at (By d) e =
     if asks_behind corner (By d) then free_past entry at d e else is_move (entry at e)
 
 -- A move that entries tell of is legal. So where a corner may be cut nothing more is asked of the cells
 -- beside it, and what is allowed is told as under the rule that asks nothing of them.
-abbrev pub told_rule : Corner → Corner
-told_rule corner = if may_cut corner then Both else Never
+abbrev pub read_rule : Corner → Corner
+read_rule corner = if may_cut corner then Both else Never
 
 -- the allowed directions, by entries
 abbrev pub allowed_by : Corner → (Cell → Dir → ℤ) → Cell → Arrival → List Dir
 allowed_by corner entry at by =
-    filter (is_allowed_on (told_rule corner) (ring_told (free_told corner entry at by)) by) all_dirs
+    filter (is_allowed_on (read_rule corner) (ring_by (free_read corner entry at by)) by) all_dirs
 
 -- a cell from which a straight move leads here is on the map
 abbrev pub IsBeforeOn : TablesData → Cell → Arrival → Type 0

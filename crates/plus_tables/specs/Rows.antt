@@ -51,9 +51,9 @@ place_after SW x = x
 place_after W x = x
 place_after NW x = x
 
--- the entry of a cell, told whether the move is legal, whether the next cell is marked, and its entry
-abbrev pub told : Bool → Bool → ℤ → ℤ
-told legal mark next = if legal then (if mark then pos 1 else from_before next) else pos 0
+-- the entry of a cell, given whether the move is legal, whether the next cell is marked, and its entry
+abbrev pub entry_from : Bool → Bool → ℤ → ℤ
+entry_from legal mark next = if legal then (if mark then pos 1 else from_before next) else pos 0
 
 -- the move from column x is legal
 abbrev pub legal_by : Corner → List Bool → List Bool → List Bool → Dir → ℕ → Bool
@@ -88,21 +88,22 @@ pub record AreShort (ahead right left : ℤ) : Type 0 where
   pub right_is : IsShort right
   pub left_is : IsShort left
 
--- the entry of one column is told by the rows of flags around it and by what is known of the next row: where
--- a neighbour is forced, and the entries for d and for the directions beside it
+-- the entry of one column is made from the rows of flags around it and by what is known of the next row:
+-- where a neighbour is forced, and the entries for d and for the directions beside it
 abbrev pub IsToldAs : Corner → List Bool → List Bool → List Bool → List Bool → List ℤ → List ℤ → List ℤ → Dir
     → ℕ → ℤ → Type 0
 IsToldAs corner above here below forced ahead right left d x entry =
     (legal_by corner above here below d x ≡ true → AreShort (number ahead (place_after d x))
     (number right (place_after d x)) (number left (place_after d x)))
-    → entry ≡ told (legal_by corner above here below d x) (mark_by forced right left d (place_after d x))
+    → entry ≡ entry_from (legal_by corner above here below d x)
+    (mark_by forced right left d (place_after d x))
     (number ahead (place_after d x))
 
 -- and so are those of so many columns
-abbrev pub AreToldBelow : Corner → List Bool → List Bool → List Bool → List Bool → List ℤ → List ℤ
+abbrev pub AreEntriesBelow : Corner → List Bool → List Bool → List Bool → List Bool → List ℤ → List ℤ
     → List ℤ → Dir
     → List ℤ → ℕ → Type 0
-AreToldBelow corner above here below forced ahead right left d out n =
+AreEntriesBelow corner above here below forced ahead right left d out n =
     (x : ℕ) → x < n → IsToldAs corner above here below forced ahead right left d x (number out (x + 1))
 
 -- the direction leads along a row
@@ -116,12 +117,12 @@ is_along SW = false
 is_along W = true
 is_along NW = false
 
--- the entry of one column for E or W is told by the cells of its row, the places where a neighbour is forced,
--- and the entry of the next column
-abbrev pub IsToldAlong : List Bool → List Bool → Dir → List ℤ → ℕ → Type 0
-IsToldAlong here forced d out x =
+-- the entry of one column for E or W is made from the cells of its row, the places where a neighbour is
+-- forced, and the entry of the next column
+abbrev pub IsEntryAlong : List Bool → List Bool → Dir → List ℤ → ℕ → Type 0
+IsEntryAlong here forced d out x =
     ((flag here (x + 1) && flag here (place_after d x)) ≡ true → IsShort (number out (place_after d x)))
-    → number out (x + 1) ≡ told (flag here (x + 1) && flag here (place_after d x))
+    → number out (x + 1) ≡ entry_from (flag here (x + 1) && flag here (place_after d x))
     (flag forced (place_after d x))
     (number out (place_after d x))
 
@@ -142,16 +143,16 @@ flipped W = W
 flipped NW = SW
 
 -- a sweep that heads down sees the map upside down: what it takes for N is S
-abbrev pub seen : Heading → Dir → Dir
-seen Upwards d = d
-seen Downwards d = flipped d
+abbrev pub dir_seen : Heading → Dir → Dir
+dir_seen Upwards d = d
+dir_seen Downwards d = flipped d
 
 -- the flags of a row, of the one ahead of it and of the one behind it
 pub record AreRowsSeen (g : GridData) (h : Heading) (y : ℕ) (ahead here behind : List Bool) : Type 0 where
   pub front : ℕ
   pub rear : ℕ
-  pub front_is : IsRowAt (row_ahead (seen h N) y) front
-  pub rear_is : IsRowAt (row_ahead (seen h S) y) rear
+  pub front_is : IsRowAt (row_ahead (dir_seen h N) y) front
+  pub rear_is : IsRowAt (row_ahead (dir_seen h S) y) rear
   pub ahead_is : IsFlagRow g front ahead
   pub here_is : IsFlagRow g y here
   pub behind_is : IsFlagRow g rear behind

@@ -1,6 +1,6 @@
 //! Building the tables of a grid, by sweeps from the far end.
 //!
-//! Each entry is told by those at the next cell, so a direction is swept from where its runs end: the five
+//! Each entry is made from those at the next cell, so a direction is swept from where its runs end: the five
 //! directions that lead up or along a row go row by row downwards, the three others upwards after them. A
 //! diagonal entry looks at both its components at the next cell, so a sweep keeps the entries of the row
 //! before, and for the second sweep those along a row are read back. Where rows repeat, as on open ground, so

@@ -17,8 +17,8 @@ pub enum Heading {
 
 /// What a direction is on the map. A sweep that heads down sees the map upside down.
 #[inline(always)]
-pub fn seen(heading: Heading, d: Dir) -> Dir
-    ensures { result ≡ spec.seen heading d }
+pub fn dir_seen(heading: Heading, d: Dir) -> Dir
+    ensures { result ≡ spec.dir_seen heading d }
 {
     match heading {
         Heading::Upwards => d,
@@ -56,7 +56,7 @@ pub fn nth_row(heading: Heading, height: u16, n: u16) -> u16
 /// The row behind this one, which is swept next, if it lies on the map.
 pub fn behind(heading: Heading, y: u16) -> u16
     requires { y < 4096 }
-    ensures lies { IsRowAt (row_ahead (spec.seen heading Dir.S) y) result }
+    ensures lies { IsRowAt (row_ahead (spec.dir_seen heading Dir.S) y) result }
     ensures next { (n : ℕ) → sweeps.IsNext heading y n → result ≡ n }
 {
     match heading {
@@ -68,7 +68,7 @@ pub fn behind(heading: Heading, y: u16) -> u16
 /// Whether the row ahead of this one, which was swept last, lies on the map.
 pub fn has_ahead(heading: Heading, y: u16, height: u16) -> bool
     requires { y < height }
-    ensures { result ≡ true → (m : ℕ) → IsRowAt (row_ahead (spec.seen heading Dir.N) y) m → m < height }
+    ensures { result ≡ true → (m : ℕ) → IsRowAt (row_ahead (spec.dir_seen heading Dir.N) y) m → m < height }
 {
     match heading {
         Heading::Upwards => 0 < y,

@@ -165,7 +165,7 @@ fn stop_where(goal: bool, near: u16, entry: i16) -> Option<u16>
     if goal { Some(near) } else { mark_of(entry) }
 }
 
-// After how many moves a straight jump stops, told its entry.
+// After how many moves a straight jump stops, given its entry.
 #[inline(always)]
 fn straight_stop(at: Cell, d: Dir, goal: Cell, entry: i16) -> Option<u16>
     ensures is { result ≡ spec.stop_by entry (reach.moves_to d at goal) true }
@@ -199,7 +199,7 @@ fn sees_goal<L: Ledger>(
     }
 }
 
-// After how many moves a diagonal jump stops, told its entry. At most one step.
+// After how many moves a diagonal jump stops, given its entry. At most one step.
 #[inline(always)]
 fn diagonal_stop<L: Ledger>(
     tables: &Tables,
@@ -225,7 +225,7 @@ fn diagonal_stop<L: Ledger>(
     stop_where(sees, near, entry)
 }
 
-// After how many moves a jump stops, told its entry, where the goal may lie on its way: of the directions
+// After how many moves a jump stops, given its entry, where the goal may lie on its way: of the directions
 // from a cell one at most asks for it, so it stays out of line. Each direction has code of its own, in which
 // it is a constant.
 #[inline(never)]
@@ -240,7 +240,7 @@ fn stop_aimed<L: Ledger>(
     requires at { is_on tables.now at ≡ true }
     requires goal { is_on tables.now goal ≡ true }
     requires entry { entry ≡ entry_at tables.now at d }
-    ensures is { result ≡ spec.stop_told (entry_at tables.now) at d goal }
+    ensures is { result ≡ spec.stop_read (entry_at tables.now) at d goal }
     ensures straight { turns.is_diagonal d ≡ false → steps.new ≡ steps.old }
     ensures most { steps.new ≤ steps.old + 1 }
     ensures fewest { steps.old ≤ steps.new }
@@ -260,7 +260,7 @@ fn stop_aimed<L: Ledger>(
 /// After how many moves a jump stops. One step, or two by a diagonal. Where the direction does not lead to where the goal
 /// lies, the entry alone tells it.
 #[inline(always)]
-pub fn stop_told<L: Ledger>(
+pub fn stop_read<L: Ledger>(
     tables: &Tables,
     at: Cell,
     d: Dir,
@@ -269,7 +269,7 @@ pub fn stop_told<L: Ledger>(
 ) -> Option<u16>
     requires at { is_on tables.now at ≡ true }
     requires goal { is_on tables.now goal ≡ true }
-    ensures is { result ≡ spec.stop_told (entry_at tables.now) at d goal }
+    ensures is { result ≡ spec.stop_read (entry_at tables.now) at d goal }
     ensures straight { turns.is_diagonal d ≡ false → steps.new ≡ steps.old + 1 }
     ensures most { steps.new ≤ steps.old + 2 }
     ensures fewest { steps.old + 1 ≤ steps.new }

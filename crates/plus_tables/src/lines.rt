@@ -10,7 +10,7 @@ ghost use Rattle.plus_tables.specs.Sweep as sweeps;
 ghost use Rattle.plus_tables.specs.Laid as laid;
 
 use crate::flags::{are_same, force, read_row};
-use crate::heading::{Heading, has_ahead, seen};
+use crate::heading::{Heading, dir_seen, has_ahead};
 use crate::rows::{Ahead, Three, across, along};
 use grid_moves::{Dir, NoMemory, Terrain, dir_number};
 use pruning::{Side, turn};
@@ -152,9 +152,9 @@ fn put_ahead(heading: Heading, row: &mut [i16], x: usize, n: i16, ne: i16, nw: i
     ensures is { row.new ≡ laid.with_ahead heading row.old x n ne nw }
     ensures long { length row.new ≡ length row.old }
 {
-    put(row, x, seen(heading, Dir::N), n);
-    put(row, x, seen(heading, Dir::NE), ne);
-    put(row, x, seen(heading, Dir::NW), nw);
+    put(row, x, dir_seen(heading, Dir::N), n);
+    put(row, x, dir_seen(heading, Dir::NE), ne);
+    put(row, x, dir_seen(heading, Dir::NW), nw);
 }
 
 // Changes those for all directions of a sweep.
@@ -244,8 +244,8 @@ impl Rows {
     }
 }
 
-// The entries of a row for one direction that leads ahead, told by those of the row that was swept last: the
-// entries for that direction and for those beside it.
+// The entries of a row for one direction that leads ahead, made from those of the row that was swept last:
+// the entries for that direction and for those beside it.
 #[inline(always)]
 #[tactic(auto, using(crate::proofs::Fitting::long_as))]
 fn tell_ahead<T: Terrain>(
@@ -264,7 +264,7 @@ fn tell_ahead<T: Terrain>(
     requires out { length out.old ≡ (T.grid t.now).width + 2 }
     ensures { (h : Heading) (y : ℕ) → lines.IsReady (T.grid t.now) h y band.now last.now
         → spec.AreRowsSeen (T.grid t.now) h y band.now.next.items band.now.here.items band.now.back.items
-        → spec.IsEntryRow (T.grid t.now) y (spec.seen h d) out.new }
+        → spec.IsEntryRow (T.grid t.now) y (spec.dir_seen h d) out.new }
 {
     let corner = t.corner();
     force(corner, &band.far, &band.next, &band.here, d, forced);
@@ -355,7 +355,7 @@ pub fn bring_along<T: Terrain>(
     }
 }
 
-/// The entries of a row for all directions that lead ahead, told by those of the row that was swept last.
+/// The entries of a row for all directions that lead ahead, made from those of the row that was swept last.
 ///
 /// A sweep that heads down sees the map upside down: what is ahead of it counts as above, and its E and W
 /// stay. No move and no forced neighbour is another one so.
@@ -367,7 +367,7 @@ pub fn tell<T: Terrain>(t: &T, band: &Band, last: &Line, forced: &mut [bool], th
         × spec.AreRowsSeen (T.grid t.now) h y band.now.next.items band.now.here.items band.now.back.items }
     requires forced { length forced.old ≡ (T.grid t.now).width + 2 }
     requires long { lines.IsLong (T.grid t.now) this.old }
-    ensures told { (h : Heading) (y : ℕ) → lines.IsReady (T.grid t.now) h y band.now last.now
+    ensures ahead_right { (h : Heading) (y : ℕ) → lines.IsReady (T.grid t.now) h y band.now last.now
         → spec.AreRowsSeen (T.grid t.now) h y band.now.next.items band.now.here.items band.now.back.items
         → lines.AreAhead (T.grid t.now) h y this.new }
     ensures long { lines.IsLong (T.grid t.now) this.new }

@@ -1,4 +1,4 @@
-//! Rows of entries, each told by those at the next cells: in another row, or further on in this one.
+//! Rows of entries, each made from those at the next cells: in another row, or further on in this one.
 //!
 //! What belongs to column `x` stands at `x + 1`, as in rows of flags. Across rows no entry rests on another
 //! of its row: these loops have no branch, and each direction has code of its own, which the compiler turns
@@ -27,10 +27,10 @@ pub fn from_before(entry: i16) -> i16
     }
 }
 
-// The entry of a cell, told whether the move is legal, whether the next cell is marked, and its entry.
+// The entry of a cell, given whether the move is legal, whether the next cell is marked, and its entry.
 #[inline(always)]
-fn told(legal: bool, mark: bool, next: i16) -> i16
-    ensures { (legal ≡ true → IsShort next) → result ≡ spec.told legal mark next }
+fn entry_from(legal: bool, mark: bool, next: i16) -> i16
+    ensures { (legal ≡ true → IsShort next) → result ≡ spec.entry_from legal mark next }
 {
     let further = from_before(next);
     let entry = if mark { 1 } else { further };
@@ -67,11 +67,11 @@ pub struct Ahead<'a> {
     pub left: &'a [i16],
 }
 
-// The entries of a row, told by those of the next.
+// The entries of a row, made from those of the next.
 #[inline(always)]
 fn across_by(corner: Corner, rows: Three, forced: &[bool], next: Ahead, d: Dir, out: &mut [i16])
     requires { fit.FitAcross (length out.old) rows forced.now next }
-    ensures { fit.AreToldAcross corner rows.entry forced.now next.entry d out.new }
+    ensures { fit.AreEntriesAcross corner rows.entry forced.now next.entry d out.new }
 {
     for x in 0..out.len() - 2 {
         let ring = ring_at(rows.ahead, rows.here, rows.behind, x);
@@ -79,15 +79,15 @@ fn across_by(corner: Corner, rows: Three, forced: &[bool], next: Ahead, d: Dir, 
         let at = place_after(d, x);
         let aside = tells_mark(next.right[at]) | tells_mark(next.left[at]);
         let mark = forced[at] | (is_diagonal(d) & aside);
-        out[x + 1] = told(legal, mark, next.ahead[at]);
+        out[x + 1] = entry_from(legal, mark, next.ahead[at]);
     }
 }
 
 // The same; each direction that leads ahead has code of its own, in which it is a constant.
 #[inline(always)]
-fn across_told(corner: Corner, rows: Three, forced: &[bool], next: Ahead, d: Dir, out: &mut [i16])
+fn across_split(corner: Corner, rows: Three, forced: &[bool], next: Ahead, d: Dir, out: &mut [i16])
     requires { fit.FitAcross (length out.old) rows forced.now next }
-    ensures { fit.AreToldAcross corner rows.entry forced.now next.entry d out.new }
+    ensures { fit.AreEntriesAcross corner rows.entry forced.now next.entry d out.new }
 {
     match d {
         Dir::N => across_by(corner, rows, forced, next, Dir::N, out),
@@ -97,36 +97,36 @@ fn across_told(corner: Corner, rows: Three, forced: &[bool], next: Ahead, d: Dir
     }
 }
 
-/// The entries of a row for a direction that leads ahead, told by those of the next row.
+/// The entries of a row for a direction that leads ahead, made from those of the next row.
 #[inline(never)]
 pub fn across(corner: Corner, rows: Three, forced: &[bool], next: Ahead, d: Dir, out: &mut [i16])
     requires { fit.FitAcross (length out.old) rows forced.now next }
-    ensures { fit.AreToldAcross corner rows.entry forced.now next.entry d out.new }
+    ensures { fit.AreEntriesAcross corner rows.entry forced.now next.entry d out.new }
 {
     match corner {
-        Corner::Never => across_told(Corner::Never, rows, forced, next, d, out),
-        Corner::One => across_told(Corner::One, rows, forced, next, d, out),
-        Corner::Both => across_told(Corner::Both, rows, forced, next, d, out),
+        Corner::Never => across_split(Corner::Never, rows, forced, next, d, out),
+        Corner::One => across_split(Corner::One, rows, forced, next, d, out),
+        Corner::Both => across_split(Corner::Both, rows, forced, next, d, out),
     }
 }
 
-// The entries of a row for E, told from its right end.
+// The entries of a row for E, made from its right end.
 fn east(here: &[bool], forced: &[bool], out: &mut [i16])
     requires { fit.FitAlong (length out.old) here.now forced.now }
-    ensures { fit.AreToldAlong here.now forced.now Dir.E out.new }
+    ensures { fit.AreEntriesAlong here.now forced.now Dir.E out.new }
 {
     for x in (0..out.len() - 2).rev() {
-        out[x + 1] = told(here[x + 1] & here[x + 2], forced[x + 2], out[x + 2]);
+        out[x + 1] = entry_from(here[x + 1] & here[x + 2], forced[x + 2], out[x + 2]);
     }
 }
 
-// The entries of a row for W, told from its left end.
+// The entries of a row for W, made from its left end.
 fn west(here: &[bool], forced: &[bool], out: &mut [i16])
     requires { fit.FitAlong (length out.old) here.now forced.now }
-    ensures { fit.AreToldAlong here.now forced.now Dir.W out.new }
+    ensures { fit.AreEntriesAlong here.now forced.now Dir.W out.new }
 {
     for x in 0..out.len() - 2 {
-        out[x + 1] = told(here[x + 1] & here[x], forced[x], out[x]);
+        out[x + 1] = entry_from(here[x + 1] & here[x], forced[x], out[x]);
     }
 }
 
@@ -135,7 +135,7 @@ fn west(here: &[bool], forced: &[bool], out: &mut [i16])
 pub fn along(here: &[bool], forced: &[bool], d: Dir, out: &mut [i16])
     requires along { spec.is_along d ≡ true }
     requires fits { fit.FitAlong (length out.old) here.now forced.now }
-    ensures { fit.AreToldAlong here.now forced.now d out.new }
+    ensures { fit.AreEntriesAlong here.now forced.now d out.new }
 {
     match d {
         Dir::E => east(here, forced, out),

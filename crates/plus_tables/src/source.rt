@@ -7,9 +7,9 @@ ghost use Rattle.pruning.specs.Stop.{IsFirstStop};
 ghost use Rattle.pruning.specs.Turns.{is_diagonal};
 ghost use Rattle.plus_tables.specs.Tables.{AreTablesOf};
 
-use crate::jumps::stop_told;
+use crate::jumps::stop_read;
 use crate::tables::Tables;
-use crate::turns::allowed_told;
+use crate::turns::allowed_read;
 use grid_moves::{Cell, Dir};
 use pruning::{Arrival, JumpSource, Packed};
 use std::sync::ledger::Ledger;
@@ -47,13 +47,13 @@ impl<'a> JumpSource for PlusJumps<'a> {
         ensures straight { is_diagonal d ≡ false → steps.new ≡ steps.old + 1 }
         ensures fewest { steps.old + 1 ≤ steps.new }
     {
-        stop_told(self.tables, at, d, goal, steps)
+        stop_read(self.tables, at, d, goal, steps)
     }
 
     // (asked in the search by either rule of states, so the compiler would not put it in by itself)
     #[inline(always)]
     #[tactic(auto, using(crate::proofs::Turning::allowed_by_tables, crate::proofs::Turning::before_on_map))]
     fn allowed_word<L: Ledger>(&self, at: Cell, by: Arrival, steps: &mut Steps<L>) -> Packed {
-        allowed_told(self.tables, at, by, steps)
+        allowed_read(self.tables, at, by, steps)
     }
 }

@@ -126,7 +126,7 @@ impl Tables {
         })
     }
 
-    // The tables of a grid, told their entries.
+    // The tables of a grid, given their entries.
     pub(crate) fn of_entries<T: Terrain>(t: &T, entries: Vec<i16>) -> Tables
         requires whole { IsGrid (T.grid t.now) }
         requires swept { AreSwept (T.grid t.now) Heading.Downwards (T.grid t.now).height entries.items }
@@ -160,7 +160,7 @@ impl Tables {
         self.entries[place] = entry;
     }
 
-    // Whether the next cell is marked for a direction, told by its entries.
+    // Whether the next cell is marked for a direction, by its entries.
     #[inline(always)]
     fn is_mark<T: Terrain>(&self, t: &T, at: Cell, v: Cell, d: Dir) -> bool
         requires legal { legal_ahead (T.grid t.now) at d ≡ Some v }
@@ -174,10 +174,10 @@ impl Tables {
                     || tells_mark(self.get(v, turn(Side::Left, d)))))
     }
 
-    // The entry of the grid for a cell and a direction, told by the entries at the next cell.
+    // The entry of the grid for a cell and a direction, made from the entries at the next cell.
     #[inline(always)]
     #[tactic(auto, using(crate::proofs::Refreshing::on_map, crate::proofs::Refreshing::next_free))]
-    fn told_by_next<T: Terrain>(&self, t: &T, c: Cell, d: Dir) -> i16
+    fn entry_by_next<T: Terrain>(&self, t: &T, c: Cell, d: Dir) -> i16
         requires whole { IsGrid (T.grid t.now) }
         requires sized { AreSized self.now (T.grid t.now) }
         requires rests { RestsRight self.now (T.grid t.now) c d }
@@ -193,21 +193,21 @@ impl Tables {
     // The same; each direction has code of its own, in which it is a constant.
     #[inline(always)]
     #[tactic(auto, using(crate::proofs::Short::entry_stored))]
-    fn told<T: Terrain>(&self, t: &T, c: Cell, d: Dir) -> i16
+    fn entry_anew<T: Terrain>(&self, t: &T, c: Cell, d: Dir) -> i16
         requires whole { IsGrid (T.grid t.now) }
         requires sized { AreSized self.now (T.grid t.now) }
         requires rests { RestsRight self.now (T.grid t.now) c d }
         ensures { result ≡ table_entry (T.grid t.now) c d }
     {
         match d {
-            Dir::N => self.told_by_next(t, c, Dir::N),
-            Dir::NE => self.told_by_next(t, c, Dir::NE),
-            Dir::E => self.told_by_next(t, c, Dir::E),
-            Dir::SE => self.told_by_next(t, c, Dir::SE),
-            Dir::S => self.told_by_next(t, c, Dir::S),
-            Dir::SW => self.told_by_next(t, c, Dir::SW),
-            Dir::W => self.told_by_next(t, c, Dir::W),
-            Dir::NW => self.told_by_next(t, c, Dir::NW),
+            Dir::N => self.entry_by_next(t, c, Dir::N),
+            Dir::NE => self.entry_by_next(t, c, Dir::NE),
+            Dir::E => self.entry_by_next(t, c, Dir::E),
+            Dir::SE => self.entry_by_next(t, c, Dir::SE),
+            Dir::S => self.entry_by_next(t, c, Dir::S),
+            Dir::SW => self.entry_by_next(t, c, Dir::SW),
+            Dir::W => self.entry_by_next(t, c, Dir::W),
+            Dir::NW => self.entry_by_next(t, c, Dir::NW),
         }
     }
 
@@ -223,7 +223,7 @@ impl Tables {
         self.get(c, d)
     }
 
-    /// Makes one entry that of a grid, told by the entries at the next cell in this direction, which are to
+    /// Makes one entry that of a grid, from the entries at the next cell in this direction, which are to
     /// be right. All others stay. Whether the entry changed; one step.
     ///
     /// The grid has the sides and the corner rule of the tables.
@@ -253,7 +253,7 @@ impl Tables {
         let _ = &self.width;
         steps.tick();
         let before = self.get(c, d);
-        let entry = self.told(t, c, d);
+        let entry = self.entry_anew(t, c, d);
         self.put(c, d, entry);
         before != entry
     }

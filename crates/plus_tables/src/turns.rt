@@ -32,7 +32,7 @@ fn can_move<L: Ledger>(tables: &Tables, at: Cell, d: Dir, steps: &mut Steps<L>) 
 
 /// A cell and a direction from it, whose entry tells whether the cell there is free.
 #[derive(Clone, Copy)]
-pub struct Seen {
+pub struct Sight {
     pub from: Cell,
     pub dir: Dir,
 }
@@ -40,7 +40,7 @@ pub struct Seen {
 // From where the cell in direction `e` is seen after a straight move where no corner is cut: two cells lie
 // behind, each beside the cell before.
 #[inline(always)]
-fn seen_past(at: Cell, d: Dir, e: Dir) -> Seen
+fn seen_past(at: Cell, d: Dir, e: Dir) -> Sight
     requires column { spec.column_after (moves.opposite d) 1 at.x < 65536 }
     requires row { spec.row_after (moves.opposite d) 1 at.y < 65536 }
     ensures is { result ≡ spec.seen_past at d e }
@@ -49,17 +49,17 @@ fn seen_past(at: Cell, d: Dir, e: Dir) -> Seen
 {
     let before = cell_after(opposite(d), 1, at);
     if is_dir(e, rear(Side::Right, d)) {
-        Seen {
+        Sight {
             from: before,
             dir: quarter(Side::Right, d),
         }
     } else if is_dir(e, rear(Side::Left, d)) {
-        Seen {
+        Sight {
             from: before,
             dir: quarter(Side::Left, d),
         }
     } else {
-        Seen { from: at, dir: e }
+        Sight { from: at, dir: e }
     }
 }
 
@@ -78,7 +78,7 @@ fn is_free_past<L: Ledger>(tables: &Tables, at: Cell, d: Dir, e: Dir, steps: &mu
 
 // The allowed directions after a straight move where no corner is cut, in increasing order. Eight steps.
 #[inline(always)]
-#[tactic(auto, using(crate::proofs::Turning::told_past))]
+#[tactic(auto, using(crate::proofs::Turning::free_read_past))]
 fn allowed_past<L: Ledger>(tables: &Tables, at: Cell, d: Dir, steps: &mut Steps<L>) -> Packed
     requires straight { is_diagonal d ≡ false }
     requires at { is_on tables.now at ≡ true }
@@ -103,7 +103,7 @@ fn allowed_past<L: Ledger>(tables: &Tables, at: Cell, d: Dir, steps: &mut Steps<
 // The allowed directions otherwise, in increasing order: each cell counts as free where the move to it is
 // legal. The rule is one by which they are told. Eight steps.
 #[inline(always)]
-#[tactic(auto, using(crate::proofs::Turning::told_here))]
+#[tactic(auto, using(crate::proofs::Turning::free_read_here))]
 fn allowed_here<L: Ledger>(
     corner: Corner,
     tables: &Tables,
@@ -113,7 +113,7 @@ fn allowed_here<L: Ledger>(
 ) -> Packed
     requires at { is_on tables.now at ≡ true }
     requires here { spec.asks_behind corner by ≡ false }
-    requires told { spec.told_rule corner ≡ corner }
+    requires read_by { spec.read_rule corner ≡ corner }
     ensures is { result ≡ spec.allowed_by corner (entry_at tables.now) at by }
     ensures steps { steps.new ≡ steps.old + 8 }
 {
@@ -168,7 +168,7 @@ fn allowed_around<L: Ledger>(tables: &Tables, at: Cell, by: Arrival, steps: &mut
 /// a constant; reading what is not asked behind apart from what is keeps it small enough to be inlined.
 // (A search by either rule of states asks it, so the compiler would not put it in by itself.)
 #[inline(always)]
-pub fn allowed_told<L: Ledger>(
+pub fn allowed_read<L: Ledger>(
     tables: &Tables,
     at: Cell,
     by: Arrival,

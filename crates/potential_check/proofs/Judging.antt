@@ -33,9 +33,9 @@ use Rattle.potential_check.proofs.Ranked.{climbs-leaves, climbs-rises, members, 
 use Rattle.potential_check.proofs.Ranked.{ranked}
 
 -- where a claim has one answer that every refusal and every acceptance leads to, it is judged by any of them
-module _ (g : GridData) (s t : Cell) (claim : Claim) (told : Result Proof Reject)
-    (only : (reject : Reject) → RefusesClaim g s t claim reject → told ≡ Err reject)
-    (accepted : AcceptsClaim g s t claim → told ≡ Ok (claimed claim)) where
+module _ (g : GridData) (s t : Cell) (claim : Claim) (ruled : Result Proof Reject)
+    (only : (reject : Reject) → RefusesClaim g s t claim reject → ruled ≡ Err reject)
+    (accepted : AcceptsClaim g s t claim → ruled ≡ Ok (claimed claim)) where
   refused : (reject : Reject) → RefusesClaim g s t claim reject → JudgesClaim g s t claim (Err reject)
   refused reject h1 = grind (arith, common_steps)
 
@@ -59,25 +59,25 @@ module _ (g : GridData) (s t : Cell) (cost : Cost) (points : List Cell) (values 
   fails = rises (potential_of cost t values)
 
   module _ (bad : Option ℕ) (walk : JudgesWalk g s t cost points bad) where
-    abbrev told : Result Proof Reject
-    told = least_answer cost bad (starts_at_nothing s t cost values) (ends_at_cost t cost values)
+    abbrev ruled : Result Proof Reject
+    ruled = least_answer cost bad (starts_at_nothing s t cost values) (ends_at_cost t cost values)
         (first_failing g fails)
 
-    only : (reject : Reject) → RefusesLeast g s t cost points values reject → told ≡ Err reject
+    only : (reject : Reject) → RefusesLeast g s t cost points values reject → ruled ≡ Err reject
     only reject h1 = grind (arith, nat_tests)
 
-    accepted : AcceptsLeast g s t cost points values → told ≡ Ok (proof.Least cost)
+    accepted : AcceptsLeast g s t cost points values → ruled ≡ Ok (proof.Least cost)
     accepted a = rw (walk.none a.walk, a.start, a.goal, none_fails g fails a.moves) refl
 
   pub judged_walk : (i : ℕ) → JudgesWalk g s t cost points (Some i) → JudgesClaim g s t least (Err (Walk i))
   judged_walk i walk =
-      refused g s t least (told (Some i) walk) (only (Some i) walk) (accepted (Some i) walk)
+      refused g s t least (ruled (Some i) walk) (only (Some i) walk) (accepted (Some i) walk)
       (Walk i) walk.wrong
 
   module _ (walk : JudgesWalk g s t cost points None) where
     refused_so : (reject : Reject) → RefusesLeast g s t cost points values reject
         → JudgesClaim g s t least (Err reject)
-    refused_so = refused g s t least (told None walk) (only None walk) (accepted None walk)
+    refused_so = refused g s t least (ruled None walk) (only None walk) (accepted None walk)
 
     pub judged_start : starts_at_nothing s t cost values ≡ false → JudgesClaim g s t least (Err Start)
     judged_start off = refused_so Start (walk.right, off)
@@ -102,18 +102,18 @@ none_answer true false (Some m) = Err (Open m.0 m.1)
 none_answer true false None = Ok proof.NoWalk
 
 module _ (g : GridData) (s t : Cell) (cells : List Cell) where
-  abbrev none_told : Result Proof Reject
-  none_told = none_answer (is_listed cells s) (is_listed cells t) (first_failing g (leaves cells))
+  abbrev none_ruled : Result Proof Reject
+  none_ruled = none_answer (is_listed cells s) (is_listed cells t) (first_failing g (leaves cells))
 
-  only_none : (reject : Reject) → RefusesNone g s t cells reject → none_told ≡ Err reject
+  only_none : (reject : Reject) → RefusesNone g s t cells reject → none_ruled ≡ Err reject
   only_none reject h1 = grind (arith, nat_tests)
 
-  accepted_none : AcceptsNone g s t cells → none_told ≡ Ok proof.NoWalk
+  accepted_none : AcceptsNone g s t cells → none_ruled ≡ Ok proof.NoWalk
   accepted_none a = rw (a.start, a.goal, none_fails g (leaves cells) a.moves) refl
 
   none_refused : (reject : Reject) → RefusesNone g s t cells reject
       → JudgesClaim g s t (NoWalk cells) (Err reject)
-  none_refused = refused g s t (NoWalk cells) none_told only_none accepted_none
+  none_refused = refused g s t (NoWalk cells) none_ruled only_none accepted_none
 
   pub judged_unlisted : is_listed cells s ≡ false → JudgesClaim g s t (NoWalk cells) (Err Start)
   judged_unlisted off = none_refused Start off
@@ -129,7 +129,7 @@ module _ (g : GridData) (s t : Cell) (cells : List Cell) where
 
       pub judged_none : first_failing g (leaves cells) ≡ None
           → JudgesClaim g s t (NoWalk cells) (Ok proof.NoWalk)
-      judged_none none = allowed g s t (NoWalk cells) none_told only_none accepted_none
+      judged_none none = allowed g s t (NoWalk cells) none_ruled only_none accepted_none
           (record { start = start; goal = goal; moves = none_found g (leaves cells) none })
 
 -- between free cells an accepted claim holds of all walks

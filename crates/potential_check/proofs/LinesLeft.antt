@@ -50,7 +50,7 @@ pub reads_absent : (state : State) (old new : Left) (fault : CertFault) → Give
     → absent_fault state old.number ≡ Some fault → read_left state old ≡ Err fault
 reads_absent state old new fault h1 h2 = grind (arith, nat_tests, needs)
 
--- an answer tells what is read, told what is left to read
+-- an answer tells what is read, given what is left to read
 pub tells_on : (answer : Result Certificate CertFault) (read more : Result Plain CertFault) → read ≡ more
     → Tells answer more → Tells answer read
 tells_on answer read more e t = subst (λ (r : Result Plain CertFault). Tells answer r) (sym e) t

@@ -133,26 +133,26 @@ module _ (g : GridData) (s t : Cell) (points : List Cell) where
       }
 
   -- the answer by the first point, by what the points stand for, and by the last point
-  abbrev told : Bool → Result Cost BadAt → Bool → Result Cost ℕ
-  told false answer ends = Err 0
-  told true (Err bad) ends = Err bad.0
-  told true (Ok paid) false = Err (length points)
-  told true (Ok paid) true = Ok paid
+  abbrev ruled : Bool → Result Cost BadAt → Bool → Result Cost ℕ
+  ruled false answer ends = Err 0
+  ruled true (Err bad) ends = Err bad.0
+  ruled true (Ok paid) false = Err (length points)
+  ruled true (Ok paid) true = Ok paid
 
   module _ (answer : Result Cost BadAt) (tells : IsVerdict g points answer) where
     only_right : (paid : Cost) → IsRightWalk g s t paid points
-        → told (begins_at s points) answer (ends_at t points) ≡ Ok paid
+        → ruled (begins_at s points) answer (ends_at t points) ≡ Ok paid
     only_right paid r = rw (right_begins paid r, tells.ok paid (right_short paid r), right_ends paid r) refl
 
     only_bad : (i : ℕ) → IsBadPoint g s t points i
-        → told (begins_at s points) answer (ends_at t points) ≡ Err i
+        → ruled (begins_at s points) answer (ends_at t points) ≡ Err i
     only_bad i (elsewhere off) = rw off refl
     only_bad i (broken begins first) = rw (begins, tells.err i first) refl
     only_bad i (short_of paid begins w off) = rw (begins, tells.ok paid w, off) refl
 
   pub judged : (begins : Bool) → begins_at s points ≡ begins → (answer : Result Cost BadAt)
       → IsVerdict g points answer → (ends : Bool) → ends_at t points ≡ ends
-      → IsJudged g s t points (told begins answer ends)
+      → IsJudged g s t points (ruled begins answer ends)
   judged begins b answer tells ends e = record {
     walk = right begins b answer tells ends e;
     ok = λ paid r. rw (b, e) at (only_right answer tells paid r);
@@ -162,7 +162,7 @@ module _ (g : GridData) (s t : Cell) (points : List Cell) where
     where
       right : (begins : Bool) → begins_at s points ≡ begins → (answer : Result Cost BadAt)
           → IsVerdict g points answer → (ends : Bool) → ends_at t points ≡ ends
-          → IfOk (told begins answer ends) (λ paid. IsRightWalk g s t paid points)
+          → IfOk (ruled begins answer ends) (λ paid. IsRightWalk g s t paid points)
       right false b answer tells ends e = tt
       right true b (Err bad) tells ends e = tt
       right true b (Ok paid) tells false e = tt
@@ -170,7 +170,7 @@ module _ (g : GridData) (s t : Cell) (points : List Cell) where
 
       wrong : (begins : Bool) → begins_at s points ≡ begins → (answer : Result Cost BadAt)
           → IsVerdict g points answer → (ends : Bool) → ends_at t points ≡ ends
-          → IfErr (told begins answer ends) (IsBadPoint g s t points)
+          → IfErr (ruled begins answer ends) (IsBadPoint g s t points)
       wrong false b answer tells ends e = elsewhere b
       wrong true b (Err bad) tells ends e = broken b tells.bad
       wrong true b (Ok paid) tells false e = short_of paid b tells.walk e
@@ -184,7 +184,7 @@ module _ (g : GridData) (s t : Cell) (points : List Cell) where
   pub has_answer : (answer : Result Cost ℕ) × IsJudged g s t points answer
   has_answer =
       let v = has_verdict g points in (
-        told (begins_at s points) v.0 (ends_at t points),
+        ruled (begins_at s points) v.0 (ends_at t points),
         judged (begins_at s points) refl v.0 v.1 (ends_at t points) refl,
       )
 

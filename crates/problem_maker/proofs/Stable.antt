@@ -22,11 +22,11 @@ cheaper_ranks = record {
 }
 
 -- what comparing costs tells of it
-pub less_told : (p q : Cost) (r : Ordering) → MatchOrdering r (IsLess p q) (p ≡ q) (IsLess q p)
+pub less_by_order : (p q : Cost) (r : Ordering) → MatchOrdering r (IsLess p q) (p ≡ q) (IsLess q p)
     → is_lt r ≡ is_less p q
-less_told p q Less e = sym e
-less_told p q Equal e = sym (subst (λ (c : Cost). is_less p c ≡ false) e (IsAtMost-refl p))
-less_told p q Greater e = sym (less_at_most q p e)
+less_by_order p q Less e = sym e
+less_by_order p q Equal e = sym (subst (λ (c : Cost). is_less p c ≡ false) e (IsAtMost-refl p))
+less_by_order p q Greater e = sym (less_at_most q p e)
 
 -- two lists in order are one where, of the elements that tie with any one, they have the same ones in the
 -- same order

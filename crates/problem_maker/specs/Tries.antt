@@ -7,7 +7,7 @@ use Rattle.grid_moves.specs.Layers.{Layers}
 use Rattle.grid_moves.specs.Move.{is_same}
 use Rattle.map_maker.specs.Words.{words_of}
 use Rattle.joined_cells.specs.Both.{HasWalk}
-use Rattle.problem_maker.specs.declared.tries.Ends.{Ends}
+use Rattle.problem_maker.specs.declared.tries.ProblemEnds.{ProblemEnds}
 use Rattle.problem_maker.specs.Free.{free_cells}
 
 -- the cell at a word modulo the number of cells
@@ -15,19 +15,19 @@ abbrev pub cell_at : List Cell → ℕ → Cell
 cell_at cells word = slice_index_or cells (word % length cells) (record { x = 0; y = 0 })
 
 -- a try takes two words: the first tells its start, the second its goal
-unfoldable pub tries_by : List Cell → List ℕ → List Ends
+unfoldable pub tries_by : List Cell → List ℕ → List ProblemEnds
 tries_by cells [] = []
 tries_by cells (v ∷ []) = []
 tries_by cells (v ∷ w ∷ words) = record { start = cell_at cells v; goal = cell_at cells w }
     ∷ tries_by cells words
 
 -- so many tries, by the words of the seed exclusive-or 2; where there is no cell there is no try
-abbrev pub tries : List Cell → ℕ → ℕ → List Ends
+abbrev pub tries : List Cell → ℕ → ℕ → List ProblemEnds
 tries cells seed n = if nat_eq (length cells) 0 then []
     else tries_by cells (words_of (bit_xor seed 2) (2 * n))
 
 -- a try is kept where start and goal differ and are joined
-abbrev pub is_kept : (Cell → Cell → Bool) → Ends → Bool
+abbrev pub is_kept : (Cell → Cell → Bool) → ProblemEnds → Bool
 is_kept joined ends = not (is_same ends.start ends.goal) && joined ends.start ends.goal
 
 -- so many tries at most where so many are wanted
@@ -35,11 +35,11 @@ abbrev pub most_tries : ℕ → ℕ
 most_tries count = 10 * count + 100
 
 -- of all these tries the kept ones, as many as are wanted
-abbrev pub kept_ends : (Cell → Cell → Bool) → List Cell → ℕ → ℕ → List Ends
+abbrev pub kept_ends : (Cell → Cell → Bool) → List Cell → ℕ → ℕ → List ProblemEnds
 kept_ends joined cells seed count = take count (filter (is_kept joined) (tries cells seed (most_tries count)))
 
 -- the kept ones on a map, where two cells are joined exactly where a query from one to the other has a walk
-pub record AreKept (ls : Layers) (seed count : ℕ) (kept : List Ends) : Type 0 where
+pub record AreKept (ls : Layers) (seed count : ℕ) (kept : List ProblemEnds) : Type 0 where
   pub joined : Cell → Cell → Bool
-  pub told : (s t : Cell) → IsTrue (joined s t) ↔ HasWalk ls s t
+  pub decides : (s t : Cell) → IsTrue (joined s t) ↔ HasWalk ls s t
   pub are : kept ≡ kept_ends joined (free_cells ls) seed count

@@ -20,7 +20,7 @@ use std::alloc::Global;
 
 /// Where a problem begins and ends.
 #[derive(Clone, Copy, Debug, PartialEq, Eq)]
-pub struct Ends {
+pub struct ProblemEnds {
     pub start: Cell,
     pub goal: Cell,
 }
@@ -36,7 +36,7 @@ pub fn make_ends(
     water: &Grid,
     seed: u64,
     count: u32,
-) -> Result<Vec<Ends>, NoMemory>
+) -> Result<Vec<ProblemEnds>, NoMemory>
     requires layers { AreLayers (record { land = land.now; water = water.now }) }
     ensures kept { IfOk result (λ kept. AreKept (record { land = land.now; water = water.now }) seed count
         kept.items) }
@@ -56,7 +56,7 @@ fn kept_ends(
     count: u32,
     cells: &[Cell],
     joined: &JoinedLayers,
-) -> Result<Vec<Ends>, NoMemory>
+) -> Result<Vec<ProblemEnds>, NoMemory>
     ensures { IfOk result (λ kept. kept.items
         ≡ spec.kept_ends (are_joined_in joined.now) cells.now seed count) }
 {
@@ -74,7 +74,7 @@ fn draw_kept(
     count: u32,
     cells: &[Cell],
     joined: &JoinedLayers,
-) -> Result<Vec<Ends>, NoMemory>
+) -> Result<Vec<ProblemEnds>, NoMemory>
     requires { 0 < length cells.now }
     ensures { let words = words_from (2 * most_tries count) generator.old in
         IfOk result (λ kept. kept.items
@@ -94,20 +94,20 @@ fn draw_kept(
 }
 
 // Whether the try is kept.
-fn is_kept(ends: Ends, joined: &JoinedLayers) -> bool
+fn is_kept(ends: ProblemEnds, joined: &JoinedLayers) -> bool
     ensures { result ≡ spec.is_kept (are_joined_in joined.now) ends }
 {
     ends.start != ends.goal && joined.joined(ends.start, ends.goal)
 }
 
 // The ends that the next two words tell.
-fn draw_ends(generator: &mut Lcg64Xsh32, cells: &[Cell]) -> Ends
+fn draw_ends(generator: &mut Lcg64Xsh32, cells: &[Cell]) -> ProblemEnds
     requires { 0 < length cells.now }
     ensures { Draws cells.now generator.old result generator.new }
 {
     let start = draw_cell(generator, cells);
     let goal = draw_cell(generator, cells);
-    Ends { start, goal }
+    ProblemEnds { start, goal }
 }
 
 // The cell that the next word tells.

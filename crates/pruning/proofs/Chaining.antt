@@ -28,7 +28,7 @@ use Rattle.pruning.specs.Laws.{ChainsSuffice}
 use Rattle.pruning.proofs.Table.{turn_parity, by_parity, by_test}
 use Rattle.pruning.proofs.Bridging.{one_of, leads_legal, allowed_leads}
 use Rattle.pruning.proofs.Runs.{run_end-next}
-use Rattle.pruning.proofs.Stopping.{stops_are_told}
+use Rattle.pruning.proofs.Stopping.{stops_are_decided}
 
 -- one move and then k
 pub run_cost-next : (d : Dir) (k : ℕ) → run_cost d (suc k) ≡ add_costs (dir_cost d) (run_cost d k)
@@ -158,14 +158,14 @@ module _ (explained : TurnsAreMarked) (g : GridData) (t : Cell) where
       }
 
   no_stop : (v : Cell) (d : Dir) → is_stop g t d v ≡ false → IsStop g t d v → ⊥
-  no_stop v d n s = let stops = (stops_are_told g t d v).complete s in absurd (cc)
+  no_stop v d n s = let stops = (stops_are_decided g t d v).complete s in absurd (cc)
 
   pub next_stop : (x : Cell) (d : Dir) (k : ℕ) (v : Cell) (cells : List Cell) → 1 ≤ k
       → run_end g d k x ≡ Some v → NoneBelow (StopsAfter g t x d) 1 k → FollowsRule g (By d) v cells
       → last_of v cells ≡ t → IsNext x d k v cells
   next_stop x d k v [] i r b f e = stops_here x d k v [] i r b f e (at_goal e)
   next_stop x d k v (w ∷ cells) i r b (c, m, f) e = by_test (is_stop g t d v)
-      (λ s. stops_here x d k v (w ∷ cells) i r b (c, m, f) e ((stops_are_told g t d v).sound s))
+      (λ s. stops_here x d k v (w ∷ cells) i r b (c, m, f) e ((stops_are_decided g t d v).sound s))
       (λ n. elim (goes_on d v w cells c m (explained g v d c m.allowed) f e) [
         | inl s ↦ stops_here x d k v (w ∷ cells) i r b (c, m, f) e s
         | inr on ↦ stops_later x d k v w cells on.1

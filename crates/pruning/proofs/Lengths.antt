@@ -8,7 +8,7 @@ use Rattle.grid_moves.specs.Grid.{GridData}
 use Rattle.grid_moves.specs.Move.{legal_ahead}
 use Rattle.pruning.specs.Marked.{run_end}
 use Rattle.pruning.specs.First.{run_length}
-use Rattle.pruning.proofs.Runs.{run_short, run_length_is_told}
+use Rattle.pruning.proofs.Runs.{run_short, run_length_is_exact}
 
 -- two lengths that the same runs have are one
 same_length : (m n : ℕ) → ((k : ℕ) → nat_le k m ≡ nat_le k n) → m ≡ n
@@ -31,7 +31,7 @@ run_length-next g x v d e = same_length (run_length g x d) (suc (run_length g v 
     by_moves : (k : ℕ) → nat_le k (run_length g x d) ≡ nat_le k (suc (run_length g v d))
     by_moves zero = first (run_length g x d) ∙ sym (first (suc (run_length g v d)))
     by_moves (suc k) =
-        sym (run_length_is_told g x d (suc k)) ∙ rw e (run_length_is_told g v d k)
+        sym (run_length_is_exact g x d (suc k)) ∙ rw e (run_length_is_exact g v d k)
         ∙ later k (run_length g v d)
 
 pub run_length-none : (g : GridData) (x : Cell) (d : Dir) → legal_ahead g x d ≡ None
@@ -46,7 +46,7 @@ run_length-none g x d e = same_length (run_length g x d) 0 by_moves
 
     by_moves : (k : ℕ) → nat_le k (run_length g x d) ≡ nat_le k 0
     by_moves zero = first (run_length g x d) ∙ sym (first 0)
-    by_moves (suc k) = sym (run_length_is_told g x d (suc k)) ∙ rw e (never k)
+    by_moves (suc k) = sym (run_length_is_exact g x d (suc k)) ∙ rw e (never k)
 
 -- no run is longer than the sides together
 pub run_length-few : (g : GridData) (x : Cell) (d : Dir) → run_length g x d ≤ g.width + g.height
@@ -57,7 +57,7 @@ run_length-few g x d = by_end (run_end g d (run_length g x d) x) refl
 
     by_end : (o : Option Cell) → run_end g d (run_length g x d) x ≡ o
         → run_length g x d ≤ g.width + g.height
-    by_end None e = absurd (let told = run_length_is_told g x d (run_length g x d) in
+    by_end None e = absurd (let counts = run_length_is_exact g x d (run_length g x d) in
         let some : is_some (run_end g d (run_length g x d) x) ≡ true =
-        told ∙ all (run_length g x d) in let none = rw e at some in cc)
+        counts ∙ all (run_length g x d) in let none = rw e at some in cc)
     by_end (Some c) e = run_short g d (run_length g x d) x c e

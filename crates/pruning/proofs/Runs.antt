@@ -10,7 +10,7 @@ use Rattle.grid_moves.specs.Move.{ahead, legal_ahead}
 use Rattle.grid_moves.proofs.Legal.{legal_is, free_inside}
 use Rattle.pruning.specs.Marked.{run_end}
 use Rattle.pruning.specs.First.{moves_within}
-use Rattle.pruning.specs.Laws.{RunLengthIsTold}
+use Rattle.pruning.specs.Laws.{RunLengthIsExact}
 use Rattle.pruning.proofs.Table.{by_test}
 use Rattle.pruning.proofs.Bridging.{Leads, legal_leads, one_of}
 
@@ -113,5 +113,5 @@ moves_within-few g d (suc n) x = by_cell (legal_ahead g x d) (λ v. moves_within
         → unwrap_or (option_map (λ v. suc (moves_within n g d v)) o) 0 ≤ suc n
     by_cell o h1 = grind (arith, nat_tests)
 
-pub run_length_is_told : RunLengthIsTold
-run_length_is_told g x d k = grind (arith, nat_tests, by_test, counted, moves_within-few, run_short)
+pub run_length_is_exact : RunLengthIsExact
+run_length_is_exact g x d k = grind (arith, nat_tests, by_test, counted, moves_within-few, run_short)

@@ -11,7 +11,8 @@ use Rattle.pruning.specs.Turns.{turn, is_diagonal}
 use Rattle.pruning.specs.Marked.{is_forced, HoldsOnRun, IsMarked, forces, looks_out}
 use Rattle.pruning.specs.Stop.{IsStop, at_goal, marked, sees_goal, StopsAfter, MarkedAfter}
 use Rattle.pruning.specs.First.{holds_on_run, is_marked, is_stop, first_stop, first_mark}
-use Rattle.pruning.specs.Laws.{MarksAreTold, StopsAreTold, FirstStopIsFirst, OneFirstStop, FirstMarkIsFirst}
+use Rattle.pruning.specs.Laws.{MarksAreDecided, StopsAreDecided, FirstStopIsFirst, OneFirstStop}
+use Rattle.pruning.specs.Laws.{FirstMarkIsFirst}
 use Rattle.pruning.specs.Laws.{OneFirstMark}
 use Rattle.pruning.proofs.Table.{either_true}
 use Rattle.pruning.proofs.Firsts.{FindsLeast-once, FindsLeast-same, HoldsAfter, first_on_run-finds}
@@ -54,8 +55,8 @@ is_forced_beside g d s u = is_forced g u (turn s d)
 abbrev is_goal : Cell → Side → Cell → Bool
 is_goal goal s u = is_same u goal
 
-pub marks_are_told : MarksAreTold
-marks_are_told g x d = record { sound = sound; complete = complete }
+pub marks_are_decided : MarksAreDecided
+marks_are_decided g x d = record { sound = sound; complete = complete }
   where
     sound : is_marked g x d ≡ true → IsMarked g x d
     sound h = elim (either_true (is_forced g x d) _ h) [
@@ -67,14 +68,14 @@ marks_are_told g x d = record { sound = sound; complete = complete }
     complete (forces f) = rw f refl
     complete (looks_out h s r) = or_true _ _ (sees-complete g d x (is_forced_beside g d) h s r)
 
-pub stops_are_told : StopsAreTold
-stops_are_told g goal d v = record { sound = sound; complete = complete }
+pub stops_are_decided : StopsAreDecided
+stops_are_decided g goal d v = record { sound = sound; complete = complete }
   where
     sound : is_stop g goal d v ≡ true → IsStop g goal d v
     sound h = elim (either_true (is_same v goal || is_marked g v d) _ h) [
       | inl l ↦ elim (either_true (is_same v goal) _ l) [
         | inl e ↦ at_goal (is_same-cell v goal e)
-        | inr m ↦ marked ((marks_are_told g v d).sound m)
+        | inr m ↦ marked ((marks_are_decided g v d).sound m)
       ]
       | inr k ↦ let r = sees-sound g d v (is_goal goal) k in sees_goal r.diagonal r.side (record {
         moves = r.run.moves;
@@ -88,7 +89,7 @@ stops_are_told g goal d v = record { sound = sound; complete = complete }
     complete : IsStop g goal d v → is_stop g goal d v ≡ true
     complete (at_goal e) = let k : is_same v goal ≡ true = rw e (is_same-itself goal) in rw k refl
     complete (marked m) =
-        rw (or_true (is_same v goal) (is_marked g v d) ((marks_are_told g v d).complete m)) refl
+        rw (or_true (is_same v goal) (is_marked g v d) ((marks_are_decided g v d).complete m)) refl
     complete (sees_goal h s r) = or_true (is_same v goal || is_marked g v d) _
         (sees-complete g d v (is_goal goal) h s (record {
           moves = r.moves;
@@ -104,12 +105,12 @@ first_stop_is_first g goal x d =
     (λ k h. record {
       cell = h.cell;
       reached = h.reached;
-      stops = (stops_are_told g goal d h.cell).sound h.holds;
+      stops = (stops_are_decided g goal d h.cell).sound h.holds;
     })
     (λ k h. record {
       cell = h.cell;
       reached = h.reached;
-      holds = (stops_are_told g goal d h.cell).complete h.stops;
+      holds = (stops_are_decided g goal d h.cell).complete h.stops;
     })
     (first_stop g goal x d) (first_on_run-finds g d (is_stop g goal d) x)
 
@@ -124,12 +125,12 @@ first_mark_is_first g x d =
     (λ k h. record {
       cell = h.cell;
       reached = h.reached;
-      marks = (marks_are_told g h.cell d).sound h.holds;
+      marks = (marks_are_decided g h.cell d).sound h.holds;
     })
     (λ k h. record {
       cell = h.cell;
       reached = h.reached;
-      holds = (marks_are_told g h.cell d).complete h.marks;
+      holds = (marks_are_decided g h.cell d).complete h.marks;
     })
     (first_mark g x d) (first_on_run-finds g d (λ v. is_marked g v d) x)
 

@@ -48,12 +48,12 @@ pub record Tells (test : Bool) (fact : Type 0) : Type 0 where
   pub sound : IsTrue test → fact
   pub complete : fact → IsTrue test
 
--- marks and stops are told by tests
-abbrev pub MarksAreTold : Type 0
-MarksAreTold = (g : GridData) (x : Cell) (d : Dir) → Tells (is_marked g x d) (IsMarked g x d)
+-- marks and stops are decided by tests
+abbrev pub MarksAreDecided : Type 0
+MarksAreDecided = (g : GridData) (x : Cell) (d : Dir) → Tells (is_marked g x d) (IsMarked g x d)
 
-abbrev pub StopsAreTold : Type 0
-StopsAreTold = (g : GridData) (goal : Cell) (d : Dir) (v : Cell)
+abbrev pub StopsAreDecided : Type 0
+StopsAreDecided = (g : GridData) (goal : Cell) (d : Dir) (v : Cell)
     → Tells (is_stop g goal d v) (IsStop g goal d v)
 
 -- the first stop that is computed is one
@@ -74,6 +74,6 @@ OneFirstMark = (g : GridData) (x : Cell) (d : Dir) (answer : Option ℕ) → IsF
     → answer ≡ first_mark g x d
 
 -- so many moves are legal, one after the other, as the length of the run says
-abbrev pub RunLengthIsTold : Type 0
-RunLengthIsTold = (g : GridData) (x : Cell) (d : Dir) (k : ℕ)
+abbrev pub RunLengthIsExact : Type 0
+RunLengthIsExact = (g : GridData) (x : Cell) (d : Dir) (k : ℕ)
     → is_some (run_end g d k x) ≡ nat_le k (run_length g x d)

@@ -15,7 +15,7 @@ use Rattle.pruning.specs.declared.turns.Side.TheVariants.{Right, Left}
 use Rattle.pruning.specs.Turns.{turn, quarter, rear, is_diagonal}
 use Rattle.pruning.specs.Allowed.{is_blocked, can_move}
 
--- After a move in d a neighbour on this side is forced, told which cells around are blocked and which moves
+-- After a move in d a neighbour on this side is forced, given which cells around are blocked and which moves
 -- are legal. Where no corner is cut: after a straight move, the cell at that side, past a blocked one behind.
 -- Where one may be: after a straight move, the cell half ahead, past a blocked one at that side; after a
 -- diagonal, the cell at that side, past a blocked one behind.

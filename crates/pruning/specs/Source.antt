@@ -11,10 +11,10 @@ pub record StepsByCall : Type 0 where
   pub stop : ℕ
   pub allowed : ℕ
 
--- a call that makes the counter go from the one number to the other makes no more steps than are told
+-- a call that makes the counter go from the one number to the other makes no more steps than are known
 abbrev pub IsWithin : Option StepsByCall → (StepsByCall → ℕ) → ℕ → ℕ → Type 0
 IsWithin None call old new = ⊤
-IsWithin (Some told) call old new = new ≤ old + call told
+IsWithin (Some known) call old new = new ≤ old + call known
 
 -- a cell can be reached by this arrival: from the cell before it by a legal move
 abbrev pub CanArrive : GridData → Cell → Arrival → Type 0

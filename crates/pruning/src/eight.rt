@@ -121,7 +121,7 @@ impl AllowedTable {
         self.corner
     }
 
-    /// The allowed directions at a free cell, told the eight bits around it, in the order of `ring_of`.
+    /// The allowed directions at a free cell, given the eight bits around it, in the order of `ring_of`.
     #[inline(always)]
     pub fn allowed(&self, eight: usize, by: Arrival) -> Packed
         requires eight { eight < 256 }

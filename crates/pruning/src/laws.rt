@@ -6,8 +6,8 @@
 
 ghost use Rattle.pruning.specs.Facts.{TurnsAreReplaced, TurnsAreMarked};
 ghost use Rattle.pruning.specs.Laws.{CanonicalWalksSuffice, ChainsSuffice, ChainsAreWalks};
-ghost use Rattle.pruning.specs.Laws.{MarksAreTold, StopsAreTold, FirstStopIsFirst, OneFirstStop};
-ghost use Rattle.pruning.specs.Laws.{FirstMarkIsFirst, OneFirstMark, RunLengthIsTold};
+ghost use Rattle.pruning.specs.Laws.{MarksAreDecided, StopsAreDecided, FirstStopIsFirst, OneFirstStop};
+ghost use Rattle.pruning.specs.Laws.{FirstMarkIsFirst, OneFirstMark, RunLengthIsExact};
 ghost use Rattle.pruning.specs.Swap.{DroppedTurnsAreSwapped, DiagonalsGoFirst};
 ghost use Rattle.pruning.specs.Explored.{OneStateSuffices};
 
@@ -40,13 +40,13 @@ pub fn chains_are_walks()
 {}
 
 /// The test `is_marked` holds exactly at the marked cells.
-pub fn marks_are_told()
-    ensures { MarksAreTold }
+pub fn marks_are_decided()
+    ensures { MarksAreDecided }
 {}
 
 /// The test `is_stop` holds exactly at the cells at which a jump stops.
-pub fn stops_are_told()
-    ensures { StopsAreTold }
+pub fn stops_are_decided()
+    ensures { StopsAreDecided }
 {}
 
 /// What `first_stop` computes is the number of moves to the first stop, or none where there is none.
@@ -71,8 +71,8 @@ pub fn only_one_first_mark()
 {}
 
 /// As many moves are legal, one after the other, as `run_length` computes.
-pub fn run_length_is_told()
-    ensures { RunLengthIsTold }
+pub fn run_length_is_exact()
+    ensures { RunLengthIsExact }
 {}
 
 /// Where a turn behind a jump is not allowed and no walk is cheaper than the moves with it, it is one from

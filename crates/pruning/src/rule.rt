@@ -23,7 +23,7 @@ ghost use Rattle.pruning.specs.Turns as turns;
 ghost use Rattle.pruning.specs.Allowed as spec;
 ghost use Rattle.pruning.specs.Numbered as numbered;
 ghost use Rattle.grid_moves.specs.Ruled as ruled;
-ghost use Rattle.pruning.specs.Ring as told;
+ghost use Rattle.pruning.specs.Ring as pruned;
 ghost use Rattle.pruning.specs.Marked as marks;
 ghost use Rattle.pruning.specs.First as first;
 
@@ -102,7 +102,7 @@ fn is_kept(rule: Corner, ring: Ring, by: Arrival, to: Dir) -> bool
 // Whether the direction is allowed.
 #[inline(always)]
 fn is_allowed(rule: Corner, ring: Ring, by: Arrival, d: Dir) -> bool
-    ensures { result ≡ told.is_allowed_on rule ring by d }
+    ensures { result ≡ pruned.is_allowed_on rule ring by d }
 {
     is_kept(rule, ring, by, d) & ring.can_move(rule, d)
 }
@@ -112,8 +112,8 @@ fn is_allowed(rule: Corner, ring: Ring, by: Arrival, d: Dir) -> bool
 #[inline(always)]
 fn put_allowed(rule: Corner, ring: Ring, by: Arrival, d: Dir, others: Packed) -> Packed
     requires room { length others < 8 }
-    ensures kept { (ds : List Dir) → others ≡ filter (told.is_allowed_on rule ring by) ds
-        → result ≡ filter (told.is_allowed_on rule ring by) (d ∷ ds) }
+    ensures kept { (ds : List Dir) → others ≡ filter (pruned.is_allowed_on rule ring by) ds
+        → result ≡ filter (pruned.is_allowed_on rule ring by) (d ∷ ds) }
     ensures small { length result ≤ length others + 1 }
 {
     let with_it = others.after(d);
@@ -145,7 +145,7 @@ pub(crate) fn arrival_of(number: usize) -> Arrival
 // All directions that are allowed, for a rule and an arrival that the compiler knows.
 fn allowed_of<const RULE: usize, const BY: usize>(ring: Ring) -> Packed
     ensures { result ≡ filter
-        (told.is_allowed_on (ruled.rule_of_number RULE) ring (numbered.arrival_of BY)) moves.all_dirs }
+        (pruned.is_allowed_on (ruled.rule_of_number RULE) ring (numbered.arrival_of BY)) moves.all_dirs }
 {
     let rule = rule_of_number(RULE);
     let by = arrival_of(BY);
@@ -162,7 +162,7 @@ fn allowed_of<const RULE: usize, const BY: usize>(ring: Ring) -> Packed
 // The same, with code of its own for each arrival.
 #[inline(always)]
 fn allowed_by<const RULE: usize>(ring: Ring, by: Arrival) -> Packed
-    ensures { result ≡ filter (told.is_allowed_on (ruled.rule_of_number RULE) ring by) moves.all_dirs }
+    ensures { result ≡ filter (pruned.is_allowed_on (ruled.rule_of_number RULE) ring by) moves.all_dirs }
 {
     match by {
         Arrival::Start => allowed_of::<RULE, 8>(ring),
@@ -177,11 +177,11 @@ fn allowed_by<const RULE: usize>(ring: Ring, by: Arrival) -> Packed
     }
 }
 
-/// All directions that are allowed, told which of the cells around are free: the kept ones in which the move
+/// All directions that are allowed, given which of the cells around are free: the kept ones in which the move
 /// is legal. Each rule has code of its own.
 #[inline(always)]
 pub fn allowed_on(rule: Corner, ring: Ring, by: Arrival) -> Packed
-    ensures { result ≡ filter (told.is_allowed_on rule ring by) moves.all_dirs }
+    ensures { result ≡ filter (pruned.is_allowed_on rule ring by) moves.all_dirs }
 {
     match rule {
         Corner::Never => allowed_by::<0>(ring, by),
@@ -229,7 +229,7 @@ pub fn allowed_word<T: Terrain>(t: &T, at: Cell, by: Arrival) -> Packed
 // Whether a neighbour on this side is forced at a free cell after a move, with no branch on the cells around.
 #[inline(always)]
 fn is_forced_on(rule: Corner, ring: Ring, d: Dir, side: Side) -> bool
-    ensures { result ≡ told.forced_beside rule ring d side }
+    ensures { result ≡ pruned.forced_beside rule ring d side }
 {
     let aside = is_shut(ring, rear(side, d)) & ring.can_move(rule, quarter(side, d));
     let ahead = is_shut(ring, quarter(side, d)) & ring.can_move(rule, turn(side, d));
@@ -241,11 +241,11 @@ fn is_forced_on(rule: Corner, ring: Ring, d: Dir, side: Side) -> bool
     }
 }
 
-/// Whether a neighbour is forced at a free cell after a move in `d`, told which of the cells around are free:
-/// `n` in the drawings above.
+/// Whether a neighbour is forced at a free cell after a move in `d`, given which of the cells around are
+/// free: `n` in the drawings above.
 #[inline(always)]
 pub fn forced_on(rule: Corner, ring: Ring, d: Dir) -> bool
-    ensures { result ≡ told.forced_on rule ring d }
+    ensures { result ≡ pruned.forced_on rule ring d }
 {
     is_forced_on(rule, ring, d, Side::Right) | is_forced_on(rule, ring, d, Side::Left)
 }

@@ -45,7 +45,7 @@ pub trait JumpSource {
         ensures first { (g : GridData) → StandsFor self.now g → IsTrue (is_free g at)
             → IsTrue (is_free g goal)
             → IsFirstStop g goal at d result }
-        ensures most { IsWithin (most self.now) (λ told. told.stop) steps.old steps.new }
+        ensures most { IsWithin (most self.now) (λ known. known.stop) steps.old steps.new }
         ensures fewest { steps.old + (fewest self.now).stop ≤ steps.new };
 
     /// The allowed directions at `at`, in increasing order, in one word, which a search takes apart faster
@@ -54,7 +54,7 @@ pub trait JumpSource {
         requires { (g : GridData) × StandsFor self.now g × IsTrue (is_free g at) × CanArrive g at by }
         ensures rule { (g : GridData) → StandsFor self.now g → IsTrue (is_free g at) → CanArrive g at by
             → result ≡ allowed_dirs g at by }
-        ensures most { IsWithin (most self.now) (λ told. told.allowed) steps.old steps.new }
+        ensures most { IsWithin (most self.now) (λ known. known.allowed) steps.old steps.new }
         ensures fewest { steps.old + (fewest self.now).allowed ≤ steps.new };
 
     /// The same in a list.
@@ -62,7 +62,7 @@ pub trait JumpSource {
         requires { (g : GridData) × StandsFor self.now g × IsTrue (is_free g at) × CanArrive g at by }
         ensures rule { (g : GridData) → StandsFor self.now g → IsTrue (is_free g at) → CanArrive g at by
             → result.items ≡ allowed_dirs g at by }
-        ensures most { IsWithin (most self.now) (λ told. told.allowed) steps.old steps.new }
+        ensures most { IsWithin (most self.now) (λ known. known.allowed) steps.old steps.new }
         ensures fewest { steps.old + (fewest self.now).allowed ≤ steps.new }
     {
         self.allowed_word(at, by, steps).to_list()

@@ -20,5 +20,5 @@ module _ (x y : ℤ) (in_x : unsigned_abs x < 2 ^ 61) (in_y : unsigned_abs y < 2
   pub difference_fits : FitsSigned w64 (to_z w64 (of_z w64 x) -ℤ to_z w64 (of_z w64 y))
   difference_fits = rw read (fits_signed_from_abs w64 (x -ℤ y) (omega (arith, difference_small)))
 
-  pub difference_told : to_z w64 (of_z w64 (to_z w64 (of_z w64 x) -ℤ to_z w64 (of_z w64 y))) ≡ x -ℤ y
-  difference_told = rw read (kept (x -ℤ y) difference_small)
+  pub difference_kept : to_z w64 (of_z w64 (to_z w64 (of_z w64 x) -ℤ to_z w64 (of_z w64 y))) ≡ x -ℤ y
+  difference_kept = rw read (kept (x -ℤ y) difference_small)

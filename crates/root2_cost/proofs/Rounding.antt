@@ -221,16 +221,16 @@ module _ (cost : Cost) where
   pub nearest_half : (length : Decimal) → IsNearest cost length → IsHalf length.digits (scaled cost)
   nearest_half length nearest =
       let there = half_exists (scaled cost) in
-      let told : IsNearest cost (eight_places length.digits) =
+      let near : IsNearest cost (eight_places length.digits) =
       subst (λ (d : Decimal). IsNearest cost d) (placed length nearest.places) nearest in
       subst (λ (k : ℕ). IsHalf k (scaled cost))
-      (sym (nearest_same there.0 length.digits there.1 told)) there.1
+      (sym (nearest_same there.0 length.digits there.1 near)) there.1
 
   pub nearest_one : (p q : Decimal) → IsNearest cost p → IsNearest cost q → p ≡ q
   nearest_one p q g h =
-      let told : IsNearest cost (eight_places q.digits) =
+      let near : IsNearest cost (eight_places q.digits) =
       subst (λ (d : Decimal). IsNearest cost d) (placed q h.places) h in
-      let same : q.digits ≡ p.digits = nearest_same p.digits q.digits (nearest_half p g) told in
+      let same : q.digits ≡ p.digits = nearest_same p.digits q.digits (nearest_half p g) near in
       placed p g.places ∙ ap eight_places (sym same) ∙ sym (placed q h.places)
 
   -- it differs by at most one unit

@@ -31,9 +31,9 @@ cost_of_rank rank = record {
 }
 
 -- 5 straight moves and 2 diagonal ones
-pub told_again : cost_of_rank (rank_of (record { a = 5; b = 2 })) ≡ record { a = 5; b = 2 }
+pub ranked_and_back : cost_of_rank (rank_of (record { a = 5; b = 2 })) ≡ record { a = 5; b = 2 }
 unfolding cost_of_rank
-told_again = refl
+ranked_and_back = refl
 
 -- the rank of a difference of costs
 abbrev pub signed_rank : Signed → ℤ

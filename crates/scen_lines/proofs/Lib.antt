@@ -2,5 +2,5 @@ pub mod Digits
 pub mod Fields
 pub mod Read
 pub mod Names
-pub mod Told
+pub mod NamesRead
 pub mod Short

@@ -85,15 +85,15 @@ after-some [] y ys = refl
 after-some (x ∷ xs) y ys = refl
 
 -- a line stands where a walk exists
-line-told : (text : List ℕ) (entry : Entry) (least : Option Cost) (line : List ℕ)
+line-known : (text : List ℕ) (entry : Entry) (least : Option Cost) (line : List ℕ)
     → IsLineAt text entry least line → is_line line ≡ is_some least
-line-told text entry None line is = ap is_line is
-line-told text entry (Some cost) line is = ap is_line is.is ∙ after-some _ 10 []
+line-known text entry None line is = ap is_line is
+line-known text entry (Some cost) line is = ap is_line is.is ∙ after-some _ 10 []
 
-all-more : (lines : List (List ℕ)) (line : List ℕ) (all told : Bool) → all ≡ list_all is_line lines
-    → is_line line ≡ told → (all && told) ≡ list_all is_line (lines ++ line ∷ [])
-all-more lines line all told e f =
-    ap (λ (b : Bool). b && told) e
+all-more : (lines : List (List ℕ)) (line : List ℕ) (all known : Bool) → all ≡ list_all is_line lines
+    → is_line line ≡ known → (all && known) ≡ list_all is_line (lines ++ line ∷ [])
+all-more lines line all known e f =
+    ap (λ (b : Bool). b && known) e
     ∙ ap (λ (b : Bool). list_all is_line lines && b) (sym f ∙ sym (last (is_line line)))
     ∙ sym (list_all-append is_line lines (line ∷ []))
   where
@@ -110,8 +110,8 @@ pub listed-more : {T E : Type 0} (result : Result T E) (job now : Lengths) (entr
     → OnOk result ((first : Lengths) (entries : List Entry) (lines : List (List ℕ))
     → HaveListed first job entries lines
     → Adds (HaveListed first now (entries ++ entry ∷ [])) lines before after)
-listed-more (Err error) job now entry how least text before after is found whole costs kept told adds = tt
-listed-more (Ok done) job now entry how least text before after is found whole costs kept told adds =
+listed-more (Err error) job now entry how least text before after is found whole costs kept known adds = tt
+listed-more (Ok done) job now entry how least text before after is found whole costs kept known adds =
     λ first entries lines h. record {
       more = adds.line ∷ [];
       stand = record {
@@ -123,8 +123,8 @@ listed-more (Ok done) job now entry how least text before after is found whole c
                   (subst (λ (t : List ℕ). IsLineAt t entry (least_in how) adds.line) whole
                   (subst (λ (o : Option Cost). IsLineAt text entry o adds.line) found adds.is));
             });
-        told = told ∙ all-more lines adds.line job.all (is_some least) h.told
-            (line-told text entry least adds.line adds.is);
+        known = known ∙ all-more lines adds.line job.all (is_some least) h.known
+            (line-known text entry least adds.line adds.is);
         same = costs ∙ h.same;
         kept = kept ∙ h.kept;
       };
@@ -140,7 +140,7 @@ listed-all job status before s first entries lines h = record {
   stand = record {
     are = subst (λ (l : List (List ℕ)). AreLengthLines first.costs first.text.items entries l)
         (sym (append-nil lines)) h.are;
-    same_status = s ∙ ap (λ (b : Bool). if b then 0 else 1) h.told
+    same_status = s ∙ ap (λ (b : Bool). if b then 0 else 1) h.known
         ∙ ap lengths_status (sym (append-nil lines));
   };
   appended = sym (append-nil before);

@@ -18,7 +18,7 @@ use Rattle.joined_cells.proofs.Layering.{joined_in_one_layer}
 use Rattle.line_work.proofs.Turns.{turns-more}
 use Rattle.plain_search.specs.Costs.{IsCostTo}
 use Rattle.problem_maker.specs.declared.sorting.Problem.{Problem}
-use Rattle.problem_maker.specs.declared.tries.Ends.{Ends}
+use Rattle.problem_maker.specs.declared.tries.ProblemEnds.{ProblemEnds}
 use Rattle.scen_lines.specs.Line.{version_line}
 use Rattle.scen_maker.specs.Lengths.{IsProblemLine}
 use Rattle.scen_maker.specs.Problems.{AddsProblem, AreProblems, ArePriced, IsPriced, IsScenario, query_of}
@@ -69,21 +69,24 @@ take-more {X} xs i d h =
     ap (λ n. take n xs) (let s : i + 1 ≡ suc i = omega arith in s) ∙ take-suc xs i d h
 
 -- one more of the ends has its problem
-pub priced-more : (at ls : Layers) (kept : List Ends) (place : ℕ) (d : Ends) (problems now : List Problem)
+pub priced-more : (at ls : Layers) (kept : List ProblemEnds) (place : ℕ) (d : ProblemEnds)
+    (problems now : List Problem)
     (p : Problem) → at ≡ ls → place < length kept → ArePriced ls (take place kept) problems
     → IsPriced at (get_or kept place d) p → now ≡ problems ++ p ∷ []
     → ArePriced ls (take (place + 1) kept) now
 priced-more at ls kept place d problems now p same below are is grown =
-    let ends : Ends = get_or kept place d in
+    let ends : ProblemEnds = get_or kept place d in
     subst (λ (l : List Problem). ArePriced ls (take (place + 1) kept) l) (sym grown)
-    (subst (λ (l : List Ends). ArePriced ls l (problems ++ p ∷ [])) (sym (take-more kept place d below))
+    (subst (λ (l : List ProblemEnds). ArePriced ls l (problems ++ p ∷ []))
+    (sym (take-more kept place d below))
     (turns-more (λ (s : Unit {0}) ends p. IsPriced ls ends p) (λ s _. s) tt (take place kept) problems ends p
     are (subst (λ (l : Layers). IsPriced l ends p) same is)))
 
-pub priced-all : (ls : Layers) (kept : List Ends) (place : ℕ) (problems : List Problem) → length kept ≤ place
+pub priced-all : (ls : Layers) (kept : List ProblemEnds) (place : ℕ) (problems : List Problem)
+    → length kept ≤ place
     → ArePriced ls (take place kept) problems → ArePriced ls kept problems
 priced-all ls kept place problems above are =
-    subst (λ (l : List Ends). ArePriced ls l problems) (take_all place kept above) are
+    subst (λ (l : List ProblemEnds). ArePriced ls l problems) (take_all place kept above) are
 
 -- the lines of the first problems are written
 pub scenario-none : (ls : Layers) (name : List ℕ) (problems : List Problem) (text : List ℕ)

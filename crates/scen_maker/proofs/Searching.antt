@@ -7,8 +7,8 @@ use Rattle.grid_moves.specs.Ends.{AreApart}
 use Rattle.grid_moves.specs.Grid.{is_free}
 use Rattle.grid_moves.specs.Layers.{Layers, in_one_layer, is_free_ground, is_on_map, query_grid}
 use Rattle.grid_moves.specs.Reply.{IsRight, are_free_ends}
-use Rattle.edit_replay.proofs.Replying.{told}
-use Rattle.edit_replay.specs.Told.{reply_of}
+use Rattle.edit_replay.proofs.Replying.{is_reply}
+use Rattle.edit_replay.specs.ReplyOf.{reply_of}
 use Rattle.edit_replay.specs.Replies.{answer_of}
 use Rattle.edit_replay.specs.Session.{SessionData}
 use Rattle.best_first.specs.declared.state.Layout.TheVariants.{ByCell}
@@ -98,7 +98,7 @@ module _ (ls : Layers) (entry : Entry) where
           start = refl;
           goal = refl;
           free = free;
-          least = right-costs ls from to r on free (told session from to).right;
+          least = right-costs ls from to r on free (is_reply session from to).right;
         },
       )
 

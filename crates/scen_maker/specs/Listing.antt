@@ -8,7 +8,7 @@ use Rattle.scen_maker.specs.declared.lengths.Lengths.{Lengths}
 -- the entries have these lines, and it is known whether all of them have one
 pub record HaveListed (first now : Lengths) (entries : List Entry) (lines : List (List ℕ)) : Type 0 where
   pub are : AreLengthLines first.costs first.text.items entries lines
-  pub told : now.all ≡ list_all is_line lines
+  pub known : now.all ≡ list_all is_line lines
   pub same : now.costs ≡ first.costs
   pub kept : now.text ≡ first.text
 

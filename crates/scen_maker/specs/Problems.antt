@@ -7,20 +7,20 @@ use Rattle.line_work.specs.Turns.{AreInTurn}
 use Rattle.problem_maker.specs.Ordered.{AreOrdered}
 use Rattle.problem_maker.specs.Tries.{AreKept}
 use Rattle.problem_maker.specs.declared.sorting.Problem.{Problem}
-use Rattle.problem_maker.specs.declared.tries.Ends.{Ends}
+use Rattle.problem_maker.specs.declared.tries.ProblemEnds.{ProblemEnds}
 use Rattle.scen_lines.specs.Line.{version_line}
 use Rattle.scen_lines.specs.Naming.{name_of}
 use Rattle.scen_lines.specs.declared.line.Problem as lines
 use Rattle.scen_maker.specs.Lengths.{IsProblemLine}
 
 -- the problem has these ends, and costs what a least walk between them does on the grid of the query
-pub record IsPriced (ls : Layers) (ends : Ends) (p : Problem) : Type 0 where
+pub record IsPriced (ls : Layers) (ends : ProblemEnds) (p : Problem) : Type 0 where
   pub start : p.start ≡ ends.start
   pub goal : p.goal ≡ ends.goal
   pub least : IsLeastCost (query_grid ls ends.start) ends.start ends.goal p.cost
 
 -- one problem for each of the ends, in their order
-abbrev pub ArePriced : Layers → List Ends → List Problem → Type 0
+abbrev pub ArePriced : Layers → List ProblemEnds → List Problem → Type 0
 ArePriced ls kept problems =
     AreInTurn {S = Unit {0}} (λ _ ends p. IsPriced ls ends p) (λ s _. s) tt kept problems
 
@@ -54,14 +54,14 @@ pub record IsScenario (ls : Layers) (name : List ℕ) (problems : List Problem) 
   pub all : text ≡ version_line ++ concat lines
 
 -- the status is 0 where as many were kept as are wanted
-abbrev pub problems_status : ℕ → List Ends → ℕ
+abbrev pub problems_status : ℕ → List ProblemEnds → ℕ
 problems_status count kept = if nat_eq (length kept) count then 0 else 1
 
 -- The scenario that a seed makes on a map, whose file has this name, and the status: the kept tries with
 -- their least costs, in the order of these, those of equal costs in the order of their tries.
 pub record AreProblems (ls : Layers) (word : List ℕ) (seed count : ℕ) (text : List ℕ) (status : ℕ) : Type
     0 where
-  pub kept : List Ends
+  pub kept : List ProblemEnds
   pub are_kept : AreKept ls seed count kept
   pub priced : List Problem
   pub are_priced : ArePriced ls kept priced

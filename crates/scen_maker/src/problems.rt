@@ -10,7 +10,7 @@ use crate::NoMemory;
 use crate::costs::LeastCosts;
 use grid_moves::{Layers, Terrain};
 use line_work::Printed;
-use problem_maker::{Ends, Problem, make_ends, order};
+use problem_maker::{Problem, ProblemEnds, make_ends, order};
 use scen_lines::{problem_name, put_entry, put_version};
 use std::alloc::Global;
 use std::marker::Brand;
@@ -21,7 +21,7 @@ use steps::Steps;
 fn price<L: Ledger>(
     alloc: Global,
     costs: &mut LeastCosts,
-    ends: Ends,
+    ends: ProblemEnds,
     steps: &mut Steps<L>,
 ) -> Result<Problem, NoMemory>
     requires layers { AreLayers costs.old }
@@ -29,7 +29,7 @@ fn price<L: Ledger>(
     ensures priced { IfOk result (spec.IsPriced costs.old ends) }
     ensures unchanged { costs.new ≡ costs.old }
 {
-    let Ends { start, goal } = ends;
+    let ProblemEnds { start, goal } = ends;
     match costs.between(alloc, start, goal, steps)? {
         Some(cost) => Ok(Problem { start, goal, cost }),
         None => unreachable!(),
@@ -40,7 +40,7 @@ fn price<L: Ledger>(
 fn price_all<L: Ledger>(
     alloc: Global,
     costs: &mut LeastCosts,
-    kept: &[Ends],
+    kept: &[ProblemEnds],
     steps: &mut Steps<L>,
 ) -> Result<Vec<Problem>, NoMemory>
     requires layers { AreLayers costs.old }
@@ -60,7 +60,7 @@ fn price_all<L: Ledger>(
 fn price_alone<L: Ledger>(
     alloc: Global,
     costs: &mut LeastCosts,
-    kept: &[Ends],
+    kept: &[ProblemEnds],
     blank: Blank,
 ) -> Result<Vec<Problem>, NoMemory>
     requires name { blank.name ≡ L.name }

@@ -29,14 +29,14 @@ line_words line bucket left words are has =
 -- the same of the answer for it
 module _ (line : LineAt) (bucket : Placed) (left : List Placed) (words : Words)
     (are : fields_from line.place line.bytes ≡ bucket ∷ left) (has : HasWords (bucket ∷ left) words) where
-  pub entry_told : (entry : Entry)
+  pub entry_is : (entry : Entry)
       → (words_fault line.number words ≡ None) × (entry ≡ entry_in line.number words)
       → Ok (Some entry) ≡ line_read line
-  entry_told entry told = sym (line_words line bucket left words are has ∙ rw (told.0, ← told.1) refl)
+  entry_is entry given = sym (line_words line bucket left words are has ∙ rw (given.0, ← given.1) refl)
 
-  pub fault_told : (fault : ScenFault) → words_fault line.number words ≡ Some fault
+  pub fault_is : (fault : ScenFault) → words_fault line.number words ≡ Some fault
       → Err fault ≡ line_read line
-  fault_told fault told = sym (line_words line bucket left words are has ∙ rw told refl)
+  fault_is fault given = sym (line_words line bucket left words are has ∙ rw given refl)
 
 first_given : (old new : List LineAt) (line : Option PlacedLine) → GivesLine old line new
     → (slice_get old 0 ≡ line_given line) × (drop 1 old ≡ new)

@@ -10,7 +10,7 @@ use Rattle.std.proofs.lemmas.Slice.Eq.{bytes_eq-Decides}
 use Rattle.text_line.specs.Fields.{fields_of, is_blank}
 use Rattle.text_line.specs.Numbers.{number_of}
 use Rattle.text_line.proofs.Reading.{Judges}
-use Rattle.script_text.specs.declared.command.Command.{Command}
+use Rattle.script_text.specs.declared.command.ScriptCommand.{ScriptCommand}
 use Rattle.script_text.specs.declared.fault.ScriptFault.{ScriptFault}
 use Rattle.script_text.specs.declared.fault.ScriptFault.TheVariants.{Line, Long}
 use Rattle.script_text.specs.Spelling.{Names, SpellsCommand, IsBlankPiece, IsCommandPiece}
@@ -24,12 +24,12 @@ four_named : (digits : List (List ℕ)) (p : ℕ × ℕ × ℕ × ℕ) → four_
     → map number_of digits ≡ Some p.0 ∷ Some p.1 ∷ Some p.2 ∷ Some p.3 ∷ []
 four_named digits p h = grind (arith, nat_tests)
 
-made : {X : Type 0} → (f : X → Command) (numbers : Option X) (command : Command)
+made : {X : Type 0} → (f : X → ScriptCommand) (numbers : Option X) (command : ScriptCommand)
     → option_map f numbers ≡ Some command → (x : X) × (numbers ≡ Some x) × (f x ≡ command)
 made f numbers command h = grind (arith, nat_tests)
 
 -- what spells a command is read as it
-pub spelled_command : (line : List ℕ) (command : Command) → SpellsCommand line command
+pub spelled_command : (line : List ℕ) (command : ScriptCommand) → SpellsCommand line command
     → command_in (fields_of line) ≡ Some command
 spelled_command line command h = grind (arith, nat_tests)
 
@@ -39,32 +39,33 @@ module _ (line word : List ℕ) (digits : List (List ℕ)) (are : fields_of line
   named name same = are ∙ ap (λ (first : List ℕ). first ∷ digits) ((bytes_eq-Decides word name).0 same)
 
   -- a word and two numbers
-  two_read : (name : List ℕ) → bytes_eq word name ≡ true → (f : ℕ → ℕ → Command)
-      → ((x y : ℕ) → Names name (x ∷ y ∷ []) line → SpellsCommand line (f x y)) → (command : Command)
+  two_read : (name : List ℕ) → bytes_eq word name ≡ true → (f : ℕ → ℕ → ScriptCommand)
+      → ((x y : ℕ) → Names name (x ∷ y ∷ []) line → SpellsCommand line (f x y)) → (command : ScriptCommand)
       → option_map (λ p. f p.0 p.1) (two_numbers digits) ≡ Some command → SpellsCommand line command
   two_read name same f spells command is = grind (arith, nat_tests, made, named, two_named)
 
-  read_command : (command : Command) → command_in (word ∷ digits) ≡ Some command → SpellsCommand line command
+  read_command : (command : ScriptCommand) → command_in (word ∷ digits) ≡ Some command
+      → SpellsCommand line command
   read_command command is = grind (arith, cases_Bool, two_read, made, named, four_named)
 
-pub command_spelled : (line : List ℕ) (command : Command) → command_in (fields_of line) ≡ Some command
+pub command_spelled : (line : List ℕ) (command : ScriptCommand) → command_in (fields_of line) ≡ Some command
     → SpellsCommand line command
 command_spelled line command is = grind (arith, read_command)
 
 -- a line that spells a command is not blank
-not_blank : (line : List ℕ) (command : Command) → SpellsCommand line command → is_blank line ≡ false
+not_blank : (line : List ℕ) (command : ScriptCommand) → SpellsCommand line command → is_blank line ≡ false
 not_blank line command h = grind (arith, nat_tests)
 
 -- what a line is read as, by what is known of it
-abbrev read_as : ℕ → Bool → Bool → Option Command → Result (Option Command) ScriptFault
+abbrev read_as : ℕ → Bool → Bool → Option ScriptCommand → Result (Option ScriptCommand) ScriptFault
 read_as number long blank command = if long then Err (Long number) else if blank then Ok None
     else option_map_or (λ command. Ok (Some command)) command (Err (Line number))
 
-as_nothing : (number : ℕ) (long blank : Bool) (command : Option Command)
+as_nothing : (number : ℕ) (long blank : Bool) (command : Option ScriptCommand)
     → read_as number long blank command ≡ Ok None → (long ≡ false) × (blank ≡ true)
 as_nothing number long blank command h = grind (arith, nat_tests)
 
-as_command : (number : ℕ) (long blank : Bool) (found : Option Command) (command : Command)
+as_command : (number : ℕ) (long blank : Bool) (found : Option ScriptCommand) (command : ScriptCommand)
     → read_as number long blank found ≡ Ok (Some command) → (long ≡ false) × (found ≡ Some command)
 as_command number long blank found command h = grind (arith, nat_tests)
 

@@ -9,7 +9,7 @@ use Rattle.std.proofs.lemmas.Bool.{cases_Bool}
 use Rattle.text_line.specs.Left.{Numbered, numbered_from}
 use Rattle.text_line.specs.Lines.{is_line_feed, pieces_of}
 use Rattle.text_line.specs.Reading.{first_fault, fault_in, values_in, values_on, reading}
-use Rattle.script_text.specs.declared.command.Command.{Command}
+use Rattle.script_text.specs.declared.command.ScriptCommand.{ScriptCommand}
 use Rattle.script_text.specs.declared.fault.ScriptFault.{ScriptFault}
 use Rattle.script_text.specs.Lines.{piece_read}
 use Rattle.script_text.specs.Faults.{script_of}
@@ -78,7 +78,7 @@ commands-append (x ∷ xs) ys none =
     let parts = or-none (fault_in (piece_read x)) (first_fault piece_read xs) none in
     ap (with_command (piece_read x)) (commands-append xs ys parts.1) ∙ behind (piece_read x) parts.0
   where
-    behind : (r : Result (Option Command) ScriptFault) → fault_in r ≡ None
+    behind : (r : Result (Option ScriptCommand) ScriptFault) → fault_in r ≡ None
         → with_command r (commands_on xs ++ commands_on ys) ≡ with_command r (commands_on xs)
         ++ commands_on ys
     behind (Ok None) clean = refl
@@ -92,13 +92,13 @@ commands-stay [] ys fault some = absurd cc
 commands-stay (x ∷ xs) ys fault some =
     by_first (piece_read x) (λ later. commands-stay xs ys fault later) some
   where
-    by_first : (r : Result (Option Command) ScriptFault)
+    by_first : (r : Result (Option ScriptCommand) ScriptFault)
         → (first_fault piece_read xs ≡ Some fault → commands_on (xs ++ ys) ≡ commands_on xs)
         → option_or (fault_in r) (first_fault piece_read xs) ≡ Some fault
         → with_command r (commands_on (xs ++ ys)) ≡ with_command r (commands_on xs)
     by_first (Err named) stay some = refl
     by_first (Ok None) stay some = stay some
-    by_first (Ok (Some command)) stay some = ap (λ (l : List Command). command ∷ l) (stay some)
+    by_first (Ok (Some command)) stay some = ap (λ (l : List ScriptCommand). command ∷ l) (stay some)
 
 -- one line alone
 pub fault-one : (x : Numbered) → first_fault piece_read (x ∷ []) ≡ fault_in (piece_read x)
@@ -113,10 +113,10 @@ pub commands-clean : (xs : List Numbered) → first_fault piece_read xs ≡ None
 commands-clean [] none = refl
 commands-clean (x ∷ xs) none =
     let parts = or-none (fault_in (piece_read x)) (first_fault piece_read xs) none in
-    ap (λ (l : List Command). values_in (piece_read x) ++ l) (commands-clean xs parts.1)
+    ap (λ (l : List ScriptCommand). values_in (piece_read x) ++ l) (commands-clean xs parts.1)
     ∙ same (piece_read x) parts.0
   where
-    same : (r : Result (Option Command) ScriptFault) → fault_in r ≡ None
+    same : (r : Result (Option ScriptCommand) ScriptFault) → fault_in r ≡ None
         → values_in r ++ commands_on xs ≡ with_command r (commands_on xs)
     same (Ok None) clean = refl
     same (Ok (Some command)) clean = refl

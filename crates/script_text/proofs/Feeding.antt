@@ -10,7 +10,7 @@ use Rattle.std.proofs.lemmas.List.{append-nil, take-append-drop, take_more}
 use Rattle.text_line.specs.Left.{Numbered, numbered_from, numbered_pieces}
 use Rattle.text_line.specs.Lines.{is_line_feed}
 use Rattle.text_line.specs.Reading.{first_fault, fault_in, values_in}
-use Rattle.script_text.specs.declared.command.Command.{Command}
+use Rattle.script_text.specs.declared.command.ScriptCommand.{ScriptCommand}
 use Rattle.script_text.specs.declared.fault.ScriptFault.{ScriptFault}
 use Rattle.script_text.specs.declared.fault.ScriptFault.TheVariants.{Long, NoMemory}
 use Rattle.script_text.specs.declared.feeder.LineFeeder.{LineFeeder}
@@ -121,7 +121,8 @@ next-same : (feeder : LineFeeder) (text : List ℕ) → IsNext text feeder.numbe
 next-same feeder text n = grind (arith, nat_tests)
 
 -- a line feed came, and the line was judged
-pub line-taken : (feeder now : LineFeeder) (text : List ℕ) (result : Result (Option Command) ScriptFault)
+pub line-taken : (feeder now : LineFeeder) (text : List ℕ)
+    (result : Result (Option ScriptCommand) ScriptFault)
     → feeder.fault ≡ None → HasTaken feeder text
     → result ≡ piece_read (record { number = feeder.number; bytes = feeder.line.items })
     → OnOk result ((now.number ≡ feeder.number + 1) × (now.line.items ≡ []) × (now.fault ≡ None))
@@ -129,9 +130,10 @@ pub line-taken : (feeder now : LineFeeder) (text : List ℕ) (result : Result (O
 line-taken feeder now text result none h judged next kept = record {
   taken = taken result answer next kept;
   commands = commands-after text 10 ∙ commands-next (cut text) (or-none _ _ clean).0
-      ∙ ap (λ (r : Result (Option Command) ScriptFault). commands_on (whole_lines (cut text)) ++ values_in r)
+      ∙ ap (λ (r : Result (Option ScriptCommand) ScriptFault). commands_on (whole_lines (cut text))
+      ++ values_in r)
       (sym same)
-      ∙ ap (λ (l : List Command). l ++ values_in result) (sym (commands-known text));
+      ∙ ap (λ (l : List ScriptCommand). l ++ values_in result) (sym (commands-known text));
   answer = answer;
 }
   where
@@ -146,9 +148,9 @@ line-taken feeder now text result none h judged next kept = record {
 
     answer : fault_so_far (text ++ 10 ∷ []) ≡ fault_in result
     answer = fault-after text 10 ∙ fault-fed (cut text) clean
-        ∙ ap (λ (r : Result (Option Command) ScriptFault). fault_in r) (sym same)
+        ∙ ap (λ (r : Result (Option ScriptCommand) ScriptFault). fault_in r) (sym same)
 
-    taken : (r : Result (Option Command) ScriptFault) → fault_so_far (text ++ 10 ∷ []) ≡ fault_in r
+    taken : (r : Result (Option ScriptCommand) ScriptFault) → fault_so_far (text ++ 10 ∷ []) ≡ fault_in r
         → OnOk r ((now.number ≡ feeder.number + 1) × (now.line.items ≡ []) × (now.fault ≡ None))
         → IfErr r (λ fault. now.fault ≡ Some fault) → HasTaken now (text ++ 10 ∷ [])
     taken (Err fault) is next kept =
@@ -257,7 +259,7 @@ pub answers-err : (result : Result (Unit {0}) ScriptFault) (fault : ScriptFault)
 answers-err result fault known h i j = grind (arith, nat_tests)
 
 -- a fault that was kept is answered again
-pub fed-again : (feeder : LineFeeder) (text piece : List ℕ) (got : List Command) (fault : ScriptFault)
+pub fed-again : (feeder : LineFeeder) (text piece : List ℕ) (got : List ScriptCommand) (fault : ScriptFault)
     → feeder.fault ≡ Some fault → fault ≢ NoMemory → HasTaken feeder text
     → HasFed text (text ++ piece) feeder got got (Err fault)
 fed-again feeder text piece got fault is other h =
@@ -279,7 +281,7 @@ completed-text : (rest text : List ℕ) → (more : List ℕ) × (completed rest
 completed-text [] text = ([], sym (append-nil text))
 completed-text (b ∷ bytes) text = (10 ∷ [], refl)
 
-pub ended-again : (feeder : LineFeeder) (text : List ℕ) (got : List Command) (fault : ScriptFault)
+pub ended-again : (feeder : LineFeeder) (text : List ℕ) (got : List ScriptCommand) (fault : ScriptFault)
     → feeder.fault ≡ Some fault → fault ≢ NoMemory → HasTaken feeder text
     → HasEnded text feeder got got (Err fault)
 ended-again feeder text got fault is other h =
@@ -301,7 +303,7 @@ no-bytes [] none = refl
 no-bytes (b ∷ bytes) none = absurd (omega arith)
 
 -- the script ends behind a line feed
-pub ended-clean : (feeder : LineFeeder) (text : List ℕ) (got : List Command) → feeder.fault ≡ None
+pub ended-clean : (feeder : LineFeeder) (text : List ℕ) (got : List ScriptCommand) → feeder.fault ≡ None
     → length feeder.line.items ≡ 0 → HasTaken feeder text → HasEnded text feeder got got (Ok tt)
 ended-clean feeder text got none line h =
     let start : fault_so_far text ≡ None = sym h.kept ∙ none in
@@ -318,8 +320,8 @@ ended-clean feeder text got none line h =
     }
 
 -- or its last line was judged
-pub ended-judged : (feeder now : LineFeeder) (text : List ℕ) (r : Result (Option Command) ScriptFault)
-    (before got : List Command) (result : Result (Unit {0}) ScriptFault) → feeder.fault ≡ None
+pub ended-judged : (feeder now : LineFeeder) (text : List ℕ) (r : Result (Option ScriptCommand) ScriptFault)
+    (before got : List ScriptCommand) (result : Result (Unit {0}) ScriptFault) → feeder.fault ≡ None
     → HasTaken feeder text → 0 < length feeder.line.items
     → r ≡ piece_read (record { number = feeder.number; bytes = feeder.line.items })
     → HasTakenByte text 10 now r → got ≡ before ++ values_in r → Answers result (fault_in r)
@@ -344,15 +346,17 @@ ended-judged feeder now text r before got result none h some judged t added answ
           commands = record {
             more = values_in r;
             known = w.1
-                ∙ ap (λ (k : Result (Option Command) ScriptFault). commands_so_far text ++ values_in k) same;
+                ∙ ap (λ (k : Result (Option ScriptCommand) ScriptFault). commands_so_far text ++ values_in k)
+                same;
             appended = added;
           };
           answer = subst (λ (f : Option ScriptFault). Answers result f)
-              (sym (w.0 ∙ ap (λ (k : Result (Option Command) ScriptFault). fault_in k) same)) answer;
+              (sym (w.0 ∙ ap (λ (k : Result (Option ScriptCommand) ScriptFault). fault_in k) same)) answer;
         }
 
 -- a byte of a piece was refused, and so is the piece
-pub fed-stopped : (text piece : List ℕ) (place byte : ℕ) (at now : LineFeeder) (before got : List Command)
+pub fed-stopped : (text piece : List ℕ) (place byte : ℕ) (at now : LineFeeder)
+    (before got : List ScriptCommand)
     (fault : ScriptFault) (result : Result (Unit {0}) ScriptFault) → place < length piece
     → byte ≡ get_or piece place 0 → HasFed text (text ++ take place piece) at before got (Ok tt)
     → HasTakenByte (text ++ take place piece) byte now (Err fault)
@@ -384,7 +388,8 @@ fed-stopped text piece place byte at now before got fault result inside is f t e
     })
 
 -- with that byte the fault was met
-pub met-there : (text piece : List ℕ) (place byte : ℕ) (first at now : LineFeeder) (before got : List Command)
+pub met-there : (text piece : List ℕ) (place byte : ℕ) (first at now : LineFeeder)
+    (before got : List ScriptCommand)
     (fault : ScriptFault) → place < length piece → byte ≡ get_or piece place 0
     → at.taken ≡ first.taken + place → now.taken ≡ at.taken + 1
     → HasFed text (text ++ take place piece) at before got (Ok tt)
@@ -406,14 +411,14 @@ of-passed (Err e) fault P is holds = subst P (sym is) holds
 of-passed (Ok done) fault P is holds = absurd is
 
 grown-by : (text : List ℕ) (byte : ℕ) → (f : Option ScriptFault) → fault_so_far text ≡ f
-    → (more : List Command) × (commands_so_far (text ++ byte ∷ []) ≡ commands_so_far text ++ more)
+    → (more : List ScriptCommand) × (commands_so_far (text ++ byte ∷ []) ≡ commands_so_far text ++ more)
 grown-by text byte (Some fault) is =
     ([], (fault-stays text (byte ∷ []) fault is).1 ∙ sym (append-nil (commands_so_far text)))
 grown-by text byte None is = elim (cases_Bool (is_line_feed byte)) [
   | inl e ↦ (
     values_in (piece_read (next_line (cut text))),
     commands-after text byte ∙ rw e (commands-next (cut text) (or-none _ _ (known-clean text is)).0)
-        ∙ ap (λ (l : List Command). l ++ values_in (piece_read (next_line (cut text))))
+        ∙ ap (λ (l : List ScriptCommand). l ++ values_in (piece_read (next_line (cut text))))
         (sym (commands-known text)),
   )
   | inr e ↦ (
@@ -424,14 +429,14 @@ grown-by text byte None is = elim (cases_Bool (is_line_feed byte)) [
 
 -- the commands that are known stay the first ones, whatever bytes come
 pub commands-grow : (text bytes : List ℕ)
-    → (more : List Command) × (commands_so_far (text ++ bytes) ≡ commands_so_far text ++ more)
+    → (more : List ScriptCommand) × (commands_so_far (text ++ bytes) ≡ commands_so_far text ++ more)
 commands-grow text [] = ([], ap commands_so_far (append-nil text) ∙ sym (append-nil (commands_so_far text)))
 commands-grow text (byte ∷ bytes) =
     let here = grown-by text byte (fault_so_far text) refl in
     let later = commands-grow (text ++ byte ∷ []) bytes in (
       here.0 ++ later.0,
       ap commands_so_far (sym (append_assoc text (byte ∷ []) bytes)) ∙ later.1
-          ∙ ap (λ (l : List Command). l ++ later.0) here.1
+          ∙ ap (λ (l : List ScriptCommand). l ++ later.0) here.1
           ∙ append_assoc (commands_so_far text) here.0 later.0,
     )
 
@@ -441,17 +446,18 @@ unfolding cut fault_so_far commands_so_far
 begun-known = (refl, refl)
 
 -- those of the whole text begin with them
-pub commands-end : (text : List ℕ) → (more : List Command) × (commands_of text ≡ commands_so_far text ++ more)
+pub commands-end : (text : List ℕ)
+    → (more : List ScriptCommand) × (commands_of text ≡ commands_so_far text ++ more)
 commands-end text = by_fault (fault_so_far text) refl
   where
     by_rest : fault_so_far text ≡ None → (rest : List ℕ) → (cut text).rest ≡ rest
-        → (more : List Command) × (commands_of text ≡ commands_so_far text ++ more)
+        → (more : List ScriptCommand) × (commands_of text ≡ commands_so_far text ++ more)
     by_rest clean [] are = ([], (whole-clean text clean are).1 ∙ sym (append-nil (commands_so_far text)))
     by_rest clean (b ∷ bytes) are =
         (values_in (piece_read (next_line (cut text))), (whole-next text b bytes clean are).1)
 
     by_fault : (f : Option ScriptFault) → fault_so_far text ≡ f
-        → (more : List Command) × (commands_of text ≡ commands_so_far text ++ more)
+        → (more : List ScriptCommand) × (commands_of text ≡ commands_so_far text ++ more)
     by_fault (Some fault) is =
         ([], (whole-refused text fault is).1 ∙ sym (append-nil (commands_so_far text)))
     by_fault None is = by_rest is (cut text).rest refl

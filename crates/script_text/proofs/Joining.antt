@@ -6,7 +6,7 @@ use Rattle.std.specs.Prelude.{◌^◌, Result, Ok, Err, IsErrAnd}
 use Rattle.std.specs.Global.{Vec}
 use Rattle.std.proofs.lemmas.Grind.{flat_map-append}
 use Rattle.std.proofs.lemmas.List.{append-nil, take-append-drop, take_all, take_more}
-use Rattle.script_text.specs.declared.command.Command.{Command}
+use Rattle.script_text.specs.declared.command.ScriptCommand.{ScriptCommand}
 use Rattle.script_text.specs.declared.fault.ScriptFault.{ScriptFault}
 use Rattle.script_text.specs.declared.fault.ScriptFault.TheVariants.{NoMemory}
 use Rattle.script_text.specs.declared.feeder.LineFeeder.{LineFeeder}
@@ -46,7 +46,7 @@ module _ (pieces : List (Vec ℕ)) (place : ℕ) (piece : Vec ℕ) (inside : pla
       ∙ length-append (text_of (take place pieces)) piece.items in
       omega arith
 
-  fed-on : (feeder now : LineFeeder) (before got after : List Command)
+  fed-on : (feeder now : LineFeeder) (before got after : List ScriptCommand)
       (result : Result (Unit {0}) ScriptFault)
       → HasFed [] (text_of (take place pieces)) feeder before got (Ok tt)
       → HasFed (text_of (take place pieces)) (text_of (take place pieces) ++ piece.items) now got after result
@@ -54,7 +54,8 @@ module _ (pieces : List (Vec ℕ)) (place : ℕ) (piece : Vec ℕ) (inside : pla
   fed-on feeder now before got after result f t = grind (arith, text-more, append_assoc)
 
   -- or a line of it is refused
-  pub reading-stopped : (feeder now : LineFeeder) (before got after : List Command) (fault : ScriptFault)
+  pub reading-stopped : (feeder now : LineFeeder) (before got after : List ScriptCommand)
+      (fault : ScriptFault)
       (result : Result (Unit {0}) ScriptFault) → IsReading feeder pieces place before got
       → (answer : Result (Unit {0}) ScriptFault) → answer ≡ Err fault
       → (answer ≢ Err NoMemory → (text : List ℕ) → HasTaken feeder text
@@ -70,9 +71,9 @@ module _ (pieces : List (Vec ℕ)) (place : ℕ) (piece : Vec ℕ) (inside : pla
       known.0 in
       let w = whole-refused _ fault stays.0 in
       rw (text-split pieces (place + 1)) (
-        f.commands.appended ∙ ap (λ (l : List Command). before ++ l)
+        f.commands.appended ∙ ap (λ (l : List ScriptCommand). before ++ l)
             (sym (w.1 ∙ stays.1 ∙ f.commands.known
-            ∙ ap (λ (l : List Command). l ++ f.commands.more) begun-known.1)),
+            ∙ ap (λ (l : List ScriptCommand). l ++ f.commands.more) begun-known.1)),
         answers-err result fault _ e other w.0,
       )
     where
@@ -83,7 +84,7 @@ module _ (pieces : List (Vec ℕ)) (place : ℕ) (piece : Vec ℕ) (inside : pla
 
 -- all pieces were fed
 pub reading-ended : (pieces : List (Vec ℕ)) (count : ℕ) (feeder now : LineFeeder)
-    (before got after : List Command)
+    (before got after : List ScriptCommand)
     (result : Result (Unit {0}) ScriptFault) → length pieces ≤ count
     → IsReading feeder pieces count before got
     → ((text : List ℕ) → HasTaken feeder text → HasEnded text now got after result)
@@ -91,6 +92,7 @@ pub reading-ended : (pieces : List (Vec ℕ)) (count : ℕ) (feeder now : LineFe
 reading-ended pieces count feeder now before got after result all r ended =
     grind (arith, nat_tests, take_all, append_assoc, begun-known)
 
-pub reading-begun : (pieces : List (Vec ℕ)) (feeder : LineFeeder) (got : List Command) → HasTaken feeder []
+pub reading-begun : (pieces : List (Vec ℕ)) (feeder : LineFeeder) (got : List ScriptCommand)
+    → HasTaken feeder []
     → feeder.taken ≡ 0 → IsReading feeder pieces 0 got got
 reading-begun pieces feeder got h i = grind (arith, nat_tests, append-nil, begun-known)

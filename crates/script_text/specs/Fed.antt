@@ -3,7 +3,7 @@ use Rattle.std.specs.Prelude.{◌≡◌, ℕ, ◌+◌, ◌≤◌, List, [], ◌�
 use Rattle.std.specs.Prelude.{vec_capacity, Option, None, Ok, Result}
 use Rattle.std.specs.Global.{Vec}
 use Rattle.text_line.specs.Reading.{values_in, fault_in}
-use Rattle.script_text.specs.declared.command.Command.{Command}
+use Rattle.script_text.specs.declared.command.ScriptCommand.{ScriptCommand}
 use Rattle.script_text.specs.declared.fault.ScriptFault.{ScriptFault}
 use Rattle.text_line.specs.Lines.{is_line_feed}
 use Rattle.script_text.specs.declared.feeder.LineFeeder.{LineFeeder}
@@ -24,7 +24,7 @@ pub record HasTaken (feeder : LineFeeder) (text : List ℕ) : Type 0 where
 -- one byte more was taken of a script that had no fault: the command of the line that it ends became known,
 -- or the fault
 pub record HasTakenByte (text : List ℕ) (byte : ℕ) (feeder : LineFeeder)
-    (result : Result (Option Command) ScriptFault)
+    (result : Result (Option ScriptCommand) ScriptFault)
     : Type 0 where
   pub taken : HasTaken feeder (text ++ byte ∷ [])
   pub commands : commands_so_far (text ++ byte ∷ []) ≡ commands_so_far text ++ values_in result
@@ -32,7 +32,7 @@ pub record HasTakenByte (text : List ℕ) (byte : ℕ) (feeder : LineFeeder)
 
 -- more bytes were taken: the commands that became known were appended, and the answer is the fault that is
 -- known
-pub record HasFed (earlier later : List ℕ) (feeder : LineFeeder) (before now : List Command)
+pub record HasFed (earlier later : List ℕ) (feeder : LineFeeder) (before now : List ScriptCommand)
     (result : Result (Unit {0}) ScriptFault) : Type 0 where
   pub taken : HasTaken feeder later
   pub commands : Appended (commands_so_far earlier) (commands_so_far later) before now
@@ -45,14 +45,15 @@ completed (byte ∷ bytes) text = text ++ 10 ∷ []
 
 -- the script is all: the command of a last line without line feed was appended, and the answer is the first
 -- fault
-pub record HasEnded (text : List ℕ) (feeder : LineFeeder) (before now : List Command)
+pub record HasEnded (text : List ℕ) (feeder : LineFeeder) (before now : List ScriptCommand)
     (result : Result (Unit {0}) ScriptFault) : Type 0 where
   pub taken : HasTaken feeder (completed (cut text).rest text)
   pub commands : Appended (commands_so_far text) (commands_of text) before now
   pub answer : Answers result (fault_of text)
 
 -- of a piece so many bytes were taken, and no fault was met; the room suffices for the commands of the others
-pub record IsFeeding (first now : LineFeeder) (piece : List ℕ) (count : ℕ) (before got : Vec Command) : Type
+pub record IsFeeding (first now : LineFeeder) (piece : List ℕ) (count : ℕ) (before got : Vec ScriptCommand)
+    : Type
     0 where
   pub clean : now.fault ≡ None
   pub counted : now.taken ≡ first.taken + count
@@ -63,6 +64,6 @@ pub record IsFeeding (first now : LineFeeder) (piece : List ℕ) (count : ℕ) (
 
 -- so many pieces were fed, and no fault was met
 pub record IsReading (feeder : LineFeeder) (pieces : List (Vec ℕ)) (count : ℕ)
-    (before got : List Command) : Type 0 where
+    (before got : List ScriptCommand) : Type 0 where
   pub counted : feeder.taken ≡ length (text_of (take count pieces))
   pub fed : HasFed [] (text_of (take count pieces)) feeder before got (Ok tt)

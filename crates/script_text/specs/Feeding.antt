@@ -7,7 +7,7 @@ use Rattle.std.specs.Option.{option_or}
 use Rattle.text_line.specs.Left.{Numbered, numbered_from, numbered_pieces}
 use Rattle.text_line.specs.Lines.{is_line_feed}
 use Rattle.text_line.specs.Reading.{first_fault}
-use Rattle.script_text.specs.declared.command.Command.{Command}
+use Rattle.script_text.specs.declared.command.ScriptCommand.{ScriptCommand}
 use Rattle.script_text.specs.declared.fault.ScriptFault.{ScriptFault}
 use Rattle.script_text.specs.declared.fault.ScriptFault.TheVariants.{Long, NoMemory}
 use Rattle.script_text.specs.Lines.{piece_read}
@@ -33,13 +33,13 @@ cut [] = record { lines = []; rest = [] }
 cut (byte ∷ bytes) = with_first byte (cut bytes)
 
 -- a line's command behind which those of later lines come, where it is not refused
-abbrev pub with_command : Result (Option Command) ScriptFault → List Command → List Command
+abbrev pub with_command : Result (Option ScriptCommand) ScriptFault → List ScriptCommand → List ScriptCommand
 with_command (Ok (Some command)) later = command ∷ later
 with_command (Ok None) later = later
 with_command (Err fault) later = []
 
 -- the commands of the lines before the first one that is refused
-abbrev pub commands_on : List Numbered → List Command
+abbrev pub commands_on : List Numbered → List ScriptCommand
 commands_on [] = []
 commands_on (line ∷ lines) = with_command (piece_read line) (commands_on lines)
 
@@ -61,7 +61,7 @@ unfoldable pub fault_so_far : List ℕ → Option ScriptFault
 fault_so_far text = known_fault (cut text)
 
 -- the commands that are known by them: those of the lines with line feed, before the first refused one
-unfoldable pub commands_so_far : List ℕ → List Command
+unfoldable pub commands_so_far : List ℕ → List ScriptCommand
 commands_so_far text = commands_on (whole_lines (cut text))
 
 -- the first fault of a whole text, whose last line needs no line feed
@@ -69,12 +69,12 @@ unfoldable pub fault_of : List ℕ → Option ScriptFault
 fault_of text = first_fault piece_read (numbered_pieces text)
 
 -- the commands of a whole text, before its first refused line
-unfoldable pub commands_of : List ℕ → List Command
+unfoldable pub commands_of : List ℕ → List ScriptCommand
 commands_of text = commands_on (numbered_pieces text)
 
 -- so many commands were appended as make the later ones of the earlier ones
-pub record Appended (earlier later before now : List Command) : Type 0 where
-  pub more : List Command
+pub record Appended (earlier later before now : List ScriptCommand) : Type 0 where
+  pub more : List ScriptCommand
   pub known : later ≡ earlier ++ more
   pub appended : now ≡ before ++ more
 

@@ -7,8 +7,8 @@ use Rattle.text_line.specs.Lines.{without_cr}
 use Rattle.text_line.specs.Left.{Numbered}
 use Rattle.text_line.specs.Fields.{fields_of, is_blank}
 use Rattle.text_line.specs.Numbers.{number_of}
-use Rattle.script_text.specs.declared.command.Command.{Command}
-use Rattle.script_text.specs.declared.command.Command.TheVariants.{Block, Free, Flood, Query}
+use Rattle.script_text.specs.declared.command.ScriptCommand.{ScriptCommand}
+use Rattle.script_text.specs.declared.command.ScriptCommand.TheVariants.{Block, Free, Flood, Query}
 use Rattle.script_text.specs.declared.fault.ScriptFault.{ScriptFault}
 use Rattle.script_text.specs.declared.fault.ScriptFault.TheVariants.{Line, Long}
 
@@ -25,7 +25,7 @@ four_numbers (x ∷ y ∷ others) = option_and_then
 four_numbers _ = None
 
 -- the command that the fields of a line are, if they are one
-abbrev pub command_in : List (List ℕ) → Option Command
+abbrev pub command_in : List (List ℕ) → Option ScriptCommand
 command_in [] = None
 command_in (word ∷ digits) =
     if bytes_eq word (codes "block") then option_map (λ p. Block p.0 p.1) (two_numbers digits)
@@ -35,12 +35,12 @@ command_in (word ∷ digits) =
     else None
 
 -- the command of a line that still has its carriage return, if it is one
-abbrev pub command_on : List ℕ → Option Command
+abbrev pub command_on : List ℕ → Option ScriptCommand
 command_on piece = command_in (fields_of (without_cr piece))
 
 -- what a line is read as that still has its carriage return: a command, nothing where it is blank, or its
 -- fault; T2: it has more than 128 bytes; T1: it is neither blank nor a command
-abbrev pub piece_read : Numbered → Result (Option Command) ScriptFault
+abbrev pub piece_read : Numbered → Result (Option ScriptCommand) ScriptFault
 piece_read piece =
     if nat_lt 128 (length piece.bytes) then Err (Long piece.number)
     else if is_blank (without_cr piece.bytes) then Ok None

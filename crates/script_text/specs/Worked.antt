@@ -1,6 +1,6 @@
 -- Worked rows of the grammar, by computing.
 use Rattle.std.specs.Prelude.{◌≡◌, [], ◌∷◌, ◌++◌, codes, replicate, refl, Ok, Err}
-use Rattle.script_text.specs.declared.command.Command.TheVariants.{Block, Free, Flood, Query}
+use Rattle.script_text.specs.declared.command.ScriptCommand.TheVariants.{Block, Free, Flood, Query}
 use Rattle.script_text.specs.declared.fault.ScriptFault.TheVariants.{Line, Long}
 use Rattle.script_text.specs.Faults.{script_of}
 use Rattle.text_line.specs.Numbers.{number_of}

@@ -2,7 +2,7 @@
 
 /// What one line of a script asks for. Columns and rows count from 0, and may lie outside the map.
 #[derive(Clone, Copy, Debug, PartialEq, Eq)]
-pub enum Command {
+pub enum ScriptCommand {
     /// Blocks the cell in column `x` and row `y`.
     Block { x: u32, y: u32 },
     /// Makes land of the cell in column `x` and row `y`.

@@ -3,7 +3,7 @@
 ghost use Rattle.std.specs.Prelude.{◌≡◌};
 ghost use Rattle.script_text.specs.declared.fault.ScriptFault.TheVariants.{NoMemory};
 
-use crate::command::Command;
+use crate::command::ScriptCommand;
 use std::alloc::AllocFailed;
 use thiserror::Error;
 
@@ -21,10 +21,10 @@ pub enum ScriptFault {
     NoMemory,
 }
 
-impl From<AllocFailed<Command>> for ScriptFault {
+impl From<AllocFailed<ScriptCommand>> for ScriptFault {
     ghost from_gives = { λ _ fault. fault ≡ NoMemory };
 
-    fn from(_refused: AllocFailed<Command>) -> ScriptFault {
+    fn from(_refused: AllocFailed<ScriptCommand>) -> ScriptFault {
         ScriptFault::NoMemory
     }
 }

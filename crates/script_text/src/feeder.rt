@@ -3,7 +3,7 @@
 ghost use Rattle.std.specs.Prelude.{◌+◌, ◌≤◌, ◌^◌};
 ghost use Rattle.arrayvec.specs.ArrayVec.{array_vec_len};
 
-use crate::command::Command;
+use crate::command::ScriptCommand;
 use crate::fault::ScriptFault;
 use crate::reading::{MAX_LINE, command_on};
 use crate::room::make_room;
@@ -59,7 +59,7 @@ impl LineFeeder {
     /// A line of more than 128 bytes is refused as soon as its 129th byte is there. After a fault
     /// `got` has the commands of the lines before it, and each later call answers the same fault and
     /// changes nothing.
-    pub fn feed(&mut self, piece: &[u8], got: &mut Vec<Command>) -> Result<(), ScriptFault>
+    pub fn feed(&mut self, piece: &[u8], got: &mut Vec<ScriptCommand>) -> Result<(), ScriptFault>
         requires { self.old.taken + length piece.now ≤ 2 ^ 26 }
         // However the script was cut before, what is known of it now was appended and is answered.
         ensures fed { result ≢ Err NoMemory → (text : List ℕ) → HasTaken self.old text
@@ -91,7 +91,7 @@ impl LineFeeder {
     }
 
     // Takes one byte: the command of the line that it ends, if it ends one that is not blank.
-    fn take(&mut self, byte: u8) -> Result<Option<Command>, ScriptFault>
+    fn take(&mut self, byte: u8) -> Result<Option<ScriptCommand>, ScriptFault>
         requires clean { self.old.fault ≡ None }
         requires within { self.old.taken < 2 ^ 26 }
         ensures byte { (text : List ℕ) → HasTaken self.old text → HasTakenByte text byte self.new result }
@@ -114,7 +114,7 @@ impl LineFeeder {
     }
 
     // Completes the line: its command, if it is not blank.
-    fn complete(&mut self) -> Result<Option<Command>, ScriptFault>
+    fn complete(&mut self) -> Result<Option<ScriptCommand>, ScriptFault>
         requires clean { self.old.fault ≡ None }
         requires some { self.old.number ≤ self.old.taken }
         ensures judged { result
@@ -144,7 +144,7 @@ impl LineFeeder {
     /// Ends the script, and appends the command of a last line without line feed, if there is one.
     ///
     /// That line is then completed. A fault of it is kept.
-    pub fn end(&mut self, got: &mut Vec<Command>) -> Result<(), ScriptFault>
+    pub fn end(&mut self, got: &mut Vec<ScriptCommand>) -> Result<(), ScriptFault>
         ensures ended { result ≢ Err NoMemory → (text : List ℕ) → HasTaken self.old text
             → HasEnded text self.new got.old.items got.new.items result }
         ensures counted { self.new.taken ≡ self.old.taken }

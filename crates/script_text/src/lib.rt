@@ -22,7 +22,7 @@ mod pieces;
 mod reading;
 mod room;
 
-pub use command::Command;
+pub use command::ScriptCommand;
 pub use fault::ScriptFault;
 pub use feeder::LineFeeder;
 pub use pieces::read_pieces;

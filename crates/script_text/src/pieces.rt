@@ -6,14 +6,14 @@ ghost use Rattle.script_text.specs.declared.fault.ScriptFault.TheVariants.{NoMem
 ghost use Rattle.script_text.specs.Faults.{script_of};
 ghost use Rattle.script_text.specs.Feeding.{commands_of, fault_of, text_of, Answers};
 
-use crate::command::Command;
+use crate::command::ScriptCommand;
 use crate::fault::ScriptFault;
 use crate::feeder::LineFeeder;
 
 /// Appends the commands of the script that comes in these pieces, up to its first refused line.
 ///
 /// Where memory is missing, nothing is promised of `got`.
-pub fn read_pieces(pieces: &[Vec<u8>], got: &mut Vec<Command>) -> Result<(), ScriptFault>
+pub fn read_pieces(pieces: &[Vec<u8>], got: &mut Vec<ScriptCommand>) -> Result<(), ScriptFault>
     requires { length (text_of pieces.now) ≤ 2 ^ 26 }
     // However the script is cut, its commands before the first refused line are appended,
     ensures commands { result ≢ Err NoMemory

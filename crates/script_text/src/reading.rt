@@ -9,7 +9,7 @@ ghost use Rattle.script_text.specs.Lines as spec;
 ghost use Rattle.script_text.specs.Lines.{command_in, piece_read};
 ghost use Rattle.script_text.specs.Faults.{script_of, BreaksFirst, Tells};
 
-use crate::command::Command;
+use crate::command::ScriptCommand;
 use crate::fault::ScriptFault;
 use std::alloc::Global;
 use text_line::{Fields, Line, Pieces, number, without_cr};
@@ -22,7 +22,7 @@ pub(crate) const MAX_LINE: usize = 128;
 ///
 /// On one line T2 goes before T1. The text is passed over once, and memory is taken for the commands
 /// alone.
-pub fn read_script(alloc: Global, text: &[u8]) -> Result<Vec<Command>, ScriptFault>
+pub fn read_script(alloc: Global, text: &[u8]) -> Result<Vec<ScriptCommand>, ScriptFault>
     requires { length text.now ≤ 2 ^ 26 }
     // What is read is spelled so, what is spelled so is read, and a fault is that of the first line that
     // breaks the grammar.
@@ -33,7 +33,7 @@ pub fn read_script(alloc: Global, text: &[u8]) -> Result<Vec<Command>, ScriptFau
 }
 
 /// The same, whose clause is the one function of the text.
-fn read(alloc: Global, text: &[u8]) -> Result<Vec<Command>, ScriptFault>
+fn read(alloc: Global, text: &[u8]) -> Result<Vec<ScriptCommand>, ScriptFault>
     requires { length text.now ≤ 2 ^ 26 }
     ensures { Tells result (script_of text.now) }
 {
@@ -47,7 +47,7 @@ fn read(alloc: Global, text: &[u8]) -> Result<Vec<Command>, ScriptFault>
 }
 
 /// The command of a line, or none where it is blank.
-pub(crate) fn command_on(piece: Line<'_>) -> Result<Option<Command>, ScriptFault>
+pub(crate) fn command_on(piece: Line<'_>) -> Result<Option<ScriptCommand>, ScriptFault>
     ensures { result ≡ piece_read (numbered piece.entry) }
 {
     if piece.bytes.len() > MAX_LINE {
@@ -64,21 +64,21 @@ pub(crate) fn command_on(piece: Line<'_>) -> Result<Option<Command>, ScriptFault
 }
 
 /// The command of a word and the fields after it, if they are one.
-fn command_of(word: &[u8], fields: Fields<'_>) -> Option<Command>
+fn command_of(word: &[u8], fields: Fields<'_>) -> Option<ScriptCommand>
     ensures { result ≡ command_in (word.now ∷ fields.entry) }
 {
     if word == b"block".as_slice() {
         let (x, y) = two_numbers(fields)?;
-        Some(Command::Block { x, y })
+        Some(ScriptCommand::Block { x, y })
     } else if word == b"free".as_slice() {
         let (x, y) = two_numbers(fields)?;
-        Some(Command::Free { x, y })
+        Some(ScriptCommand::Free { x, y })
     } else if word == b"flood".as_slice() {
         let (x, y) = two_numbers(fields)?;
-        Some(Command::Flood { x, y })
+        Some(ScriptCommand::Flood { x, y })
     } else if word == b"query".as_slice() {
         let (sx, sy, gx, gy) = four_numbers(fields)?;
-        Some(Command::Query { sx, sy, gx, gy })
+        Some(ScriptCommand::Query { sx, sy, gx, gy })
     } else {
         None
     }

@@ -19,7 +19,7 @@ use Rattle.best_first.specs.declared.node.Node.{Node}
 use Rattle.best_first.specs.declared.state.Layout.{Layout}
 use Rattle.best_first.specs.Progress.{HasOffered}
 use Rattle.best_first.specs.Space.{SpaceData, KeepsShape}
-use Rattle.best_first.specs.State.{state_number, state_told}
+use Rattle.best_first.specs.State.{state_number, state_of_place}
 use Rattle.best_first.specs.Table.{Table, closed_at, IsFirstNode, NoneOpen}
 use Rattle.best_first.specs.Trace.{node_cell}
 use Rattle.search_core.specs.Counting.{IsCounted}
@@ -37,7 +37,8 @@ use Rattle.search_core.proofs.Standing.{has_next, reached_next}
 
 -- a state's steps: a call for its directions, and one for each of eight
 pub counted_one : {most : Option StepsByCall} {fewest : ℕ} (n : ℕ) {a b c : ℕ} → n ≤ 8
-    → IsWithin most (λ told. told.allowed) a b → IsWithin most (λ told. n * told.stop) b c → a + fewest ≤ b
+    → IsWithin most (λ known. known.allowed) a b → IsWithin most (λ known. n * known.stop) b c
+    → a + fewest ≤ b
     → b ≤ c → IsCounted most fewest 1 a c
 counted_one n few first then low on = record {
   within = grind (arith, nat_tests, common_steps, within_then);
@@ -56,10 +57,10 @@ module _ {layout : Layout} {Stands : GridData → Type 0} {s t : Cell} {at : ℕ
   ranked some n read = key_enough some.1 (reached some.0 some.1)
       (ap (λ (k : Table). slice_get k.nodes at) (sym table) ∙ read)
 
-  module _ {last : Last} (told : (n : Node) → slice_get mid.table.nodes at ≡ Some n → last ≡ last_at t at n)
+  module _ {last : Last} (known : (n : Node) → slice_get mid.table.nodes at ≡ Some n → last ≡ last_at t at n)
       {by : Arrival} (by_is : by ≡ come_to last.state.arrival) where
     arrived : OnEach Stands s t (λ g. HasArrived g last.state)
-    arrived g v = arrived_at v (reached g v) shape table told
+    arrived g v = arrived_at v (reached g v) shape table known
 
     can_arrive : OnEach Stands s t (λ g. CanArrive g last.state.cell by)
     can_arrive g v = subst (λ (a : Arrival). CanArrive g last.state.cell a) (sym by_is) (arrived g v).arrival
@@ -70,7 +71,7 @@ module _ {layout : Layout} {Stands : GridData → Type 0} {s t : Cell} {at : ℕ
         (some.0, some.1.stands, (arrived some.0 some.1).free, can_arrive some.0 some.1)
 
     pub offering : OnEach Stands s t (λ g. IsOffering layout g s t last mid)
-    offering g v = offering_at v (reached g v) shape table told
+    offering g v = offering_at v (reached g v) shape table known
 
     module _ {dirs : List Dir}
         (rule : (g : GridData) → Stands g → IsTrue (is_free g last.state.cell)
@@ -99,7 +100,7 @@ module _ {layout : Layout} {Stands : GridData → Type 0} {s t : Cell} {at : ℕ
           ≡ false) where
         offered : OnEach Stands s t (λ g. HasOffered layout g.width t (jump_links layout g t) s at done.table
             taken)
-        offered g v = offered_at v (reached g v) shape table told (allowed g v) (jumps g v) open_ended
+        offered g v = offered_at v (reached g v) shape table known (allowed g v) (jumps g v) open_ended
 
         pub ended : NoneOpen done.table → OnEach Stands s t (λ g. IsExhausted layout g s t taken)
         ended none g v = none_waits v (reached g v).of.whole (offered g v) none
@@ -116,7 +117,7 @@ module _ {layout : Layout} {Stands : GridData → Type 0} {s t : Cell} {at : ℕ
             on_map some = let n = next some.0 some.1 in (some.0, some.1.stands, n.on, n.row)
 
             pub reached_on : KeepsShape done new → new.table ≡ closed_at id done.table → {number : ℕ}
-                → ((g : GridData) → Stands g → number ≡ state_number g.width (state_told node.place))
+                → ((g : GridData) → Stands g → number ≡ state_number g.width (state_of_place node.place))
                 → {after : List ℕ} → after ≡ taken ++ number ∷ []
                 → OnEach Stands s t (λ g. HasReached layout g s t id new after)
             reached_on shape_last closed is pushed g v =

@@ -13,7 +13,7 @@ within_none m f old = grind (arith, nat_tests, common_steps)
 
 -- one bound after the other
 pub within_then : (m : Option StepsByCall) (f h q : StepsByCall → ℕ) (old mid new : ℕ) → IsWithin m f old mid
-    → IsWithin m h mid new → ((told : StepsByCall) → f told + h told ≤ q told) → IsWithin m q old new
+    → IsWithin m h mid new → ((known : StepsByCall) → f known + h known ≤ q known) → IsWithin m q old new
 within_then m f h q old mid new h1 h2 h3 = grind (arith, nat_tests, common_steps)
 
 -- a state more
@@ -34,4 +34,4 @@ counted_further {most} {fewest} {taken} {after} {a} {b} {c} h e one = record {
 pub within_taken : (most : Option StepsByCall) (fewest : ℕ) (taken : List ℕ) (a b : ℕ) (f : Found)
     → IsCountedSoFar most fewest taken a b → f.taken ≡ taken → IsWithinTaken most f a b
 within_taken None fewest taken a b f h e = tt
-within_taken (Some told) fewest taken a b f h e = grind (arith, nat_tests, common_steps)
+within_taken (Some known) fewest taken a b f h e = grind (arith, nat_tests, common_steps)

@@ -182,10 +182,10 @@ kept_arrived ByArrival u s = refl
 kept_arrived ByCell u s = refl
 
 -- what stands in a node's place is the state as it was come to
-pub shown_told : (layout : Layout) (p u told : State) → u ≡ state_in layout told
-    → is_same_state told (arrived_in layout p told) ≡ true → arrived_in layout p u ≡ told
-shown_told layout p u told e led = ap (λ (s : State). arrived_in layout p s) e ∙ kept_arrived layout p told
-    ∙ sym (is_same_state-state told (arrived_in layout p told) led)
+pub shown_kept : (layout : Layout) (p u kept : State) → u ≡ state_in layout kept
+    → is_same_state kept (arrived_in layout p kept) ≡ true → arrived_in layout p u ≡ kept
+shown_kept layout p u kept e led = ap (λ (s : State). arrived_in layout p s) e ∙ kept_arrived layout p kept
+    ∙ sym (is_same_state-state kept (arrived_in layout p kept) led)
 
 -- a link of the search is a jump between states as they were come to
 pub record IsStep (layout : Layout) (g : GridData) (goal : Cell) (p u v : State) (c : Cost) : Type 0 where

@@ -102,8 +102,8 @@ pub record IsSoFar (layout : Layout) (Stands : GridData → Type 0) (s t : Cell)
   pub jumped : OnEach Stands s t
       (λ g. jumped layout g t last left new.table ≡ jumped layout g t last dirs old.table)
   pub room : length left ≤ new.spare
-  pub within : (end : ℕ) → IsWithin most (λ told. length left * told.stop) after end
-      → IsWithin most (λ told. length dirs * told.stop) before end
+  pub within : (end : ℕ) → IsWithin most (λ known. length left * known.stop) after end
+      → IsWithin most (λ known. length dirs * known.stop) before end
 
 module _ {layout : Layout} {Stands : GridData → Type 0} {s t : Cell} {last : Last} {most : Option StepsByCall}
     {dirs : List Dir} {old mid : SpaceData} {before at : ℕ} where
@@ -118,7 +118,7 @@ module _ {layout : Layout} {Stands : GridData → Type 0} {s t : Cell} {last : L
   pub at_next : {others : List Dir} {first : Dir} {new : SpaceData} {after : ℕ}
       → IsSoFar layout Stands s t last most dirs (first ∷ others) old mid before at
       → OnEach Stands s t (λ g. new.table ≡ jumped_in layout g t last first mid.table)
-      → KeepsShape mid new → mid.spare ≤ new.spare + 1 → IsWithin most (λ told. told.stop) at after
+      → KeepsShape mid new → mid.spare ≤ new.spare + 1 → IsWithin most (λ known. known.stop) at after
       → IsSoFar layout Stands s t last most dirs others old new before after
   at_next {others} {first} {new} {after} so step shape spare steps = record {
     offering = λ g v. let o = so.offering g v in record {
@@ -134,9 +134,10 @@ module _ {layout : Layout} {Stands : GridData → Type 0} {s t : Cell} {last : L
     allowed = λ g v. (so.allowed g v).1;
     jumped = λ g v. ap (λ (k : Table). jumped layout g t last others k) (step g v) ∙ so.jumped g v;
     room = let r = so.room in omega (arith, r, spare);
-    within = λ end w. so.within end (within_then most (λ told. told.stop) (λ told. length others * told.stop)
-        (λ told. length (first ∷ others) * told.stop) at after end steps w
-        (λ told. one_more (length others) told.stop));
+    within =
+        λ end w. so.within end (within_then most (λ known. known.stop) (λ known. length others * known.stop)
+        (λ known. length (first ∷ others) * known.stop) at after end steps w
+        (λ known. one_more (length others) known.stop));
   }
     where
       one_more : (n s : ℕ) → s + n * s ≤ suc n * s
@@ -146,21 +147,21 @@ module _ {layout : Layout} {Stands : GridData → Type 0} {s t : Cell} {last : L
   pub at_last : {left : List Dir} → IsSoFar layout Stands s t last most dirs left old mid before at
       → left ≡ []
       → OnEach Stands s t (λ g. mid.table ≡ jumped layout g t last dirs old.table)
-      × IsWithin most (λ told. length dirs * told.stop) before at
+      × IsWithin most (λ known. length dirs * known.stop) before at
   at_last so none =
       let all =
       subst (λ (ds : List Dir). IsSoFar layout Stands s t last most dirs ds old mid before at) none so in
-      (λ g v. all.jumped g v, all.within at (within_none most (λ told. 0 * told.stop) at))
+      (λ g v. all.jumped g v, all.within at (within_none most (λ known. 0 * known.stop) at))
 
 -- the cell of a node that was read differs from t or not: so does that of whatever node stands there
 module _ (nodes : List Node) (at : ℕ) (r n : Node) (c t : Cell) {differs : Bool}
     (read : slice_get nodes at ≡ Some r)
-    (is : c ≡ node_cell r) (told : differs ≡ not (is_same c t)) (there : slice_get nodes at ≡ Some n) where
+    (is : c ≡ node_cell r) (known : differs ≡ not (is_same c t)) (there : slice_get nodes at ≡ Some n) where
   cell_there : node_cell n ≡ c
   cell_there = ap (λ (m : Node). node_cell m) (some_node n r (sym there ∙ read)) ∙ sym is
 
   pub differs_there : differs ≡ true → is_same (node_cell n) t ≡ false
-  differs_there e = ap (λ (u : Cell). is_same u t) cell_there ∙ not-true (is_same c t) (sym told ∙ e)
+  differs_there e = ap (λ (u : Cell). is_same u t) cell_there ∙ not-true (is_same c t) (sym known ∙ e)
 
   pub same_there : differs ≡ false → node_cell n ≡ t
-  same_there e = cell_there ∙ is_same-cell c t (not-false (is_same c t) (sym told ∙ e))
+  same_there e = cell_there ∙ is_same-cell c t (not-false (is_same c t) (sym known ∙ e))

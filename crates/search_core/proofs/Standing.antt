@@ -20,7 +20,7 @@ use Rattle.best_first.specs.declared.state.State.{State}
 use Rattle.best_first.specs.declared.state.Layout.{Layout}
 use Rattle.best_first.specs.Progress.{HasTaken, HasOffered}
 use Rattle.best_first.specs.Space.{SpaceData, KeepsShape}
-use Rattle.best_first.specs.State.{state_number, state_told, start_at}
+use Rattle.best_first.specs.State.{state_number, state_of_place, start_at}
 use Rattle.best_first.specs.Table.{Table, begun, closed_at, IsFirstNode, NoneOpen}
 use Rattle.best_first.specs.Trace.{HasBack, IsWayTo, node_cell}
 use Rattle.best_first.specs.Ways.{with_all}
@@ -36,7 +36,7 @@ use Rattle.search_core.specs.Room.{HasPlaces}
 use Rattle.search_core.specs.Serving.{IsServed}
 use Rattle.search_core.specs.declared.jumping.Last.{Last}
 use Rattle.search_core.proofs.Arrivals.{HasArrived, run_arrived, shown}
-use Rattle.search_core.proofs.Links.{shown_told, start_arrived}
+use Rattle.search_core.proofs.Links.{shown_kept, start_arrived}
 use Rattle.search_core.proofs.Offers.{fit, ways_in, all_allowed, all_dirs_offered, all_offered}
 use Rattle.search_core.proofs.Serving.{same_shape}
 
@@ -44,7 +44,7 @@ use Rattle.search_core.proofs.Serving.{same_shape}
 pub record HasNext (layout : Layout) (g : GridData) (s t : Cell) (id : ℕ) (node : Node) (k : Table)
     (taken : List ℕ) : Type 0 where
   pub has : HasTaken layout g.width t (jump_links layout g t) s id (closed_at id k)
-      (taken ++ state_number g.width (state_told node.place) ∷ [])
+      (taken ++ state_number g.width (state_of_place node.place) ∷ [])
   pub on : (node_cell node).x < g.width
   pub row : (node_cell node).y < g.height
 
@@ -87,11 +87,12 @@ module _ {layout : Layout} {Stands : GridData → Type 0} {s t : Cell} {g : Grid
       kept_is = sym h.has.searching.state ∙ ap (λ (m : Node). state_of layout m) one_node
 
       cell_is : h.has.last.state.cell ≡ node_cell n
-      cell_is = ap (λ (u : State). u.cell) kept_is ∙ in_cell layout (state_told n.place)
+      cell_is = ap (λ (u : State). u.cell) kept_is ∙ in_cell layout (state_of_place n.place)
 
-      pub state_is : shown layout h.has.last ≡ state_told n.place
-      state_is = shown_told layout h.has.last.parent h.has.last.state (state_told n.place) kept_is
-          (ap (λ (m : Node). (jump_links layout g t).led h.has.last.parent (state_told m.place)) (sym one_node)
+      pub state_is : shown layout h.has.last ≡ state_of_place n.place
+      state_is = shown_kept layout h.has.last.parent h.has.last.state (state_of_place n.place) kept_is
+          (ap (λ (m : Node). (jump_links layout g t).led h.has.last.parent (state_of_place m.place))
+          (sym one_node)
           ∙ last_led h.has.searching)
 
       key_is : n.key ≡ rank_of h.has.last.cost + rank_of (estimate (node_cell n) t)
@@ -131,18 +132,19 @@ module _ {layout : Layout} {Stands : GridData → Type 0} {s t : Cell} {g : Grid
       }
 
       -- the state's cell is free, and it can be come to so
-      pub state_arrived : HasArrived g (state_told n.place)
+      pub state_arrived : HasArrived g (state_of_place n.place)
       state_arrived = subst (λ (u : State). HasArrived g u) state_is
           (run_arrived layout g s t served.from (h.has.last ∷ h.has.earlier) h.has.searching.run h.has.last
           (here h.has.earlier))
 
       -- after all its offers
       pub has_offered : {k : Table} {dirs : List Dir}
-          → dirs ≡ allowed_dirs g (state_told n.place).cell (come_to (state_told n.place).arrival)
+          → dirs ≡ allowed_dirs g (state_of_place n.place).cell (come_to (state_of_place n.place).arrival)
           → k ≡ jumped layout g t (last_at t at n) dirs space.table → is_same (node_cell n) t ≡ false
           → HasOffered layout g.width t (jump_links layout g t) s at k taken
       has_offered {k} {dirs} allowed table open_ended =
-          let all = all_allowed g (state_told n.place).cell (come_to (state_told n.place).arrival) dirs
+          let all = all_allowed g (state_of_place n.place).cell
+          (come_to (state_of_place n.place).arrival) dirs
           allowed in
           all_offered layout g s t (last_at t at n) whole served.from served.to h.has.last h.has.earlier dirs all k
           taken
@@ -156,30 +158,31 @@ module _ {layout : Layout} {Stands : GridData → Type 0} {s t : Cell} {g : Grid
 
     -- in code the node is read once room was made
     module _ {mid : SpaceData} (shape : KeepsShape space mid) (table : mid.table ≡ space.table)
-        {last : Last} (told : (n : Node) → slice_get mid.table.nodes at ≡ Some n → last ≡ last_at t at n) where
-      last_is : last ≡ last_at t at h.has.searching.node
-      last_is = told h.has.searching.node
-          (ap (λ (k : Table). slice_get k.nodes at) table ∙ h.has.searching.node_is)
+        {last : Last} (known : (n : Node) → slice_get mid.table.nodes at ≡ Some n → last ≡ last_at t at n)
+      where
+        last_is : last ≡ last_at t at h.has.searching.node
+        last_is = known h.has.searching.node
+            (ap (λ (k : Table). slice_get k.nodes at) table ∙ h.has.searching.node_is)
 
-      pub offering_at : IsOffering layout g s t last mid
-      offering_at = subst (λ (l : Last). IsOffering layout g s t l mid) (sym last_is)
-          (offering_first h.has.searching.node_is shape table)
+        pub offering_at : IsOffering layout g s t last mid
+        offering_at = subst (λ (l : Last). IsOffering layout g s t l mid) (sym last_is)
+            (offering_first h.has.searching.node_is shape table)
 
-      pub arrived_at : HasArrived g last.state
-      arrived_at = subst (λ (l : Last). HasArrived g l.state) (sym last_is)
-          (state_arrived h.has.searching.node_is)
+        pub arrived_at : HasArrived g last.state
+        arrived_at = subst (λ (l : Last). HasArrived g l.state) (sym last_is)
+            (state_arrived h.has.searching.node_is)
 
-      pub offered_at : {dirs : List Dir} {k : Table}
-          → dirs ≡ allowed_dirs g last.state.cell (come_to last.state.arrival)
-          → k ≡ jumped layout g t last dirs mid.table
-          → ((n : Node) → slice_get space.table.nodes at ≡ Some n → is_same (node_cell n) t ≡ false)
-          → HasOffered layout g.width t (jump_links layout g t) s at k taken
-      offered_at {dirs} allowed jumps open_ended =
-          has_offered h.has.searching.node_is
-          (allowed ∙ ap (λ (l : Last). allowed_dirs g l.state.cell (come_to l.state.arrival)) last_is)
-          (jumps ∙ ap (λ (l : Last). jumped layout g t l dirs mid.table) last_is
-          ∙ ap (λ (j : Table). jumped layout g t (last_at t at h.has.searching.node) dirs j) table)
-          (open_ended h.has.searching.node h.has.searching.node_is)
+        pub offered_at : {dirs : List Dir} {k : Table}
+            → dirs ≡ allowed_dirs g last.state.cell (come_to last.state.arrival)
+            → k ≡ jumped layout g t last dirs mid.table
+            → ((n : Node) → slice_get space.table.nodes at ≡ Some n → is_same (node_cell n) t ≡ false)
+            → HasOffered layout g.width t (jump_links layout g t) s at k taken
+        offered_at {dirs} allowed jumps open_ended =
+            has_offered h.has.searching.node_is
+            (allowed ∙ ap (λ (l : Last). allowed_dirs g l.state.cell (come_to l.state.arrival)) last_is)
+            (jumps ∙ ap (λ (l : Last). jumped layout g t l dirs mid.table) last_is
+            ∙ ap (λ (j : Table). jumped layout g t (last_at t at h.has.searching.node) dirs j) table)
+            (open_ended h.has.searching.node h.has.searching.node_is)
 
   -- none waits
   pub none_waits : {at : ℕ} {k : Table} {taken : List ℕ} → IsGrid g
@@ -192,13 +195,13 @@ module _ {layout : Layout} {Stands : GridData → Type 0} {s t : Cell} {g : Grid
       → IsFirstNode k id → slice_get k.nodes id ≡ Some node → HasNext layout g s t id node k taken
   has_next whole o {id} {node} first read =
       let has = next_taken (fit layout g s t whole served.from served.to) o id node first read
-      (state_number g.width (state_told node.place))
+      (state_number g.width (state_of_place node.place))
       (λ p led. ap (λ (u : State). state_number g.width u)
-      (sym (shown_told layout p (state_of layout node) (state_told node.place) refl led))) in
+      (sym (shown_kept layout p (state_of layout node) (state_of_place node.place) refl led))) in
       let one : has.searching.node ≡ node = same_Some _ _ (sym has.searching.node_is ∙ read) in
       let cell : has.last.state.cell ≡ node_cell node =
       ap (λ (u : State). u.cell) (sym has.searching.state ∙ ap (λ (m : Node). state_of layout m) one)
-      ∙ in_cell layout (state_told node.place) in
+      ∙ in_cell layout (state_of_place node.place) in
       let arrived = run_arrived layout g s t served.from (has.last ∷ has.earlier) has.searching.run has.last
       (here has.earlier) in
       let inside = free_inside g has.last.state.cell arrived.free in
@@ -211,7 +214,8 @@ module _ {layout : Layout} {Stands : GridData → Type 0} {s t : Cell} {g : Grid
   pub reached_next : {id : ℕ} {node : Node} {mid new : SpaceData} {before taken : List ℕ}
       → IsSpaceOf layout g mid → KeepsShape mid new → HasNext layout g s t id node mid.table before
       → new.table ≡ closed_at id mid.table
-      → taken ≡ before ++ state_number g.width (state_told node.place) ∷ [] → HasReached layout g s t id new taken
+      → taken ≡ before ++ state_number g.width (state_of_place node.place) ∷ []
+      → HasReached layout g s t id new taken
   reached_next {id} of shape next table numbers = record {
     of = same_shape of shape;
     has = rw (table, numbers) next.has;
@@ -228,7 +232,7 @@ module _ {layout : Layout} {Stands : GridData → Type 0} {s t : Cell} {g : Grid
         → IsFound layout g s t points cost taken
     found_at at_goal points cost way =
         found_back (fit layout g s t h.of.whole served.from served.to) (λ cells. cells) h.has
-        (λ n e. in_cell layout (state_told n.place) ∙ at_goal n e) points
+        (λ n e. in_cell layout (state_of_place n.place) ∙ at_goal n e) points
         points cost way refl
 
     -- there are at most nine states for each of 2^24 cells

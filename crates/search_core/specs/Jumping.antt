@@ -17,7 +17,7 @@ use Rattle.best_first.specs.declared.state.Layout.{Layout}
 use Rattle.best_first.specs.Mirror.{Offers, IsSearching}
 use Rattle.best_first.specs.Progress.{HasTaken}
 use Rattle.best_first.specs.Space.{SpaceData}
-use Rattle.best_first.specs.State.{state_told, arrived_in}
+use Rattle.best_first.specs.State.{state_of_place, arrived_in}
 use Rattle.best_first.specs.Table.{Table, offered}
 use Rattle.best_first.specs.Trace.{rank_left}
 use Rattle.search_core.specs.declared.jumping.Last.{Last}
@@ -34,7 +34,7 @@ pub record IsSpaceOf (layout : Layout) (g : GridData) (space : SpaceData) : Type
 
 -- what is known of a state by its node
 abbrev pub last_at : Cell → ℕ → Node → Last
-last_at goal at n = record { at = at; rank = rank_left goal n; state = state_told n.place }
+last_at goal at n = record { at = at; rank = rank_left goal n; state = state_of_place n.place }
 
 -- the column and the row after k moves
 abbrev pub column_after : Dir → ℕ → ℕ → ℕ

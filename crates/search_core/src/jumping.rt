@@ -166,7 +166,7 @@ fn offer_jump<const BY_CELL: bool, J: JumpSource, L: Ledger, M: Ledger>(
         (λ g. space.new.table ≡ spec.jumped_in (layout_by BY_CELL) g query.to last d space.old.table) }
     ensures shape { KeepsShape space.old space.new }
     ensures spare { space.old.spare ≤ space.new.spare + 1 }
-    ensures most { IsWithin (J.most j.now) (λ told. told.stop) steps.old steps.new }
+    ensures most { IsWithin (J.most j.now) (λ known. known.stop) steps.old steps.new }
     ensures fewest { steps.old ≤ steps.new }
 {
     if let Some(k) = j.stop(last.state.cell, d, query.to, steps) {
@@ -174,7 +174,7 @@ fn offer_jump<const BY_CELL: bool, J: JumpSource, L: Ledger, M: Ledger>(
     }
 }
 
-// Offers the jumps in these directions, told as a constant which states a cell has.
+// Offers the jumps in these directions, given as a constant which states a cell has.
 fn offer_all<const BY_CELL: bool, J: JumpSource, L: Ledger, M: Ledger>(
     j: &J,
     query: Query,
@@ -193,7 +193,7 @@ fn offer_all<const BY_CELL: bool, J: JumpSource, L: Ledger, M: Ledger>(
     ensures jumped { OnEach (J.StandsFor j.now) query.from query.to
         (λ g. space.new.table ≡ spec.jumped (layout_by BY_CELL) g query.to last dirs space.old.table) }
     ensures shape { KeepsShape space.old space.new }
-    ensures most { IsWithin (J.most j.now) (λ told. length dirs * told.stop) steps.old steps.new }
+    ensures most { IsWithin (J.most j.now) (λ known. length dirs * known.stop) steps.old steps.new }
     ensures fewest { steps.old ≤ steps.new }
 {
     let mut left = dirs;
@@ -223,7 +223,7 @@ pub(crate) fn offer_jumps<J: JumpSource, L: Ledger, M: Ledger>(
     ensures jumped { OnEach (J.StandsFor j.now) query.from query.to
         (λ g. space.new.table ≡ spec.jumped query.layout g query.to last dirs space.old.table) }
     ensures shape { KeepsShape space.old space.new }
-    ensures most { IsWithin (J.most j.now) (λ told. length dirs * told.stop) steps.old steps.new }
+    ensures most { IsWithin (J.most j.now) (λ known. length dirs * known.stop) steps.old steps.new }
     ensures fewest { steps.old ≤ steps.new }
 {
     match query.layout {

@@ -8,7 +8,7 @@ ghost use Rattle.search_core.specs.Laws.{CostsFit, EstimateSuits, RunsAreRight};
 
 /// The answer of the jump engines' run is a function of its states, the grid and the two cells: it is right
 /// where the first is free, and no other answer is the run's, whichever source found the jumps.
-pub fn answers_are_told()
+pub fn answers_are_found()
     ensures { (layout : Layout) → AnswersAre (IsJumpRun layout) (jump_found layout) }
 {}
 

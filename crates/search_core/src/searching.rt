@@ -14,7 +14,7 @@ ghost use Rattle.grid_moves.specs.Grid.{GridData, IsGrid, is_free};
 ghost use Rattle.grid_moves.specs.Move.{is_same};
 ghost use Rattle.pruning.specs.Source.{IsWithin};
 ghost use Rattle.best_first.specs.Space.{KeepsShape};
-ghost use Rattle.best_first.specs.State.{state_number, state_told};
+ghost use Rattle.best_first.specs.State.{state_number, state_of_place};
 ghost use Rattle.best_first.specs.Trace.{node_cell};
 ghost use Rattle.path_points.specs.Least.{IsLeastOrNone};
 ghost use Rattle.search_core.specs.Answer.{IsJumpRun};
@@ -60,7 +60,8 @@ fn begin<J: JumpSource, M: Ledger>(
 fn number_at<J: JumpSource>(j: &J, node: Node) -> u32
     requires { (g : GridData) × J.StandsFor j.now g
         × ((node_cell node).x < g.width) × ((node_cell node).y < g.height) }
-    ensures { (g : GridData) → J.StandsFor j.now g → result ≡ state_number g.width (state_told node.place) }
+    ensures { (g : GridData) → J.StandsFor j.now g
+        → result ≡ state_number g.width (state_of_place node.place) }
 {
     let state = State {
         cell: node.place.cell(),

@@ -54,8 +54,8 @@ fn are_found<const WIDTH: usize, const HEIGHT: usize>(
     let mut k: usize = 0;
     for y in 0..height {
         for x in 0..width {
-            let (c, told) = (Cell { x, y }, rows[usize::from(y)][usize::from(x)]);
-            if (waves.cost(c), waves.first_dirs(c)) != told || listed.get(k) != Some(&told.0) {
+            let (c, known) = (Cell { x, y }, rows[usize::from(y)][usize::from(x)]);
+            if (waves.cost(c), waves.first_dirs(c)) != known || listed.get(k) != Some(&known.0) {
                 return Ok(false);
             }
             k = k.saturating_add(1);
@@ -116,7 +116,7 @@ fn moves_come_in_either_order(rt: HostRuntime) -> Result<(), Fail> {
 
 // On `..@./..@.` the last column is free, and cut off. A map of one cell has no move.
 #[test]
-fn nothing_is_told_of_a_part_cut_off(rt: HostRuntime) -> Result<(), Fail> {
+fn nothing_is_known_of_a_part_cut_off(rt: HostRuntime) -> Result<(), Fail> {
     let mut waves = CostWaves::new(rt.alloc(), 4, 2)?;
     let rows = [
         [at(0, 1, NW), at(1, 0, N), NOWHERE, NOWHERE],

@@ -28,14 +28,14 @@ fn are_boxes(alloc: Global, grid: &Grid, c: Cell, boxes: CellBoxes) -> Result<bo
 // Whether this was found: points and cost, or no walk, and the taken states.
 fn is_wanted(found: &Found, walk: Option<(&[Cell], Cost)>, states: &[u32]) -> bool {
     let same = match &found.walk {
-        Some(told) => walk == Some((told.points.as_slice(), told.cost)),
+        Some(wanted) => walk == Some((wanted.points.as_slice(), wanted.cost)),
         None => walk.is_none(),
     };
     same && found.taken.as_slice() == states
 }
 
 // Whether the search from the upper left cell finds this by kept boxes, and by passes.
-fn is_told<L: Ledger>(
+fn finds_it<L: Ledger>(
     alloc: Global,
     grid: &Grid,
     to: Cell,
@@ -66,7 +66,7 @@ fn is_answer(
     walk: Option<(&[Cell], Cost)>,
     states: &[u32],
 ) -> Result<bool, NoMemory> {
-    is_told::<Brand>(alloc, grid, to, walk, states, Blank::new(1))
+    finds_it::<Brand>(alloc, grid, to, walk, states, Blank::new(1))
 }
 
 // From the upper left of the open map of three by three cells. To (2,1) and to (1,2) least walks begin both

@@ -40,13 +40,13 @@ fn lowers<L: Ledger>(pool: &mut Pool<Number>, id: u32, to: u32, steps: &mut Step
 }
 
 #[derive(Debug, Drop, PartialEq)]
-struct Told {
+struct Answers {
     numbers: [u32; 3],
     lowered: bool,
     first: [Option<u32>; 4],
 }
 
-fn three_numbers<L: Ledger>(alloc: Global, blank: Blank) -> Result<Told, NoMemory>
+fn three_numbers<L: Ledger>(alloc: Global, blank: Blank) -> Result<Answers, NoMemory>
     requires name { blank.name ≡ L.name }
     requires parts { blank.parts ≡ L.parts }
     requires some { 0 < L.parts }
@@ -62,7 +62,7 @@ fn three_numbers<L: Ledger>(alloc: Global, blank: Blank) -> Result<Told, NoMemor
     let b = pool.pop(&mut steps);
     let c = pool.pop(&mut steps);
     let d = pool.pop(&mut steps);
-    Ok(Told {
+    Ok(Answers {
         numbers: [five, seven, nine],
         lowered,
         first: [a, b, c, d],
@@ -72,13 +72,13 @@ fn three_numbers<L: Ledger>(alloc: Global, blank: Blank) -> Result<Told, NoMemor
 // By hand: 9 goes to 4, which is then the smallest.
 #[test]
 fn a_lowered_number_comes_first(rt: HostRuntime) {
-    let told = three_numbers::<Brand>(rt.alloc(), Blank::new(1));
-    let expected = Told {
+    let answers = three_numbers::<Brand>(rt.alloc(), Blank::new(1));
+    let expected = Answers {
         numbers: [0, 1, 2],
         lowered: true,
         first: [Some(2), Some(0), Some(1), None],
     };
-    assert_eq!(rt; told, Ok(expected));
+    assert_eq!(rt; answers, Ok(expected));
 }
 
 /// An open list as a plain list: the number of each node, or `None` once it is closed.
@@ -204,8 +204,8 @@ fn two_rounds<L: Ledger>(
 // `clear`.
 #[test]
 fn a_plain_scan_agrees(rt: HostRuntime) {
-    let told = two_rounds::<Brand>(rt.alloc(), 4000, Blank::new(1));
-    assert_eq!(rt; told, Ok([None, None]));
+    let answers = two_rounds::<Brand>(rt.alloc(), 4000, Blank::new(1));
+    assert_eq!(rt; answers, Ok([None, None]));
 }
 
 /// A whole number that counts in a cell how often it is asked whether it is before another.

@@ -14,7 +14,7 @@ use std::test::Fail;
 use steps::Steps;
 
 // Whether the search finds this, with a counter of its own.
-fn is_told<L: Ledger>(
+fn finds_it<L: Ledger>(
     alloc: Global,
     grid: &Grid,
     layout: Layout,
@@ -35,7 +35,7 @@ fn is_told<L: Ledger>(
     let jumps = PlainJumps { terrain: grid };
     let found = search(alloc, &jumps, layout, from, to, &mut steps)?;
     let same = match &found.walk {
-        Some(told) => walk == Some((told.points.as_slice(), told.cost)),
+        Some(wanted) => walk == Some((wanted.points.as_slice(), wanted.cost)),
         None => walk.is_none(),
     };
     Ok(same && found.taken.as_slice() == states)
@@ -50,7 +50,7 @@ fn is_answer(
     walk: Option<(&[Cell], Cost)>,
     states: &[u32],
 ) -> Result<bool, NoMemory> {
-    is_told::<Brand>(
+    finds_it::<Brand>(
         alloc,
         grid,
         Layout::ByArrival,
@@ -70,7 +70,7 @@ fn is_answer_by_cell(
     walk: Option<(&[Cell], Cost)>,
     states: &[u32],
 ) -> Result<bool, NoMemory> {
-    is_told::<Brand>(alloc, grid, Layout::ByCell, to, walk, states, Blank::new(1))
+    finds_it::<Brand>(alloc, grid, Layout::ByCell, to, walk, states, Blank::new(1))
 }
 
 // Round the pillar in the middle. The state that offers the goal first is (2,0), but (0,2) is taken

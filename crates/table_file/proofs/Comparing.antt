@@ -38,13 +38,13 @@ pub compared_by : (land water g : GridData) (t : TablesData) (layer : Ground) (b
     → entries ≡ t.entries → (found : Option ℕ) → found ≡ first_other 0 entries bytes
     → first_wrong (entry_for land water) (spots_on layer (cells_from g.width 0 (g.height * g.width))) bytes
     ≡ option_map (spot_of layer g.width) found
-compared_by land water g t layer bytes is are whole entries same found told =
+compared_by land water g t layer bytes is are whole entries same found named =
     let spots = spots_on layer (cells_from g.width 0 (g.height * g.width)) in
     wrong_named (spot_of layer g.width) (entry_for land water) 0 spots bytes
     (spots-numbered layer g.width 0 0 (g.height * g.width) refl)
     ∙ ap (λ (l : List ℤ). option_map (spot_of layer g.width) (first_other 0 l bytes))
     (sym (same ∙ entries_listed land water g t layer is are whole))
-    ∙ ap (option_map (spot_of layer g.width)) (sym told)
+    ∙ ap (option_map (spot_of layer g.width)) (sym named)
 
 map-or : {A B : Type 0} (f : A → B) (x y : Option A)
     → option_map f (option_or x y) ≡ option_or (option_map f x) (option_map f y)
@@ -79,7 +79,7 @@ module _ (land water : GridData) (text : List ℕ) where
 
     pub land_decides : (fault : TableFault) → land_fault body ≡ Some fault
         → table_fault_of land water text ≡ Some fault
-    land_decides fault told = grind (arith, nat_tests, behind_frame)
+    land_decides fault named = grind (arith, nat_tests, behind_frame)
 
     pub water_decides : land_fault body ≡ None → AreOfOneMap land water → (k : ℕ)
         → k ≡ 16 * (land.height * land.width) → (behind : List ℕ) → behind ≡ drop k body

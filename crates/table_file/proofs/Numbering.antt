@@ -54,12 +54,12 @@ length-spots layer width n (suc count) =
 pub listed : {A B : Type 0} → (tell : ℕ → A) (f : A → B) (d : B) (list : List B) (place : ℕ) (spots : List A)
     → AreNumbered tell place spots → place + length spots ≡ length list
     → ((k : ℕ) → k < length list → slice_index_or list k d ≡ f (tell k)) → drop place list ≡ map f spots
-listed {B = B} tell f d list place [] numbered all told = drop_all place list (omega arith)
-listed {B = B} tell f d list place (s ∷ spots) numbered all told =
+listed {B = B} tell f d list place [] numbered all stands = drop_all place list (omega arith)
+listed {B = B} tell f d list place (s ∷ spots) numbered all stands =
     let inside : place < length list = omega arith in
     drop_more list place d inside
-    ∙ ap (λ (b : B). b ∷ drop (place + 1) list) (told place inside ∙ ap f (sym numbered.0))
-    ∙ ap (λ (bs : List B). f s ∷ bs) (listed tell f d list (place + 1) spots numbered.1 (omega arith) told)
+    ∙ ap (λ (b : B). b ∷ drop (place + 1) list) (stands place inside ∙ ap f (sym numbered.0))
+    ∙ ap (λ (bs : List B). f s ∷ bs) (listed tell f d list (place + 1) spots numbered.1 (omega arith) stands)
 
 place_back : (width place : ℕ)
     → entry_place width (cell_of width (place / 8)) (slice_index_or all_dirs (place % 8) N) ≡ place

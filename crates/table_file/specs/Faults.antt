@@ -34,8 +34,8 @@ table_fault_of land water text = option_or (frame_fault land text)
 
 -- an answer tells whether a text has a fault, and which; for want of memory it tells nothing
 abbrev pub Tells : {A : Type 0} → Result A TableFault → Option TableFault → Type 0
-Tells (Ok answer) told = told ≡ None
-Tells (Err fault) told = fault ≢ NoMemory → told ≡ Some fault
+Tells (Ok answer) named = named ≡ None
+Tells (Err fault) named = fault ≢ NoMemory → named ≡ Some fault
 
 -- the two bytes at an entry's place are those of the entry
 abbrev pub IsRightAt : (Spot → ℤ) → List ℕ → ℕ → Spot → Type 0

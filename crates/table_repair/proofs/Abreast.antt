@@ -10,7 +10,7 @@ use Rattle.grid_moves.specs.Grid.{GridData}
 use Rattle.grid_moves.specs.Move.{ahead, is_same}
 use Rattle.grid_moves.proofs.Legal.{is_same-cell, is_same-itself}
 use Rattle.plus_tables.specs.Tables.{TablesData}
-use Rattle.table_repair.specs.declared.walks.Walk.{Walk}
+use Rattle.table_repair.specs.declared.walks.WalkBack.{WalkBack}
 use Rattle.table_repair.specs.Abreast.{AreStanding, is_at_one, no_cell, IsOnward, KeepAbreast}
 use Rattle.table_repair.specs.Mending.{IsRight, AreReady, IsMended, Mends, FollowBut, Sweeps, either}
 use Rattle.table_repair.specs.Mending.{cell_after}
@@ -44,18 +44,19 @@ after_further d (suc j) k u v w e f = by_cell (ahead d u) refl e
         rw more (after_before d (j + k) u p w h (further p i))
 
 -- the first walk, and those after it
-pub at_first : (v : Walk) (vs : List Walk) → is_at_one (v ∷ vs) v.at ≡ true
+pub at_first : (v : WalkBack) (vs : List WalkBack) → is_at_one (v ∷ vs) v.at ≡ true
 at_first v vs = or_left (is_same v.at v.at) (is_at_one vs v.at) (is_same-itself v.at)
 
-pub at_others : (v : Walk) (vs : List Walk) (w : Cell) → is_at_one vs w ≡ true → is_at_one (v ∷ vs) w ≡ true
+pub at_others : (v : WalkBack) (vs : List WalkBack) (w : Cell) → is_at_one vs w ≡ true
+    → is_at_one (v ∷ vs) w ≡ true
 at_others v vs w h = or_right (is_same w v.at) (is_at_one vs w) h
 
-pub at_both : (xs ys : List Walk) (w : Cell) → is_at_one (xs ++ ys) w ≡ (is_at_one xs w || is_at_one ys w)
+pub at_both : (xs ys : List WalkBack) (w : Cell) → is_at_one (xs ++ ys) w ≡ (is_at_one xs w || is_at_one ys w)
 at_both [] ys w = refl
 at_both (x ∷ xs) ys w =
     or_further (is_same w x.at) (is_at_one xs w) (is_at_one ys w) (is_at_one (xs ++ ys) w) (at_both xs ys w)
 
-pub at_next : (next : Walk) (w : Cell) → is_at_one (next ∷ []) w ≡ true → w ≡ next.at
+pub at_next : (next : WalkBack) (w : Cell) → is_at_one (next ∷ []) w ≡ true → w ≡ next.at
 at_next next w a = is_same-cell w next.at (first (is_same w next.at) a)
   where
     first : (a : Bool) → (a || false) ≡ true → a ≡ true
@@ -101,7 +102,7 @@ begins w right there = record {
 }
 
 -- before the first move
-pub stand_still : {h : GridData} {d : Dir} {t : TablesData} {walks : List Walk} → AreStanding h t d walks
+pub stand_still : {h : GridData} {d : Dir} {t : TablesData} {walks : List WalkBack} → AreStanding h t d walks
     → KeepAbreast h d (is_at_one walks) t t walks no_cell 0
 stand_still {h} {d} {t} {walks} standing = record {
   standing = standing;
@@ -111,23 +112,24 @@ stand_still {h} {d} {t} {walks} standing = record {
 }
 
 -- beside walks that stand one more goes one move on from a cell, or ends
-module _ {h : GridData} {d : Dir} (v : Cell) {old new : TablesData} (walks : List Walk) {on : Option Walk}
+module _ {h : GridData} {d : Dir} (v : Cell) {old new : TablesData} (walks : List WalkBack)
+    {on : Option WalkBack}
     (standing : AreStanding h old d walks)
     (mends : Mends h d (λ w. is_same w v) old new (length (option_to_list on)))
     (follows : (later : Cell → Bool) → FollowBut h old d (λ w. is_same w v || later w)
     → FollowBut h new d (either (is_at_one (option_to_list on)) later))
-    (onward : (next : Walk) → on ≡ Some next → IsOnward h new d v next.at) where
+    (onward : (next : WalkBack) → on ≡ Some next → IsOnward h new d v next.at) where
   either_one : (w : Cell) → is_at_one (walks ++ option_to_list on) w ≡ true
       → (is_at_one walks w ≡ true) ⊎ (is_at_one (option_to_list on) w ≡ true)
   either_one w k = or_either (is_at_one walks w) (is_at_one (option_to_list on) w)
       (sym (at_both walks (option_to_list on) w) ∙ k)
 
-  onward_at : (o : Option Walk) → ((next : Walk) → o ≡ Some next → IsOnward h new d v next.at)
+  onward_at : (o : Option WalkBack) → ((next : WalkBack) → o ≡ Some next → IsOnward h new d v next.at)
       → (w : Cell) → is_at_one (option_to_list o) w ≡ true → IsOnward h new d v w
   onward_at None given w a = absurd (cc)
   onward_at (Some next) given w a = rw (at_next next w a) (given next refl)
 
-  some_length : (o : Option Walk) → (w : Cell) → is_at_one (option_to_list o) w ≡ true
+  some_length : (o : Option WalkBack) → (w : Cell) → is_at_one (option_to_list o) w ≡ true
       → 1 ≤ length (option_to_list o)
   some_length None w a = absurd (cc)
   some_length (Some next) w a = omega arith
@@ -178,12 +180,12 @@ module _ {h : GridData} {d : Dir} (v : Cell) {old new : TablesData} (walks : Lis
           regroup (is_at_one (walks ++ option_to_list on) w) (is_at_one walks w)
           (is_at_one (option_to_list on) w) (later w) (at_both walks (option_to_list on) w) k
 
-  pub step_on : {more : List Walk} {m : ℕ} → more ≡ walks ++ option_to_list on
+  pub step_on : {more : List WalkBack} {m : ℕ} → more ≡ walks ++ option_to_list on
       → length (option_to_list on) ≡ m → KeepAbreast h d (either (is_at_one walks) (λ w. is_same w v)) old new more no_cell m
   step_on e f = rw (e, ← f) stepped
 
   -- where it stands then
-  pub step_behind : {more : List Walk} → more ≡ walks ++ option_to_list on → (w : Cell)
+  pub step_behind : {more : List WalkBack} → more ≡ walks ++ option_to_list on → (w : Cell)
       → is_at_one more w ≡ true → (is_at_one walks w ≡ true) ⊎ (ahead d w ≡ Some v)
   step_behind e w k = elim (either_one w (rw (← e) k)) [
     | inl i ↦ inl i
@@ -192,7 +194,7 @@ module _ {h : GridData} {d : Dir} (v : Cell) {old new : TablesData} (walks : Lis
 
 -- no walk is left
 pub abreast_ends : {h : GridData} {d : Dir} {starts : Cell → Bool} {old now : TablesData}
-    {walks : List Walk} {n : ℕ}
+    {walks : List WalkBack} {n : ℕ}
     → KeepAbreast h d starts old now walks no_cell n → walks ≡ [] → Sweeps h d starts old now
 abreast_ends {walks = walks} abreast e later f =
     follow_more (λ w k. false_or (is_at_one walks w) (later w) (none w) k) (abreast.follows later f)
@@ -203,7 +205,7 @@ abreast_ends {walks = walks} abreast e later f =
 -- So the changes of two stretches add up: the second begins at cells that the first has reached, or that were
 -- left, and what the first left waits for these or is left still.
 pub abreast_then : {h : GridData} {d : Dir} {starts : Cell → Bool} {old now new : TablesData}
-    {walks onward : List Walk} {left piece rest : Cell → Bool} {n m : ℕ}
+    {walks onward : List WalkBack} {left piece rest : Cell → Bool} {n m : ℕ}
     → KeepAbreast h d starts old now walks left n
     → ((w : Cell) → piece w ≡ true → IsMended h now d starts n w)
     → ((w : Cell) → piece w ≡ false → rest w ≡ false → (is_at_one walks w || left w) ≡ false)
@@ -227,7 +229,7 @@ abreast_then {walks = walks} {left = left} {piece = piece} {rest = rest} first r
 -- a stretch beside which other cells wait
 pub abreast_beside : {h : GridData} {d : Dir} {starts : Cell → Bool} (row : Cell → Bool)
     {old now : TablesData}
-    {walks : List Walk} {n : ℕ} → KeepAbreast h d starts old now walks no_cell n
+    {walks : List WalkBack} {n : ℕ} → KeepAbreast h d starts old now walks no_cell n
     → KeepAbreast h d (either starts row) old now walks row n
 abreast_beside {starts = starts} row first = record {
   standing = first.standing;
@@ -240,7 +242,7 @@ abreast_beside {starts = starts} row first = record {
 
 -- of what is left none waits any more
 pub left_less : {h : GridData} {d : Dir} {starts left rest : Cell → Bool} {old now : TablesData}
-    {walks : List Walk} {n : ℕ} → KeepAbreast h d starts old now walks left n
+    {walks : List WalkBack} {n : ℕ} → KeepAbreast h d starts old now walks left n
     → ((w : Cell) → rest w ≡ false → left w ≡ false) → KeepAbreast h d starts old now walks rest n
 left_less {left = left} {rest = rest} {walks = walks} abreast less = record {
   standing = abreast.standing;
@@ -255,7 +257,7 @@ left_less {left = left} {rest = rest} {walks = walks} abreast less = record {
 
 -- walks begin at some of the cells that were left, whose entries are right
 pub enter_next : {h : GridData} {d : Dir} {all row left rest : Cell → Bool} {old now new : TablesData}
-    {walks onward : List Walk} {n m : ℕ} → KeepAbreast h d all old now walks left n
+    {walks onward : List WalkBack} {n m : ℕ} → KeepAbreast h d all old now walks left n
     → ((w : Cell) → row w ≡ true → IsRight h now w d) → ((w : Cell) → row w ≡ true → all w ≡ true)
     → ((w : Cell) → row w ≡ false → rest w ≡ false → left w ≡ false)
     → KeepAbreast h d (either (is_at_one walks) row) now new onward no_cell m
@@ -277,7 +279,7 @@ enter_next {h} {d} {all} {row} {left} {rest} {old} {now} {new} {walks} {onward} 
         false_or (is_at_one walks w) (left w) p.0 (split w p.1 r)
 
 -- nothing has begun
-pub enter_none : {h : GridData} {d : Dir} {all : Cell → Bool} {t : TablesData} {walks : List Walk}
+pub enter_none : {h : GridData} {d : Dir} {all : Cell → Bool} {t : TablesData} {walks : List WalkBack}
     → AreReady h t d → walks ≡ [] → KeepAbreast h d all t t walks all 0
 enter_none {h} {d} {all} {t} ready e = rw e (record {
   standing = record { ready = ready; inside = λ w k. absurd (cc); right = λ w k. absurd (cc) };
@@ -288,7 +290,7 @@ enter_none {h} {d} {all} {t} ready e = rw e (record {
 
 -- nothing is left, and the walks are led on
 pub enter_ends : {h : GridData} {d : Dir} {all left : Cell → Bool} {old now new : TablesData}
-    {walks onward : List Walk} {n m : ℕ} → KeepAbreast h d all old now walks left n
+    {walks onward : List WalkBack} {n m : ℕ} → KeepAbreast h d all old now walks left n
     → ((w : Cell) → left w ≡ false) → KeepAbreast h d (is_at_one walks) now new onward no_cell m
     → KeepAbreast h d all old new onward no_cell (n + m)
 enter_ends {left = left} {walks = walks} first none second =

@@ -128,11 +128,11 @@ pub line_or_rest : {rise : Bool} {left rest : Span} {line : ℕ} → IsTaken ris
     → (d : Dir) (places : Span) (w : Cell) → is_on_line d line places w ≡ false
     → is_across d rest places w ≡ false → is_across d left places w ≡ false
 line_or_rest {rise} {left} {rest} {line} taken d places w s r =
-    told (line_of d w) (is_among places (place_of d w)) s r
+    not_both (line_of d w) (is_among places (place_of d w)) s r
   where
-    told : (n : ℕ) (b : Bool) → (nat_eq n line && b) ≡ false → (is_among rest n && b) ≡ false
+    not_both : (n : ℕ) (b : Bool) → (nat_eq n line && b) ≡ false → (is_among rest n && b) ≡ false
         → (is_among left n && b) ≡ false
-    told n b s r = grind (arith, nat_tests)
+    not_both n b s r = grind (arith, nat_tests)
 
 -- the block by its rows and columns
 module _ {h : GridData} (d : Dir) (lines places rows columns : Span)

@@ -61,7 +61,7 @@ module _ (g h : GridData) (p : Cell) (a : AreAlike g h p) where
   pub forced_same : (d : Dir) → is_forced h p d ≡ is_forced g p d
   forced_same d = grind (arith, nat_tests, opens_same, moves_from)
 
--- told by the entries at the next cell
+-- made from the entries at the next cell
 module _ (g h : GridData) (d : Dir) (v : Cell) (a : AreAlike g h v) (kept : IsKept g h v d)
     (beside : is_diagonal d ≡ true → (s : Side) → IsKept g h v (turn s d)) where
   mark_same : is_mark_by h (table_entry h) d v ≡ is_mark_by g (table_entry g) d v
@@ -72,16 +72,16 @@ module _ (g h : GridData) (d : Dir) (v : Cell) (a : AreAlike g h v) (kept : IsKe
   pub through_same : entry_through h (table_entry h) d v ≡ entry_through g (table_entry g) d v
   through_same = rw (mark_same, kept) refl
 
--- the entry, told by the next cell, if there is one
-abbrev told : Dir → GridData → Option Cell → ℤ
-told d k o = unwrap_or (option_map (λ v. entry_through k (table_entry k) d v) o) (pos 0)
+-- the entry, made from the next cell, if there is one
+abbrev entry_by : Dir → GridData → Option Cell → ℤ
+entry_by d k o = unwrap_or (option_map (λ v. entry_through k (table_entry k) d v) o) (pos 0)
 
 module _ (follow : EntriesFollow) where
   pub changes_spread_back : ChangesSpreadBack
   changes_spread_back c g h differ u d far kept beside =
       follow h u d ∙ by_ahead (ahead d u) refl ∙ sym (follow g u d)
     where
-      by_legal : (o : Option Cell) → legal_ahead g u d ≡ o → told d h o ≡ told d g o
+      by_legal : (o : Option Cell) → legal_ahead g u d ≡ o → entry_by d h o ≡ entry_by d g o
       by_legal None e = refl
       by_legal (Some v) e =
           let l = (legal_leads g u v d e).ahead_is in
@@ -93,4 +93,4 @@ module _ (follow : EntriesFollow) where
       by_ahead (Some v) e =
           let same : legal_ahead h u d ≡ legal_ahead g u d =
           moves_to g h v (alike_apart c g h differ v (far v e)) u d e in
-          ap (λ (o : Option Cell). told d h o) same ∙ by_legal (legal_ahead g u d) refl
+          ap (λ (o : Option Cell). entry_by d h o) same ∙ by_legal (legal_ahead g u d) refl

@@ -21,9 +21,9 @@ pub all_straight : (d : Dir) → is_straight d ≡ true → is_listed (N ∷ E �
 all_straight d h = grind (arith, nat_tests)
 
 -- the rows or columns, as code tells them
-pub beside_told : {s : Span} (n : ℕ) {given side side_of : ℕ} → s ≡ span_beside n given → given ≡ side
+pub beside_is : {s : Span} (n : ℕ) {given side side_of : ℕ} → s ≡ span_beside n given → given ≡ side
     → side ≡ side_of → s ≡ span_beside n side_of
-beside_told n e f g = rw (← g, ← f) e
+beside_is n e f g = rw (← g, ← f) e
 
 pub straight_starts : {h : GridData} {c : Cell} {t : TablesData} {rows columns : Span} → AreTablesBut t h c
     → rows ≡ span_beside c.y h.height → columns ≡ span_beside c.x h.width → (d : Dir) → is_straight d ≡ true
@@ -66,6 +66,6 @@ three_beside n side = omega arith
 pub some_beside : (n side : ℕ) → span_length (span_beside n side) ≤ side
 some_beside n side = omega arith
 
-pub length_told : (s : Span) (n side limit : ℕ) → s ≡ span_beside n side
+pub length_is : (s : Span) (n side limit : ℕ) → s ≡ span_beside n side
     → span_length (span_beside n side) ≤ limit → span_length s ≤ limit
-length_told s n side limit e l = rw e l
+length_is s n side limit e l = rw e l

@@ -11,7 +11,7 @@ use Rattle.grid_moves.proofs.Legal.{and_both, is_same-cell}
 use Rattle.pruning.proofs.Running.{AreMoved}
 use Rattle.plus_tables.specs.Tables.{TablesData}
 use Rattle.table_repair.specs.declared.span.Span.{Span}
-use Rattle.table_repair.specs.declared.walks.Walk.{Walk}
+use Rattle.table_repair.specs.declared.walks.WalkBack.{WalkBack}
 use Rattle.table_repair.specs.Abreast.{is_at_one, no_cell, IsBehindOne, KeepAbreast}
 use Rattle.table_repair.specs.Lines.{line_of, place_of, cell_on, lines_of, places_of, lines_rise}
 use Rattle.table_repair.specs.Lines.{is_on_line, is_across}
@@ -33,11 +33,11 @@ IsPast false left y = left.first ≤ y
 among_past : (rise : Bool) (left : Span) (y : ℕ) → is_among left y ≡ true → IsPast rise left y
 among_past rise left y h = grind (arith, nat_tests)
 
-pub past_none : (rise : Bool) (left : Span) (d : Dir) (walks : List Walk) → walks ≡ [] → (w : Cell)
+pub past_none : (rise : Bool) (left : Span) (d : Dir) (walks : List WalkBack) → walks ≡ [] → (w : Cell)
     → is_at_one walks w ≡ true → IsPast rise left (line_of d w)
 past_none rise left d walks e w k = absurd (none walks e k)
   where
-    none : (walks : List Walk) → walks ≡ [] → is_at_one walks w ≡ true → ⊥
+    none : (walks : List WalkBack) → walks ≡ [] → is_at_one walks w ≡ true → ⊥
     none walks e k = grind arith
 
 -- a cell behind one of these is behind one of more
@@ -48,7 +48,7 @@ beside_behind {there = there} row b =
 
 -- place by place
 pub enter_place : {h : GridData} {d : Dir} (starts : Cell → Bool) (line place : ℕ) (places : Span) {v : Cell}
-    {old now new : TablesData} {walks onward : List Walk} {n m : ℕ} → v ≡ cell_on d line place
+    {old now new : TablesData} {walks onward : List WalkBack} {n m : ℕ} → v ≡ cell_on d line place
     → is_among places place ≡ true
     → KeepAbreast h d (either starts (is_on_line d line places)) old now walks
     (is_on_line d line (from_place place places)) n
@@ -63,7 +63,7 @@ enter_place {d = d} starts line place places {v = v} is among abreast right seco
     (place_or_rest d line place places is) second
 
 module _ {h : GridData} {d : Dir} (lines places : Span) {left rest : Span} {line : ℕ} {old now : TablesData}
-    {walks : List Walk} {n : ℕ}
+    {walks : List WalkBack} {n : ℕ}
     (abreast : KeepAbreast h d (is_across d lines places) old now walks (is_across d left places) n)
     (past : (w : Cell) → is_at_one walks w ≡ true → IsPast (lines_rise d) left (line_of d w))
     (within : (k : ℕ) → is_among left k ≡ true → is_among lines k ≡ true)
@@ -111,7 +111,7 @@ module _ {h : GridData} {d : Dir} (lines places : Span) {left rest : Span} {line
             rw e (among_past (lines_rise d) left line taken.member))
       ])
 
-  pub enter_line : {new : TablesData} {onward : List Walk} {m : ℕ} → lines.end ≤ lines_of h d
+  pub enter_line : {new : TablesData} {onward : List WalkBack} {m : ℕ} → lines.end ≤ lines_of h d
       → places.end ≤ places_of h d → CanSweep h old d (is_across d lines places)
       → KeepAbreast h d (either (is_at_one walks) (is_on_line d line places)) now new onward no_cell m
       → KeepAbreast h d (is_across d lines places) old new onward (is_across d rest places) (n + m)
@@ -122,8 +122,8 @@ module _ {h : GridData} {d : Dir} (lines places : Span) {left rest : Span} {line
 -- no line is left
 pub none_left : (d : Dir) (left places : Span) → ((k : ℕ) → is_among left k ≡ false) → (w : Cell)
     → is_across d left places w ≡ false
-none_left d left places none w = told (is_among left (line_of d w)) (is_among places (place_of d w))
+none_left d left places none w = not_both (is_among left (line_of d w)) (is_among places (place_of d w))
     (none (line_of d w))
   where
-    told : (a b : Bool) → a ≡ false → (a && b) ≡ false
-    told a b e = grind arith
+    not_both : (a b : Bool) → a ≡ false → (a && b) ≡ false
+    not_both a b e = grind arith

@@ -9,7 +9,7 @@ use Rattle.grid_moves.specs.declared.Dir.{Dir}
 use Rattle.grid_moves.specs.Grid.{GridData, is_inside}
 use Rattle.grid_moves.specs.Move.{is_same}
 use Rattle.plus_tables.specs.Tables.{TablesData}
-use Rattle.table_repair.specs.declared.walks.Walk.{Walk}
+use Rattle.table_repair.specs.declared.walks.WalkBack.{WalkBack}
 use Rattle.table_repair.specs.Abreast.{AreStanding, is_at_one, IsOnward, LedOn, room_of}
 use Rattle.table_repair.specs.Mending.{IsRight, Mends, FollowBut, either}
 use Rattle.table_repair.proofs.Rounds.{Round, round_begins, round_next, some_on, none_on, stood}
@@ -17,14 +17,15 @@ use Rattle.table_repair.proofs.Rounds.{right_now}
 use Rattle.table_repair.proofs.Abreast.{left_less, stand_still}
 
 -- the first ones of the list are the walks that went on, and behind the first i it is as it was
-pub record InPlace (h : GridData) (d : Dir) (old now : TablesData) (first steps : ℕ) (here list : List Walk)
+pub record InPlace (h : GridData) (d : Dir) (old now : TablesData) (first steps : ℕ)
+    (here list : List WalkBack)
     (onward i : ℕ) : Type 0 where
   pub round : Round h d old now first steps here (take onward list) i
   pub rest : drop i list ≡ drop i here
   pub few : onward ≤ i
   pub size : length list ≡ length here
 
-pub place_begins : {h : GridData} {d : Dir} {t : TablesData} {steps : ℕ} {walks : List Walk}
+pub place_begins : {h : GridData} {d : Dir} {t : TablesData} {steps : ℕ} {walks : List WalkBack}
     → AreStanding h t d walks → InPlace h d t t steps steps walks walks 0 0
 place_begins standing = record {
   round = round_begins standing;
@@ -34,15 +35,16 @@ place_begins standing = record {
 }
 
 -- what follows on equal lists
-same_front : (i : ℕ) (xs ys : List Walk) (v : Walk) → i < length xs → i < length ys → drop i xs ≡ drop i ys
+same_front : (i : ℕ) (xs ys : List WalkBack) (v : WalkBack) → i < length xs → i < length ys
+    → drop i xs ≡ drop i ys
     → (get_or xs i v ≡ get_or ys i v) × (drop (i + 1) xs ≡ drop (i + 1) ys)
 same_front i xs ys v k l e =
     let both : get_or xs i v ∷ drop (i + 1) xs ≡ get_or ys i v ∷ drop (i + 1) ys =
     sym (drop_more xs i v k) ∙ e ∙ drop_more ys i v l in
     (cc, cc)
 
-module _ {h : GridData} {d : Dir} {old now : TablesData} {first steps : ℕ} {here list shown : List Walk}
-    {onward i : ℕ} (v : Walk) (place : InPlace h d old now first steps here list onward i)
+module _ {h : GridData} {d : Dir} {old now : TablesData} {first steps : ℕ} {here list shown : List WalkBack}
+    {onward i : ℕ} (v : WalkBack) (place : InPlace h d old now first steps here list onward i)
     (same : shown ≡ list) (l : i < length here) where
   within : i < length list
   within = let s = place.size in omega arith
@@ -57,20 +59,20 @@ module _ {h : GridData} {d : Dir} {old now : TablesData} {first steps : ℕ} {he
   pub its_right : IsRight h now (get_or shown i v).at d
   its_right = rw parts.0 (right_now v place.round l)
 
-  module _ {new : TablesData} {counted : ℕ} {on : Option Walk}
+  module _ {new : TablesData} {counted : ℕ} {on : Option WalkBack}
       (mends : Mends h d (λ w. is_same w (get_or shown i v).at) now new (length (option_to_list on)))
       (follows : (later : Cell → Bool) → FollowBut h now d (λ w. is_same w (get_or shown i v).at || later w)
       → FollowBut h new d (either (is_at_one (option_to_list on)) later))
-      (is_onward : (next : Walk) → on ≡ Some next → IsOnward h new d (get_or shown i v).at next.at)
+      (is_onward : (next : WalkBack) → on ≡ Some next → IsOnward h new d (get_or shown i v).at next.at)
       (c : counted ≤ steps + 1) (later : steps ≤ counted) where
-    next_round : {more : List Walk} → more ≡ take onward list ++ option_to_list on
+    next_round : {more : List WalkBack} → more ≡ take onward list ++ option_to_list on
         → Round h d old new first counted here more (i + 1)
     next_round e =
         round_next v place.round l (rw parts.0 at mends) (rw parts.0 at follows)
         (rw parts.0 at is_onward) c later e
 
     -- the walk goes on: it stands behind those that did so before
-    pub place_next : {next : Walk} {more : List Walk} {further : ℕ} → on ≡ Some next
+    pub place_next : {next : WalkBack} {more : List WalkBack} {further : ℕ} → on ≡ Some next
         → more ≡ slice_set list onward next → further ≡ onward + 1
         → InPlace h d old new first counted here more further (i + 1)
     place_next {next = next} e f g = rw (f, g) (record {
@@ -82,7 +84,7 @@ module _ {h : GridData} {d : Dir} {old now : TablesData} {first steps : ℕ} {he
     })
 
     -- or it ends
-    pub place_ends : {more : List Walk} {further : ℕ} → on ≡ None → more ≡ list → further ≡ onward
+    pub place_ends : {more : List WalkBack} {further : ℕ} → on ≡ None → more ≡ list → further ≡ onward
         → InPlace h d old new first counted here more further (i + 1)
     place_ends e f g = rw (f, g) (record {
       round = next_round (none_on e refl);
@@ -92,7 +94,7 @@ module _ {h : GridData} {d : Dir} {old now : TablesData} {first steps : ℕ} {he
     })
 
 -- behind the last place the walks that went on are all that are left
-module _ {h : GridData} {d : Dir} {old now : TablesData} {first steps : ℕ} {here list walks : List Walk}
+module _ {h : GridData} {d : Dir} {old now : TablesData} {first steps : ℕ} {here list walks : List WalkBack}
     {onward i : ℕ} (place : InPlace h d old now first steps here list onward i) (past : length here ≤ i)
     (e : walks ≡ take onward list) where
   round_done : Round h d old now first steps here walks i
@@ -109,7 +111,7 @@ module _ {h : GridData} {d : Dir} {old now : TablesData} {first steps : ℕ} {he
   }
 
 -- where no walk stands
-pub led_none : {h : GridData} {d : Dir} {t : TablesData} {walks : List Walk} {steps : ℕ}
+pub led_none : {h : GridData} {d : Dir} {t : TablesData} {walks : List WalkBack} {steps : ℕ}
     → AreStanding h t d walks → walks ≡ [] → LedOn h d t t walks walks steps steps
 unfolding room_of
 led_none standing e = rw e (record {

@@ -39,7 +39,7 @@ module _ {h : GridData} {d : Dir} {starts : Cell → Bool} where
     beside = λ k s. all_stay m (turn s d) (r.beside k s);
   }
 
--- an entry that was made right, and still is, told of more cells to start from and more changes
+-- an entry that was made right, and still is, given more cells to start from and more changes
 pub still_mended : {h : GridData} {d : Dir} {few more : Cell → Bool} {old new : TablesData} {m n : ℕ}
     {u : Cell}
     → ((w : Cell) → few w ≡ true → more w ≡ true) → IsRight h new u d → m ≤ n → IsMended h old d few m u
@@ -83,7 +83,7 @@ pub mends_both : {h : GridData} {d : Dir} {starts : Cell → Bool} {s t u : Tabl
     → Mends h d starts s t m → Mends h d starts t u n → Mends h d starts s u (m + n)
 mends_both a b = grind (arith, nat_tests)
 
--- the same, told of more cells to start from
+-- the same, given more cells to start from
 pub mends_wider : {h : GridData} {d : Dir} {few more : Cell → Bool}
     → ((w : Cell) → few w ≡ true → more w ≡ true) → {old new : TablesData} {n : ℕ}
     → Mends h d few old new n → Mends h d more old new n

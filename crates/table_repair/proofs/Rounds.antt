@@ -13,7 +13,7 @@ use Rattle.grid_moves.specs.Move.{ahead, is_same}
 use Rattle.grid_moves.proofs.Legal.{is_same-cell}
 use Rattle.grid_moves.proofs.Places.{inside_is}
 use Rattle.plus_tables.specs.Tables.{TablesData}
-use Rattle.table_repair.specs.declared.walks.Walk.{Walk}
+use Rattle.table_repair.specs.declared.walks.WalkBack.{WalkBack}
 use Rattle.table_repair.specs.Abreast.{AreStanding, is_at_one, no_cell, IsBehindOne, IsOnward, KeepAbreast}
 use Rattle.table_repair.specs.Abreast.{back_room}
 use Rattle.table_repair.specs.Abreast.{room_of}
@@ -27,7 +27,7 @@ use Rattle.table_repair.proofs.Mends.{right_stays}
 use Rattle.table_repair.proofs.Moving.{ahead_moved}
 use Rattle.table_repair.proofs.Walking.{false_or}
 
-pub room_both : (h : GridData) (d : Dir) (xs ys : List Walk)
+pub room_both : (h : GridData) (d : Dir) (xs ys : List WalkBack)
     → room_of h d (xs ++ ys) ≡ room_of h d xs + room_of h d ys
 unfolding room_of
 room_both h d [] ys = omega arith
@@ -38,8 +38,8 @@ room_behind : (h : GridData) (d : Dir) (u v : Cell) → is_inside h u ≡ true
 room_behind h d u v i e = grind (arith, inside_is, ahead_moved)
 
 -- a walk that goes on or ends has less room behind it
-room_next : (h : GridData) (d : Dir) (v : Cell) (t : TablesData) (on : Option Walk)
-    → ((next : Walk) → on ≡ Some next → IsOnward h t d v next.at)
+room_next : (h : GridData) (d : Dir) (v : Cell) (t : TablesData) (on : Option WalkBack)
+    → ((next : WalkBack) → on ≡ Some next → IsOnward h t d v next.at)
     → length (option_to_list on) + room_of h d (option_to_list on) ≤ back_room h d v
 unfolding room_of
 room_next h d v t None j = omega arith
@@ -48,12 +48,12 @@ room_next h d v t (Some next) j =
     let f = room_behind h d next.at v k.inside k.behind in
     omega arith
 
-room_first : (h : GridData) (d : Dir) (v : Walk) (rest : List Walk)
+room_first : (h : GridData) (d : Dir) (v : WalkBack) (rest : List WalkBack)
     → room_of h d (v ∷ rest) ≡ back_room h d v.at + room_of h d rest
 unfolding room_of
 room_first h d v rest = refl
 
-pub room_few : (h : GridData) (d : Dir) (walks : List Walk) → IsGrid h
+pub room_few : (h : GridData) (d : Dir) (walks : List WalkBack) → IsGrid h
     → ((w : Cell) → is_at_one walks w ≡ true → is_inside h w ≡ true)
     → room_of h d walks ≤ 4096 * length walks
 unfolding room_of
@@ -69,20 +69,20 @@ room_few h d (v ∷ vs) grid inside =
     line_few rise h i = grind (arith, nat_tests)
 
 -- each walk has some room
-pub room_some : (h : GridData) (d : Dir) (walks : List Walk) → length walks ≤ room_of h d walks
+pub room_some : (h : GridData) (d : Dir) (walks : List WalkBack) → length walks ≤ room_of h d walks
 unfolding room_of
 room_some h d [] = omega arith
 room_some h d (v ∷ vs) = let more = room_some h d vs in omega arith
 
 -- the walks, and what all those so far changed and counted
 pub record Queued (h : GridData) (d : Dir) (starts : Cell → Bool) (old now : TablesData)
-    (first steps all room : ℕ) (walks : List Walk) (n : ℕ) : Type 0 where
+    (first steps all room : ℕ) (walks : List WalkBack) (n : ℕ) : Type 0 where
   pub abreast : KeepAbreast h d starts old now walks no_cell n
   pub few : n + room_of h d walks ≤ room
   pub counted : steps + length walks ≤ first + n + all
   pub later : first ≤ steps
 
-pub queued_none : {h : GridData} {d : Dir} {t : TablesData} {steps : ℕ} {walks : List Walk}
+pub queued_none : {h : GridData} {d : Dir} {t : TablesData} {steps : ℕ} {walks : List WalkBack}
     → AreStanding h t d walks
     → Queued h d (is_at_one walks) t t steps steps (length walks) (room_of h d walks) walks 0
 queued_none standing = record {
@@ -93,7 +93,8 @@ queued_none standing = record {
 }
 
 -- in a round: the walks from one on wait, and those before went on or ended
-pub record Round (h : GridData) (d : Dir) (old now : TablesData) (first steps : ℕ) (here onward : List Walk)
+pub record Round (h : GridData) (d : Dir) (old now : TablesData) (first steps : ℕ)
+    (here onward : List WalkBack)
     (i : ℕ) : Type 0 where
   pub began : AreStanding h old d here
   pub abreast : KeepAbreast h d (is_at_one here) old now onward (is_at_one (drop i here)) (length onward)
@@ -104,7 +105,7 @@ pub record Round (h : GridData) (d : Dir) (old now : TablesData) (first steps : 
   pub within : i ≤ length here
   pub behind : (w : Cell) → is_at_one onward w ≡ true → IsBehindOne d (is_at_one here) w
 
-pub round_begins : {h : GridData} {d : Dir} {t : TablesData} {steps : ℕ} {walks : List Walk}
+pub round_begins : {h : GridData} {d : Dir} {t : TablesData} {steps : ℕ} {walks : List WalkBack}
     → AreStanding h t d walks → Round h d t t steps steps walks [] 0
 unfolding room_of
 round_begins standing = record {
@@ -119,13 +120,15 @@ round_begins standing = record {
 }
 
 -- a walk of a list stands where one does
-at_index : (vs : List Walk) (i : ℕ) (v : Walk) → i < length vs → is_at_one vs (get_or vs i v).at ≡ true
+at_index : (vs : List WalkBack) (i : ℕ) (v : WalkBack) → i < length vs
+    → is_at_one vs (get_or vs i v).at ≡ true
 at_index [] i v l = absurd (omega arith)
 at_index (x ∷ xs) zero v l = at_first x xs
 at_index (x ∷ xs) (suc i) v l = at_others x xs (get_or xs i v).at (at_index xs i v (omega arith))
 
-module _ {h : GridData} {d : Dir} {old now : TablesData} {first steps : ℕ} {here onward : List Walk} {i : ℕ}
-    (v : Walk) (round : Round h d old now first steps here onward i) (l : i < length here) where
+module _ {h : GridData} {d : Dir} {old now : TablesData} {first steps : ℕ} {here onward : List WalkBack}
+    {i : ℕ}
+    (v : WalkBack) (round : Round h d old now first steps here onward i) (l : i < length here) where
   abbrev its_cell : Cell
   its_cell = (get_or here i v).at
 
@@ -141,12 +144,12 @@ module _ {h : GridData} {d : Dir} {old now : TablesData} {first steps : ℕ} {he
   split w s r = rw (drop_more here i v l)
       (false_or (is_same w its_cell) (is_at_one (drop (i + 1) here) w) s r)
 
-  pub round_next : {new : TablesData} {counted : ℕ} {on : Option Walk}
+  pub round_next : {new : TablesData} {counted : ℕ} {on : Option WalkBack}
       → Mends h d (λ w. is_same w (get_or here i v).at) now new (length (option_to_list on))
       → ((later : Cell → Bool) → FollowBut h now d (λ w. is_same w (get_or here i v).at || later w)
       → FollowBut h new d (either (is_at_one (option_to_list on)) later))
-      → ((next : Walk) → on ≡ Some next → IsOnward h new d (get_or here i v).at next.at)
-      → counted ≤ steps + 1 → steps ≤ counted → {more : List Walk} → more ≡ onward ++ option_to_list on
+      → ((next : WalkBack) → on ≡ Some next → IsOnward h new d (get_or here i v).at next.at)
+      → counted ≤ steps + 1 → steps ≤ counted → {more : List WalkBack} → more ≡ onward ++ option_to_list on
       → Round h d old new first counted here more (i + 1)
   round_next {new = new} {on = on} mends follows onward_is c later {more = more} e = record {
     began = round.began;
@@ -174,21 +177,23 @@ module _ {h : GridData} {d : Dir} {old now : TablesData} {first steps : ℕ} {he
       room_left_over : room_of h d (drop i here) ≡ back_room h d its_cell + room_of h d (drop (i + 1) here)
       room_left_over = rw (drop_more here i v l) (room_first h d (get_or here i v) (drop (i + 1) here))
 
-      one_more : (o : Option Walk) → length (option_to_list o) ≤ 1
+      one_more : (o : Option WalkBack) → length (option_to_list o) ≤ 1
       one_more None = omega arith
       one_more (Some x) = omega arith
 
-pub some_on : {on : Option Walk} {next : Walk} (xs : List Walk) {ys : List Walk} → on ≡ Some next
+pub some_on : {on : Option WalkBack} {next : WalkBack} (xs : List WalkBack) {ys : List WalkBack}
+    → on ≡ Some next
     → ys ≡ xs ++ next ∷ []
     → ys ≡ xs ++ option_to_list on
 some_on xs e f = rw e f
 
-pub none_on : {on : Option Walk} {xs ys : List Walk} → on ≡ None → ys ≡ xs → ys ≡ xs ++ option_to_list on
+pub none_on : {on : Option WalkBack} {xs ys : List WalkBack} → on ≡ None → ys ≡ xs
+    → ys ≡ xs ++ option_to_list on
 none_on {xs = xs} e f = rw e (f ∙ sym (append-nil xs))
 
 -- one round more, of all walks that stand
 pub rounds_more : {h : GridData} {d : Dir} {starts : Cell → Bool} {old now new : TablesData}
-    {first steps counted all room : ℕ} {walks onward : List Walk} {n : ℕ}
+    {first steps counted all room : ℕ} {walks onward : List WalkBack} {n : ℕ}
     → Queued h d starts old now first steps all room walks n
     → KeepAbreast h d (is_at_one walks) now new onward no_cell (length onward)
     → length onward + room_of h d onward ≤ room_of h d walks → counted ≤ steps + length walks
@@ -211,7 +216,7 @@ unfolding room_of
 room_nil h d = refl
 
 -- a round with a walk in it leaves less room
-pub room_left : (h : GridData) (d : Dir) (walks onward : List Walk) → 0 < length walks
+pub room_left : (h : GridData) (d : Dir) (walks onward : List WalkBack) → 0 < length walks
     → length onward + room_of h d onward ≤ room_of h d walks → room_of h d onward < room_of h d walks
 room_left h d walks [] some less = grind (arith, room_nil, room_some)
 room_left h d walks (v ∷ vs) some less = omega arith

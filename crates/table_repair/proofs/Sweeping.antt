@@ -41,8 +41,8 @@ pub none_taken : (from_end : Bool) (s : Span) → far_number from_end s ≡ None
 none_taken from_end s t k = grind arith
 
 -- the same, as code tells it
-pub taken_told : {from_end side : Bool} → from_end ≡ side → (old : Span) {new : Span} {n : ℕ}
+pub taken_is : {from_end side : Bool} → from_end ≡ side → (old : Span) {new : Span} {n : ℕ}
     {answer : Option ℕ}
     → answer ≡ Some n → answer ≡ far_number from_end old → new ≡ without_far from_end old
     → IsTaken side old n new
-taken_told h old i j k = grind (arith, nat_tests)
+taken_is h old i j k = grind (arith, nat_tests)

@@ -18,7 +18,7 @@ use Rattle.pruning.proofs.Table.{at_dir}
 use Rattle.plus_tables.specs.Entry.{table_entry}
 use Rattle.plus_tables.specs.Tables.{TablesData, IsWhole, AreTablesOf, RestsRight, is_on, entry_at}
 use Rattle.plus_tables.specs.Tables.{tables_with, entry_place}
-use Rattle.table_repair.specs.declared.walks.Walk.{Walk}
+use Rattle.table_repair.specs.declared.walks.WalkBack.{WalkBack}
 use Rattle.table_repair.specs.Abreast.{is_at_one, IsOnward}
 use Rattle.table_repair.specs.Counted.{places_differing}
 use Rattle.table_repair.specs.Mending.{IsRight, AreBesideRight, AreReady, IsMended, Mends, FollowBut, either}
@@ -128,8 +128,8 @@ module _ {h : GridData} {d : Dir} (v : Cell) {t : TablesData} (ready : AreReady 
       | inr s ↦ stays w d j (λ k l. apart w u s k) ∙ r
     ]
 
-    pub onward_told : (next : Walk) → Some (record { at = u }) ≡ Some next → IsOnward h new d v next.at
-    onward_told next e = rw (← same) (record { inside = there.1; right = set_right; behind = there.0 })
+    pub onward_is : (next : WalkBack) → Some (record { at = u }) ≡ Some next → IsOnward h new d v next.at
+    onward_is next e = rw (← same) (record { inside = there.1; right = set_right; behind = there.0 })
       where
         same : u ≡ next.at
         same = cc

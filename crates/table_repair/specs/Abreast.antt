@@ -6,17 +6,17 @@ use Rattle.grid_moves.specs.declared.Dir.{Dir}
 use Rattle.grid_moves.specs.Grid.{GridData, is_inside}
 use Rattle.grid_moves.specs.Move.{ahead, is_same}
 use Rattle.plus_tables.specs.Tables.{TablesData}
-use Rattle.table_repair.specs.declared.walks.Walk.{Walk}
+use Rattle.table_repair.specs.declared.walks.WalkBack.{WalkBack}
 use Rattle.table_repair.specs.Mending.{IsRight, AreReady, FollowBut, IsMended, Mends, either}
 use Rattle.table_repair.specs.Lines.{lines_rise, line_of, lines_of}
 
 -- one of the walks stands at the cell
-abbrev pub is_at_one : List Walk → Cell → Bool
+abbrev pub is_at_one : List WalkBack → Cell → Bool
 is_at_one [] w = false
 is_at_one (v ∷ vs) w = is_same w v.at || is_at_one vs w
 
 -- each of the walks stands at an entry that is right, and those for the direction can be refreshed
-pub record AreStanding (h : GridData) (t : TablesData) (d : Dir) (walks : List Walk) : Type 0 where
+pub record AreStanding (h : GridData) (t : TablesData) (d : Dir) (walks : List WalkBack) : Type 0 where
   pub ready : AreReady h t d
   pub inside : (w : Cell) → is_at_one walks w ≡ true → is_inside h w ≡ true
   pub right : (w : Cell) → is_at_one walks w ≡ true → IsRight h t w d
@@ -40,7 +40,7 @@ no_cell v = false
 -- The walks that stand, after n entries were made right behind the cells where they begin. Of what waited
 -- for those cells only what is left and what waits for the walks waits still.
 pub record KeepAbreast (h : GridData) (d : Dir) (starts : Cell → Bool) (old now : TablesData)
-    (walks : List Walk) (left : Cell → Bool) (n : ℕ) : Type 0 where
+    (walks : List WalkBack) (left : Cell → Bool) (n : ℕ) : Type 0 where
   pub standing : AreStanding h now d walks
   pub mended : (w : Cell) → is_at_one walks w ≡ true → IsMended h now d starts n w
   pub mends : Mends h d starts old now n
@@ -52,12 +52,13 @@ abbrev pub back_room : GridData → Dir → Cell → ℕ
 back_room h d w = suc (if lines_rise d then line_of d w else lines_of h d - suc (line_of d w))
 
 -- and behind all walks
-unfoldable pub room_of : GridData → Dir → List Walk → ℕ
+unfoldable pub room_of : GridData → Dir → List WalkBack → ℕ
 room_of h d [] = 0
 room_of h d (v ∷ vs) = back_room h d v.at + room_of h d vs
 
 -- One round: each walk went one move back, or ended.
-pub record LedOn (h : GridData) (d : Dir) (old new : TablesData) (walks onward : List Walk) (before after : ℕ)
+pub record LedOn (h : GridData) (d : Dir) (old new : TablesData) (walks onward : List WalkBack)
+    (before after : ℕ)
     : Type 0 where
   pub abreast : KeepAbreast h d (is_at_one walks) old new onward no_cell (length onward)
   pub behind : (w : Cell) → is_at_one onward w ≡ true → IsBehindOne d (is_at_one walks) w

@@ -21,20 +21,20 @@ use steps::Steps;
 
 /// A walk back, which stands at a cell whose entry is right.
 #[derive(Clone, Copy)]
-pub struct Walk {
+pub struct WalkBack {
     pub at: Cell,
 }
 
-impl Default for Walk {
-    fn default() -> Walk {
-        Walk {
+impl Default for WalkBack {
+    fn default() -> WalkBack {
+        WalkBack {
             at: Cell { x: 0, y: 0 },
         }
     }
 }
 
 /// Walks that keep abreast, at most 256.
-pub type Walks = ArrayVec<Walk, 256>;
+pub type Walks = ArrayVec<WalkBack, 256>;
 
 // One more than the columns by which a move back along each direction leads to the east, and one more than
 // the rows by which it leads to the south. They are read from tables, so that there is no branch on the
@@ -80,10 +80,10 @@ fn cell_before(grid: &Grid, d: Dir, v: Cell) -> Option<Cell>
 fn walk_on<L: Ledger>(
     tables: &mut Tables,
     grid: &Grid,
-    walk: Walk,
+    walk: WalkBack,
     d: Dir,
     steps: &mut Steps<L>,
-) -> Option<Walk>
+) -> Option<WalkBack>
     requires ready { AreReady grid.now tables.old d }
     requires inside { is_inside grid.now walk.at ≡ true }
     requires right { IsRight grid.now tables.old walk.at d }
@@ -92,13 +92,13 @@ fn walk_on<L: Ledger>(
     ensures follows { (later : Cell → Bool)
         → FollowBut grid.now tables.old d (λ w. is_same w walk.at || later w)
         → FollowBut grid.now tables.new d (either (is_at_one (option_to_list result)) later) }
-    ensures onward { (next : Walk) → result ≡ Some next → IsOnward grid.now tables.new d walk.at next.at }
+    ensures onward { (next : WalkBack) → result ≡ Some next → IsOnward grid.now tables.new d walk.at next.at }
     ensures step { steps.new ≤ steps.old + 1 }
     ensures later { steps.old ≤ steps.new }
 {
     if let Some(before) = cell_before(grid, d, walk.at) {
         if tables.refresh(grid, before, d, steps) {
-            return Some(Walk { at: before });
+            return Some(WalkBack { at: before });
         }
     }
     None
@@ -106,7 +106,7 @@ fn walk_on<L: Ledger>(
 
 // Puts a walk in the place of one of the walks.
 #[inline(always)]
-fn set_walk(walks: &mut Walks, place: usize, walk: Walk)
+fn set_walk(walks: &mut Walks, place: usize, walk: WalkBack)
     requires { place < length walks.old.items }
     ensures { walks.new.items ≡ slice_set walks.old.items place walk }
 {
@@ -232,7 +232,7 @@ pub fn begin<L: Ledger>(
         ≤ steps.old + result + length walks.old.items + 1 }
     ensures later { steps.old ≤ steps.new }
 {
-    match walk_on(tables, grid, Walk { at: from }, d, steps) {
+    match walk_on(tables, grid, WalkBack { at: from }, d, steps) {
         Some(next) => {
             walks.push(next);
             changed + (1 + make_room(tables, grid, walks, d, steps))

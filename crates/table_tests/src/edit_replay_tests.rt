@@ -30,7 +30,7 @@ fn count(taken: &Taken) -> u32 {
 }
 
 // What kind of reply it is, the straight and diagonal moves, and the number of taken states.
-fn told_of(reply: &Reply) -> Four {
+fn four_of(reply: &Reply) -> Four {
     match reply {
         Reply::Outside => (0, 0, 0, 0),
         Reply::Blocked => (1, 0, 0, 0),
@@ -51,7 +51,7 @@ fn ask<L: Ledger>(
     steps: &mut Steps<L>,
 ) -> Result<Four, NoMemory> {
     let (sx, sy, gx, gy) = ends;
-    Ok(told_of(&session.query(alloc, sx, sy, gx, gy, steps)?))
+    Ok(four_of(&session.query(alloc, sx, sy, gx, gy, steps)?))
 }
 
 // Each line is answered on the grids that the lines before it left.
@@ -69,13 +69,13 @@ fn answer_all<L: Ledger>(
     let mut steps = Steps::<L>::new(blank);
     for (i, line) in lines.iter().enumerate() {
         match *line {
-            Line::Query(ends, told) => {
+            Line::Query(ends, expected) => {
                 let reply = ask(alloc, session, ends, &mut steps)?;
-                assert_eq!(rt; reply, told, "line {i}");
+                assert_eq!(rt; reply, expected, "line {i}");
             }
-            Line::Edit(x, y, to, told) => {
+            Line::Edit(x, y, to, expected) => {
                 let reply = session.edit(x, y, to, &mut steps);
-                assert_eq!(rt; reply, told, "line {i}");
+                assert_eq!(rt; reply, expected, "line {i}");
             }
         }
     }
@@ -180,7 +180,7 @@ fn water_is_a_layer_of_its_own(rt: HostRuntime) -> Result<(), Fail> {
     let text = b"type octile\nheight 2\nwidth 3\nmap\n.WW\n.WW\n";
     let none = (2, 0, 0, 1);
     let between = (3, 0, 2, 3);
-    for (corner, told) in [
+    for (corner, expected) in [
         (Corner::Never, none),
         (Corner::One, none),
         (Corner::Both, between),
@@ -193,7 +193,7 @@ fn water_is_a_layer_of_its_own(rt: HostRuntime) -> Result<(), Fail> {
             Line::Edit(0, 0, Ground::Water, EditReply::Same),
             Line::Query((0, 0, 0, 1), (2, 0, 0, 0)),
             Line::Edit(1, 0, Ground::Land, EditReply::Done),
-            Line::Query((0, 0, 2, 0), told),
+            Line::Query((0, 0, 2, 0), expected),
             Line::Edit(2, 0, Ground::Blocked, EditReply::Done),
             Line::Query((2, 0, 0, 0), (1, 0, 0, 0)),
         ];

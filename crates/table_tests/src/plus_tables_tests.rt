@@ -101,8 +101,8 @@ fn check_stop(rt: &impl Abort, grid: &Grid, tables: &Tables, at: Cell, goal: Cel
     requires { AreTablesOf tables.now grid.now }
 {
     assert!(rt; grid.free(at) && grid.free(goal));
-    let told = stop_of::<Brand>(tables, at, Dir::SE, goal, Blank::new(1));
-    assert_eq!(rt; told, Some(stop));
+    let found = stop_of::<Brand>(tables, at, Dir::SE, goal, Blank::new(1));
+    assert_eq!(rt; found, Some(stop));
 }
 
 // On `..@./..../..../....` a mark stands before the goal on its own diagonal; the goal is seen from (2,2)

@@ -131,7 +131,7 @@ fn the_first_difference_is_named(rt: HostRuntime) {
 }
 
 #[test]
-fn faults_of_tables_are_told_by_their_codes(rt: HostRuntime) -> Result<(), Fail> {
+fn faults_of_tables_are_printed_by_their_codes(rt: HostRuntime) -> Result<(), Fail> {
     let entry = TableFault::Entry {
         ground: Ground::Water,
         cell: Cell { x: 1, y: 2 },
@@ -143,8 +143,8 @@ fn faults_of_tables_are_told_by_their_codes(rt: HostRuntime) -> Result<(), Fail>
         (entry, "F3 Water Cell { x: 1, y: 2 } NE"),
         (TableFault::NoMemory, "memory"),
     ] {
-        let told = format!(in rt.alloc(); "{fault}")?;
-        assert_eq!(rt; told.as_str(), text);
+        let printed = format!(in rt.alloc(); "{fault}")?;
+        assert_eq!(rt; printed.as_str(), text);
     }
     Ok(())
 }

@@ -34,9 +34,9 @@ fn edit<L: Ledger>(
 }
 
 // The number of changed entries and the entries are these.
-fn compare(rt: &impl Abort, told: (u64, &[i16]), expected: (u64, &[i16])) {
-    assert_eq!(rt; told.0, expected.0);
-    assert_eq!(rt; told.1, expected.1);
+fn compare(rt: &impl Abort, found: (u64, &[i16]), expected: (u64, &[i16])) {
+    assert_eq!(rt; found.0, expected.0);
+    assert_eq!(rt; found.1, expected.1);
 }
 
 // Blocks the middle of the map `...`, and frees it: with all free, the entries are these.

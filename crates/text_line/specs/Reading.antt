@@ -24,7 +24,7 @@ abbrev pub Tells : {A V F : Type 0} → F → (A → V) → Result A F → Resul
 Tells memory view (Ok answer) read = read ≡ Ok (view answer)
 Tells memory view (Err fault) read = fault ≢ memory → read ≡ Err fault
 
--- what a reader promises of its answer for a text, told what the text spells, how it breaks its grammar
+-- what a reader promises of its answer for a text, given what the text spells, how it breaks its grammar
 -- first, and what it is read as
 pub record IsRightReading {A V F : Type 0} (memory : F) (view : A → V) (Spells : V → Type 0) (Breaks : F → Type 0)
     (read : Result V F) (answer : Result A F) : Type 0 where

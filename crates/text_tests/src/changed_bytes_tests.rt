@@ -238,8 +238,8 @@ fn truth(alloc: Global, map: &Map, text: &[u8], proof: Proof) -> Result<Verdict,
     let (a, b) = (number_in(text, 7), number_in(text, 8));
     Ok(match (proof, least_cost(alloc, map, from, to)?) {
         (Proof::NoWalk, None) => Verdict::TrueNone,
-        (Proof::Least(told), Some(cost))
-            if told == cost && cost.a as usize == a && cost.b as usize == b => {
+        (Proof::Least(proved), Some(cost))
+            if proved == cost && cost.a as usize == a && cost.b as usize == b => {
             Verdict::TrueLeast
         }
         _ => Verdict::False,

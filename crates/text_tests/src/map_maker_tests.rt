@@ -2,7 +2,7 @@ use map_maker::*;
 use map_text::{read_map, write_map};
 use rand_core::utils::NextWord;
 use rand_pcg::Lcg64Xsh32;
-use script_text::Command;
+use script_text::ScriptCommand;
 use std::test::*;
 
 // What PCG's own code prints.
@@ -48,36 +48,36 @@ fn a_drill_queries_twice_and_edits(rt: HostRuntime) -> Result<(), Fail> {
     let commands = drill_script(rt.alloc(), 1)?;
     assert_eq!(rt; commands.len(), 150);
     let first = [
-        Command::Query {
+        ScriptCommand::Query {
             sx: 3,
             sy: 215,
             gx: 211,
             gy: 62,
         },
-        Command::Query {
+        ScriptCommand::Query {
             sx: 155,
             sy: 133,
             gx: 142,
             gy: 14,
         },
-        Command::Free { x: 192, y: 62 },
-        Command::Query {
+        ScriptCommand::Free { x: 192, y: 62 },
+        ScriptCommand::Query {
             sx: 156,
             sy: 165,
             gx: 238,
             gy: 174,
         },
-        Command::Query {
+        ScriptCommand::Query {
             sx: 33,
             sy: 161,
             gx: 18,
             gy: 99,
         },
-        Command::Block { x: 6, y: 15 },
+        ScriptCommand::Block { x: 6, y: 15 },
     ];
     for (k, command) in first.iter().enumerate() {
         assert!(rt; commands.get(k) == Some(command));
     }
-    assert!(rt; commands.get(149) == Some(&Command::Free { x: 219, y: 228 }));
+    assert!(rt; commands.get(149) == Some(&ScriptCommand::Free { x: 219, y: 228 }));
     Ok(())
 }

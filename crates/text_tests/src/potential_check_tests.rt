@@ -80,8 +80,8 @@ fn each_change_has_its_answer(rt: HostRuntime) -> Result<(), Fail> {
         ),
     ] {
         let text = changed(rt.alloc(), at, line)?;
-        let told = judged(rt.alloc(), &grid, &text);
-        assert_eq!(rt; told, answer, "line {at}");
+        let ruling = judged(rt.alloc(), &grid, &text);
+        assert_eq!(rt; ruling, answer, "line {at}");
     }
     Ok(())
 }

@@ -16,13 +16,13 @@ fn cell(x: u16, y: u16) -> Cell {
     Cell { x, y }
 }
 
-// How what is told of the walks from the upper left cell is judged.
-fn judged(alloc: Global, grid: &Grid, to: Cell, told: &Told) -> Result<Judged, NoMemory>
-    requires { IsFit told.now }
+// How what is claimed of the walks from the upper left cell is judged.
+fn judged(alloc: Global, grid: &Grid, to: Cell, claimed: &Claimed) -> Result<Judged, NoMemory>
+    requires { IsFit claimed.now }
 {
     let from = cell(0, 0);
     if grid.free(from) {
-        judge_walk(alloc, grid, from, to, told)
+        judge_walk(alloc, grid, from, to, claimed)
     } else {
         Err(NoMemory)
     }
@@ -32,7 +32,7 @@ fn judged(alloc: Global, grid: &Grid, to: Cell, told: &Told) -> Result<Judged, N
 // point, through the pillar, none, with two steps back, to another goal, from another start, standing
 // still, off the map, past the pillar's corner, and with the goal passed.
 #[test]
-fn told_walks_are_judged(rt: HostRuntime) -> Result<(), Fail> {
+fn claimed_walks_are_judged(rt: HostRuntime) -> Result<(), Fail> {
     let grid = Grid::of_cells(rt.alloc(), 3, 3, b"....@....", Corner::Never)?;
     let least = cost(4, 0);
     for (line, answer) in [
@@ -49,8 +49,8 @@ fn told_walks_are_judged(rt: HostRuntime) -> Result<(), Fail> {
         (b"0,0 2,0 2,2 1,2", Judged::BadWalk(4)),
     ] {
         assert!(rt; line.len() < 100);
-        for told in &read_walks(rt.alloc(), line, 1)? {
-            assert_eq!(rt; judged(rt.alloc(), &grid, cell(2, 2), told)?, answer);
+        for claimed in &read_walks(rt.alloc(), line, 1)? {
+            assert_eq!(rt; judged(rt.alloc(), &grid, cell(2, 2), claimed)?, answer);
         }
     }
     Ok(())
@@ -60,19 +60,19 @@ fn told_walks_are_judged(rt: HostRuntime) -> Result<(), Fail> {
 #[test]
 fn none_is_right_where_no_walk_leads(rt: HostRuntime) -> Result<(), Fail> {
     let grid = Grid::of_cells(rt.alloc(), 2, 2, b".@@.", Corner::One)?;
-    for told in &read_walks(rt.alloc(), b"none", 1)? {
+    for claimed in &read_walks(rt.alloc(), b"none", 1)? {
         assert_eq!(rt;
-            judged(rt.alloc(), &grid, cell(1, 1), told)?,
+            judged(rt.alloc(), &grid, cell(1, 1), claimed)?,
             Judged::NoWalk
         );
         assert_eq!(rt;
-            judged(rt.alloc(), &grid, cell(1, 0), told)?,
+            judged(rt.alloc(), &grid, cell(1, 0), claimed)?,
             Judged::NoWalk
         );
     }
-    for told in &read_walks(rt.alloc(), b"0,0 1,1", 1)? {
+    for claimed in &read_walks(rt.alloc(), b"0,0 1,1", 1)? {
         assert_eq!(rt;
-            judged(rt.alloc(), &grid, cell(1, 1), told)?,
+            judged(rt.alloc(), &grid, cell(1, 1), claimed)?,
             Judged::BadWalk(1)
         );
     }
@@ -80,12 +80,12 @@ fn none_is_right_where_no_walk_leads(rt: HostRuntime) -> Result<(), Fail> {
 }
 
 #[test]
-fn what_is_told_is_read(rt: HostRuntime) -> Result<(), Fail> {
+fn what_is_claimed_is_read(rt: HostRuntime) -> Result<(), Fail> {
     let text = b"\n0,0 0002,0\t2,10 \r\n \t\r\n none \n";
     let walks = read_walks(rt.alloc(), text, 2)?;
     let points = [cell(0, 0), cell(2, 0), cell(2, 10)];
     match walks.as_slice() {
-        [Told::Walk(read), Told::None] => {
+        [Claimed::Walk(read), Claimed::None] => {
             assert_eq!(rt; read.as_slice(), points.as_slice());
         }
         _ => assert!(rt; false),

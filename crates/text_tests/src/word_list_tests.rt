@@ -180,7 +180,7 @@ fn check_word(rt: &impl Abort, request: Request<'_>, place: usize, word: &str, s
 }
 
 #[test]
-fn a_word_is_told_as_each_kind(rt: HostRuntime) -> Result<(), Fail> {
+fn a_word_is_read_as_each_kind(rt: HostRuntime) -> Result<(), Fail> {
     let words = [
         ("m", (0, 0, 1, 0, 1)),
         ("-1", (0, 0, 1, 0, 1)),
@@ -215,7 +215,7 @@ fn a_word_is_told_as_each_kind(rt: HostRuntime) -> Result<(), Fail> {
 
 // Words of each kind, by their places in a call.
 #[test]
-fn words_are_told_by_their_places(rt: HostRuntime) -> Result<(), Fail> {
+fn words_are_read_by_their_places(rt: HostRuntime) -> Result<(), Fail> {
     let words = words_of(rt.alloc(), "make 7 4096 3 100")?;
     match read_words(&words) {
         Ok((request, _)) => {

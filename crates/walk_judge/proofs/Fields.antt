@@ -8,10 +8,10 @@ use Rattle.std.proofs.lemmas.Bool.{cases_Bool}
 use Rattle.std.proofs.lemmas.Slice.Eq.{bytes_eq-Decides}
 use Rattle.grid_moves.specs.declared.Cell.{Cell}
 use Rattle.text_line.specs.Fields.{is_nothing}
-use Rattle.walk_judge.specs.declared.telling.Told.{Told}
-use Rattle.walk_judge.specs.declared.telling.Told.TheVariants as told
+use Rattle.walk_judge.specs.declared.telling.Claimed.{Claimed}
+use Rattle.walk_judge.specs.declared.telling.Claimed.TheVariants as claimed
 use Rattle.cell_lines.specs.Parts.{point_of, points_in}
-use Rattle.walk_judge.specs.Telling.{is_none, walk_of, told_in, AreFieldsOf}
+use Rattle.walk_judge.specs.Telling.{is_none, walk_of, claimed_in, AreFieldsOf}
 
 -- each point, where it is one
 abbrev pub some_points : List Cell → List (Option Cell)
@@ -67,35 +67,36 @@ none_no_points [] are = cc
 none_no_points (p ∷ points) are = cc
 
 -- fields that are read as this tell it
-pub told_fields : (word : List ℕ) (words : List (List ℕ)) (what : Told) → told_in (word ∷ words) ≡ Some what
+pub claimed_fields : (word : List ℕ) (words : List (List ℕ)) (what : Claimed)
+    → claimed_in (word ∷ words) ≡ Some what
     → AreFieldsOf (word ∷ words) what
-told_fields word words what read = by_test (is_none (word ∷ words)) refl read
+claimed_fields word words what read = by_test (is_none (word ∷ words)) refl read
   where
     by_points : (o : Option (List Cell)) → points_in (word ∷ words) ≡ o → option_map walk_of o ≡ Some what
         → AreFieldsOf (word ∷ words) what
     by_points None are h = absurd (cc)
     by_points (Some points) are h =
-        let same : told.Walk points ≡ what = cc in
+        let same : claimed.Walk points ≡ what = cc in
         let each = words_of_points (word ∷ words) points are in
         let some : 0 < length points = omega (arith, as_many (word ∷ words) points each) in
-        subst (λ (w : Told). AreFieldsOf (word ∷ words) w) same (some, each)
+        subst (λ (w : Claimed). AreFieldsOf (word ∷ words) w) same (some, each)
 
     by_test : (b : Bool) → is_none (word ∷ words) ≡ b
-        → (if b then Some told.None else option_map walk_of (points_in (word ∷ words))) ≡ Some what
+        → (if b then Some claimed.None else option_map walk_of (points_in (word ∷ words))) ≡ Some what
         → AreFieldsOf (word ∷ words) what
     by_test true none h =
-        let same : told.None ≡ what = cc in
-        subst (λ (w : Told). AreFieldsOf (word ∷ words) w) same (none_is (word ∷ words) none)
+        let same : claimed.None ≡ what = cc in
+        subst (λ (w : Claimed). AreFieldsOf (word ∷ words) w) same (none_is (word ∷ words) none)
     by_test false other h = by_points (points_in (word ∷ words)) refl h
 
 -- and the other way round
-pub fields_told : (fields : List (List ℕ)) (what : Told) → AreFieldsOf fields what
-    → told_in fields ≡ Some what
-fields_told fields what h1 = grind (arith, nat_tests, cases_Bool, none_is, none_no_points, points_of_words)
+pub fields_claimed : (fields : List (List ℕ)) (what : Claimed) → AreFieldsOf fields what
+    → claimed_in fields ≡ Some what
+fields_claimed fields what h1 = grind (arith, nat_tests, cases_Bool, none_is, none_no_points, points_of_words)
 
 -- a line that tells something has a field
-pub fields_there : (fields : List (List ℕ)) (what : Told) → AreFieldsOf fields what
+pub fields_there : (fields : List (List ℕ)) (what : Claimed) → AreFieldsOf fields what
     → is_nothing fields ≡ false
-fields_there fields told.None are = ap (λ (f : List (List ℕ)). is_nothing f) are
-fields_there [] (told.Walk points) are = absurd (omega (arith, as_many [] points are.1, are.0))
-fields_there (word ∷ words) (told.Walk points) are = refl
+fields_there fields claimed.None are = ap (λ (f : List (List ℕ)). is_nothing f) are
+fields_there [] (claimed.Walk points) are = absurd (omega (arith, as_many [] points are.1, are.0))
+fields_there (word ∷ words) (claimed.Walk points) are = refl

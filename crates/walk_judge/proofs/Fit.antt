@@ -11,8 +11,8 @@ use Rattle.text_line.specs.Places.{room_of}
 use Rattle.text_line.specs.Reading.{SpellInOrder}
 use Rattle.text_line.proofs.Placing.{length-without_cr, room_of_pieces, room_onto}
 use Rattle.walk_judge.specs.declared.fault.WalkFault.{WalkFault}
-use Rattle.walk_judge.specs.declared.telling.Told.{Told}
-use Rattle.walk_judge.specs.declared.telling.Told.TheVariants as told
+use Rattle.walk_judge.specs.declared.telling.Claimed.{Claimed}
+use Rattle.walk_judge.specs.declared.telling.Claimed.TheVariants as claimed
 use Rattle.walk_judge.specs.Telling.{IsFit}
 use Rattle.walk_judge.specs.Walks.{IsBlank, IsLineOf, Spells}
 use Rattle.walk_judge.proofs.Fields.{as_many}
@@ -34,25 +34,25 @@ split_room (b ∷ line) =
 few_fields : (line : List ℕ) → 2 * length (fields_of line) ≤ length line + 1
 few_fields line = omega (arith, filled_room (slice_split is_blank_byte line), split_room line)
 
-line_fit : (line : List ℕ) (what : Told) → length line ≤ 2 ^ 30 → IsLineOf line what → IsFit what
-line_fit line told.None short is = tt
-line_fit line (told.Walk points) short is =
+line_fit : (line : List ℕ) (what : Claimed) → length line ≤ 2 ^ 30 → IsLineOf line what → IsFit what
+line_fit line claimed.None short is = tt
+line_fit line (claimed.Walk points) short is =
     (is.0, omega (arith, few_fields line, as_many (fields_of line) points is.1))
 
 -- each walk is fit
-abbrev pub AllFit : List Told → Type 0
-AllFit walks = (k : ℕ) (what : Told) → slice_get walks k ≡ Some what → IsFit what
+abbrev pub AllFit : List Claimed → Type 0
+AllFit walks = (k : ℕ) (what : Claimed) → slice_get walks k ≡ Some what → IsFit what
 
 none_fit : AllFit []
 none_fit zero what found = absurd (cc)
 none_fit (suc k) what found = absurd (cc)
 
-one_more_fit : (first : Told) (later : List Told) → IsFit first → AllFit later → AllFit (first ∷ later)
+one_more_fit : (first : Claimed) (later : List Claimed) → IsFit first → AllFit later → AllFit (first ∷ later)
 one_more_fit first later here there zero what found =
-    let same : first ≡ what = cc in subst (λ (w : Told). IsFit w) same here
+    let same : first ≡ what = cc in subst (λ (w : Claimed). IsFit w) same here
 one_more_fit first later here there (suc k) what found = there k what found
 
-spelled_fit : (pieces : List (List ℕ)) (walks : List Told) → room_of pieces ≤ 2 ^ 30 + 1
+spelled_fit : (pieces : List (List ℕ)) (walks : List Claimed) → room_of pieces ≤ 2 ^ 30 + 1
     → SpellInOrder IsBlank IsLineOf (map without_cr pieces) walks → AllFit walks
 spelled_fit [] walks room none = subst AllFit (sym none) none_fit
 spelled_fit (piece ∷ pieces) walks room spelled =
@@ -66,10 +66,10 @@ spelled_fit (piece ∷ pieces) walks room spelled =
     ]
 
 -- so are those of an answer that tells what is spelled
-pub answer_fit : (text : List ℕ) (entries : ℕ) (answer : Result (Vec Told Global) WalkFault)
+pub answer_fit : (text : List ℕ) (entries : ℕ) (answer : Result (Vec Claimed Global) WalkFault)
     → length text ≤ 2 ^ 30
     → IfOk answer (λ read. Spells text entries read.items)
-    → IfOk answer (λ read. (k : ℕ) (what : Told) → slice_get read.items k ≡ Some what → IsFit what)
+    → IfOk answer (λ read. (k : ℕ) (what : Claimed) → slice_get read.items k ≡ Some what → IsFit what)
 answer_fit text entries (Ok read) short spells =
     spelled_fit (pieces_of text) read.items (omega (arith, room_of_pieces text)) spells.spelled
 answer_fit text entries (Err fault) short none = tt

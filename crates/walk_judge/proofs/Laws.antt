@@ -9,11 +9,11 @@ use Rattle.text_line.specs.Reading.{SpellInOrder}
 use Rattle.text_line.proofs.Reading.{Reads, Judges, lines_read}
 use Rattle.walk_judge.specs.declared.fault.WalkFault.{WalkFault}
 use Rattle.walk_judge.specs.declared.fault.WalkFault.TheVariants.{Count}
-use Rattle.walk_judge.specs.declared.telling.Told.{Told}
+use Rattle.walk_judge.specs.declared.telling.Claimed.{Claimed}
 use Rattle.walk_judge.specs.Telling.{AreFieldsOf}
 use Rattle.walk_judge.specs.Walks.{Place, at_line, at_end, places_from, places_of, fields_read}
 use Rattle.walk_judge.specs.Walks.{place_read, walks_of, BreaksFirst, IsBlank, IsLineOf, Spells}
-use Rattle.walk_judge.proofs.Fields.{told_fields, fields_told, fields_there}
+use Rattle.walk_judge.proofs.Fields.{claimed_fields, fields_claimed, fields_there}
 
 -- a place that breaks nothing and tells nothing
 abbrev IsBlankPlace : ℕ → Place → Type 0
@@ -21,12 +21,12 @@ IsBlankPlace entries (at_line number before line) = IsBlank line
 IsBlankPlace entries (at_end number before) = entries ≤ before
 
 -- a place that tells this
-abbrev IsPlaceOf : ℕ → Place → Told → Type 0
+abbrev IsPlaceOf : ℕ → Place → Claimed → Type 0
 IsPlaceOf entries (at_line number before line) what = (before < entries) × IsLineOf line what
 IsPlaceOf entries (at_end number before) what = ⊥
 
--- what the end is read as, told whether lines are missing
-abbrev end_read : ℕ → Bool → Result (Option Told) WalkFault
+-- what the end is read as, given whether lines are missing
+abbrev end_read : ℕ → Bool → Result (Option Claimed) WalkFault
 end_read number few = if few then Err (Count number) else Ok None
 
 module _ (entries : ℕ) where
@@ -34,19 +34,19 @@ module _ (entries : ℕ) where
       → fields_read entries number before fields ≡ Ok None → fields ≡ []
   fields_blank number before fields h1 = grind (arith, nat_tests)
 
-  fields_tell : (number before : ℕ) (fields : List (List ℕ)) (what : Told)
+  fields_tell : (number before : ℕ) (fields : List (List ℕ)) (what : Claimed)
       → fields_read entries number before fields ≡ Ok (Some what)
       → (before < entries) × AreFieldsOf fields what
-  fields_tell number before fields what h1 = grind (arith, nat_tests, told_fields)
+  fields_tell number before fields what h1 = grind (arith, nat_tests, claimed_fields)
 
-  tell_fields : (number before : ℕ) (fields : List (List ℕ)) (what : Told) → before < entries
+  tell_fields : (number before : ℕ) (fields : List (List ℕ)) (what : Claimed) → before < entries
       → AreFieldsOf fields what → fields_read entries number before fields ≡ Ok (Some what)
-  tell_fields number before fields what h1 h2 = grind (arith, nat_tests, fields_there, fields_told)
+  tell_fields number before fields what h1 h2 = grind (arith, nat_tests, fields_there, fields_claimed)
 
   end_blank : (number before : ℕ) → place_read entries (at_end number before) ≡ Ok None → entries ≤ before
   end_blank number before h1 = grind (arith, nat_tests)
 
-  end_tells : (number before : ℕ) (what : Told)
+  end_tells : (number before : ℕ) (what : Claimed)
       → place_read entries (at_end number before) ≡ Ok (Some what) → ⊥
   end_tells number before what h1 = grind (arith, nat_tests)
 
@@ -59,21 +59,22 @@ module _ (entries : ℕ) where
   is_nothing_read (at_end number before) all =
       let none : nat_lt before entries ≡ false = grind (arith, nat_tests) in rw none refl
 
-  told_is : (place : Place) (what : Told) → place_read entries place ≡ Ok (Some what)
+  claimed_is : (place : Place) (what : Claimed) → place_read entries place ≡ Ok (Some what)
       → IsPlaceOf entries place what
-  told_is (at_line number before line) what read = fields_tell number before (fields_of line) what read
-  told_is (at_end number before) what read = end_tells number before what read
+  claimed_is (at_line number before line) what read = fields_tell number before (fields_of line) what read
+  claimed_is (at_end number before) what read = end_tells number before what read
 
-  is_told : (place : Place) (what : Told) → IsPlaceOf entries place what
+  is_claimed : (place : Place) (what : Claimed) → IsPlaceOf entries place what
       → place_read entries place ≡ Ok (Some what)
-  is_told (at_line number before line) what is = tell_fields number before (fields_of line) what is.0 is.1
-  is_told (at_end number before) what is = absurd is
+  is_claimed (at_line number before line) what is = tell_fields number before (fields_of line) what is.0 is.1
+  is_claimed (at_end number before) what is = absurd is
 
   places_judged : Judges (place_read entries) (IsBlankPlace entries) (IsPlaceOf entries)
-  places_judged = record { blank = blank_is; nothing = is_nothing_read; spelled = told_is; value = is_told }
+  places_judged =
+      record { blank = blank_is; nothing = is_nothing_read; spelled = claimed_is; value = is_claimed }
 
   -- lines that are blank or tell the walks in order, of which there are as many as entries, and their places
-  to_places : (number before : ℕ) (lines : List (List ℕ)) (walks : List Told)
+  to_places : (number before : ℕ) (lines : List (List ℕ)) (walks : List Claimed)
       → SpellInOrder IsBlank IsLineOf lines walks → before + length walks ≡ entries
       → SpellInOrder (IsBlankPlace entries) (IsPlaceOf entries) (places_from number before lines) walks
   to_places number before [] walks none counted = inl (omega (arith, ap length none), none)
@@ -91,7 +92,7 @@ module _ (entries : ℕ) where
         })
   ]
 
-  from_places : (number before : ℕ) (lines : List (List ℕ)) (walks : List Told) → before ≤ entries
+  from_places : (number before : ℕ) (lines : List (List ℕ)) (walks : List Claimed) → before ≤ entries
       → SpellInOrder (IsBlankPlace entries) (IsPlaceOf entries) (places_from number before lines) walks
       → SpellInOrder IsBlank IsLineOf lines walks × (before + length walks ≡ entries)
   from_places number before [] walks few spelled = elim spelled [

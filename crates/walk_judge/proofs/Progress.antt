@@ -7,7 +7,7 @@ use Rattle.text_line.specs.Lines.{lines_of, pieces_of, without_cr}
 use Rattle.text_line.specs.Reading.{read_behind}
 use Rattle.text_line.specs.Places.{room_of}
 use Rattle.text_line.proofs.Placing.{room_of_pieces}
-use Rattle.walk_judge.specs.declared.telling.Told.{Told}
+use Rattle.walk_judge.specs.declared.telling.Claimed.{Claimed}
 use Rattle.walk_judge.specs.Walks.{place_read, places_from, walks_of}
 
 -- a text has no more lines than bytes and one
@@ -23,7 +23,7 @@ few_lines text = omega (arith, room_of_pieces text, as_many (pieces_of text), ma
     many_room (piece ∷ pieces) = omega (arith, many_room pieces)
 
 -- before the first line, all lines are left behind no walks
-pub walks_begun : (text : List ℕ) (entries : ℕ) (walks : List Told) (left : Left) → walks ≡ []
+pub walks_begun : (text : List ℕ) (entries : ℕ) (walks : List Claimed) (left : Left) → walks ≡ []
     → left ≡ record { lines = lines_of text; number = 1 }
     → walks_of text entries ≡ read_behind (place_read entries) walks (places_from 1 (length walks) left.lines)
 unfolding walks_of

@@ -5,8 +5,8 @@ use Rattle.std.specs.Option.{option_map}
 use Rattle.std.specs.Str.{bytes_eq}
 use Rattle.grid_moves.specs.declared.Cell.{Cell}
 use Rattle.cell_lines.specs.Parts.{point_of, points_in}
-use Rattle.walk_judge.specs.declared.telling.Told.{Told}
-use Rattle.walk_judge.specs.declared.telling.Told.TheVariants as told
+use Rattle.walk_judge.specs.declared.telling.Claimed.{Claimed}
+use Rattle.walk_judge.specs.declared.telling.Claimed.TheVariants as claimed
 
 -- the one field `none`
 abbrev pub is_none : List (List ℕ) → Bool
@@ -14,20 +14,21 @@ is_none (word ∷ []) = bytes_eq word (codes "none")
 is_none _ = false
 
 -- a walk of these points
-abbrev pub walk_of : List Cell → Told
-walk_of points = told.Walk points
+abbrev pub walk_of : List Cell → Claimed
+walk_of points = claimed.Walk points
 
 -- what fields tell that are one or more, where they are of a form
-abbrev pub told_in : List (List ℕ) → Option Told
-told_in fields = if is_none fields then Some told.None else option_map walk_of (points_in fields)
+abbrev pub claimed_in : List (List ℕ) → Option Claimed
+claimed_in fields = if is_none fields then Some claimed.None else option_map walk_of (points_in fields)
 
 -- the fields tell this: the one field `none` tells that no walk exists; one or more fields tell a walk, each
 -- of them the point at its place
-abbrev pub AreFieldsOf : List (List ℕ) → Told → Type 0
-AreFieldsOf fields told.None = fields ≡ codes "none" ∷ []
-AreFieldsOf fields (told.Walk points) = (0 < length points) × (map point_of fields ≡ map (λ p. Some p) points)
+abbrev pub AreFieldsOf : List (List ℕ) → Claimed → Type 0
+AreFieldsOf fields claimed.None = fields ≡ codes "none" ∷ []
+AreFieldsOf fields (claimed.Walk points) =
+    (0 < length points) × (map point_of fields ≡ map (λ p. Some p) points)
 
 -- a walk has one point or more, and fewer than 2^30
-abbrev pub IsFit : Told → Type 0
-IsFit told.None = Unit {0}
-IsFit (told.Walk points) = (0 < length points) × (length points < 2 ^ 30)
+abbrev pub IsFit : Claimed → Type 0
+IsFit claimed.None = Unit {0}
+IsFit (claimed.Walk points) = (0 < length points) × (length points < 2 ^ 30)

@@ -8,8 +8,8 @@ use Rattle.text_line.specs.Reading as lines
 use Rattle.text_line.specs.Reading.{read_lines, fault_on, SpellInOrder}
 use Rattle.walk_judge.specs.declared.fault.WalkFault.{WalkFault}
 use Rattle.walk_judge.specs.declared.fault.WalkFault.TheVariants.{Line, Count, NoMemory}
-use Rattle.walk_judge.specs.declared.telling.Told.{Told}
-use Rattle.walk_judge.specs.Telling.{told_in, AreFieldsOf}
+use Rattle.walk_judge.specs.declared.telling.Claimed.{Claimed}
+use Rattle.walk_judge.specs.Telling.{claimed_in, AreFieldsOf}
 
 -- a place of a text: a line with its number, from 1, how many lines before it are not blank, and its bytes;
 -- or the end, with the number that a further line would have, and how many lines are not blank
@@ -27,25 +27,25 @@ places_from number before (line ∷ lines) =
 abbrev pub places_of : List ℕ → List Place
 places_of text = places_from 1 0 (lines_of text)
 
--- what is told on the line with this number, or K1: its fields are of no form
-abbrev pub form_read : ℕ → Option Told → Result (Option Told) WalkFault
+-- what is claimed on the line with this number, or K1: its fields are of no form
+abbrev pub form_read : ℕ → Option Claimed → Result (Option Claimed) WalkFault
 form_read number None = Err (Line number)
-form_read number (Some told) = Ok (Some told)
+form_read number (Some claimed) = Ok (Some claimed)
 
 -- what a line is read as by its fields: nothing where there is none; K2: all entries have their lines before
 -- it; else what it tells, or K1
-abbrev pub fields_read : ℕ → ℕ → ℕ → List (List ℕ) → Result (Option Told) WalkFault
+abbrev pub fields_read : ℕ → ℕ → ℕ → List (List ℕ) → Result (Option Claimed) WalkFault
 fields_read entries number before [] = Ok None
 fields_read entries number before (field ∷ fields) =
-    if nat_le entries before then Err (Count number) else form_read number (told_in (field ∷ fields))
+    if nat_le entries before then Err (Count number) else form_read number (claimed_in (field ∷ fields))
 
 -- what a place is read as, where there are so many entries; at the end K2: an entry has no line
-abbrev pub place_read : ℕ → Place → Result (Option Told) WalkFault
+abbrev pub place_read : ℕ → Place → Result (Option Claimed) WalkFault
 place_read entries (at_line number before line) = fields_read entries number before (fields_of line)
 place_read entries (at_end number before) = if nat_lt before entries then Err (Count number) else Ok None
 
 -- what a text is read as for so many entries: a walk for each, or the fault of its first broken line
-unfoldable pub walks_of : List ℕ → ℕ → Result (List Told) WalkFault
+unfoldable pub walks_of : List ℕ → ℕ → Result (List Claimed) WalkFault
 walks_of text entries = read_lines (place_read entries) (places_of text)
 
 -- the first place that breaks the form breaks it so
@@ -57,18 +57,18 @@ abbrev pub IsBlank : List ℕ → Type 0
 IsBlank line = fields_of line ≡ []
 
 -- a line that tells this
-abbrev pub IsLineOf : List ℕ → Told → Type 0
-IsLineOf line told = AreFieldsOf (fields_of line) told
+abbrev pub IsLineOf : List ℕ → Claimed → Type 0
+IsLineOf line claimed = AreFieldsOf (fields_of line) claimed
 
 -- each line of the text is blank or tells the walk at its place, and there are as many walks as entries
-pub record Spells (text : List ℕ) (entries : ℕ) (walks : List Told) : Type 0 where
+pub record Spells (text : List ℕ) (entries : ℕ) (walks : List Claimed) : Type 0 where
   pub spelled : SpellInOrder IsBlank IsLineOf (lines_of text) walks
   pub counted : length walks ≡ entries
 
 -- an answer tells a reading; for want of memory it tells nothing
-abbrev pub Tells : Result (Vec Told Global) WalkFault → Result (List Told) WalkFault → Type 0
+abbrev pub Tells : Result (Vec Claimed Global) WalkFault → Result (List Claimed) WalkFault → Type 0
 Tells answer read = lines.Tells NoMemory (λ walks. walks.items) answer read
 
 -- and so does an answer for a line
-abbrev pub TellsLine : Result (Option Told) WalkFault → Result (Option Told) WalkFault → Type 0
-TellsLine answer read = lines.Tells NoMemory (λ told. told) answer read
+abbrev pub TellsLine : Result (Option Claimed) WalkFault → Result (Option Claimed) WalkFault → Type 0
+TellsLine answer read = lines.Tells NoMemory (λ claimed. claimed) answer read

@@ -1,20 +1,20 @@
 -- Worked rows of the form, by computing.
 use Rattle.std.specs.Prelude.{◌≡◌, [], ◌∷◌, codes, refl, Ok, Err}
 use Rattle.walk_judge.specs.declared.fault.WalkFault.TheVariants.{Line, Count}
-use Rattle.walk_judge.specs.declared.telling.Told.TheVariants as told
+use Rattle.walk_judge.specs.declared.telling.Claimed.TheVariants as claimed
 use Rattle.cell_lines.specs.Parts.{point_of}
 use Rattle.walk_judge.specs.Walks.{walks_of}
 
 -- a walk and none, with a blank line, a carriage return, blanks before and behind, and no last line feed
-pub two_told : walks_of (codes " 0,0\t2,0\r\n \nnone ") 2 ≡ Ok
-    (told.Walk (record { x = 0; y = 0 } ∷ record { x = 2; y = 0 } ∷ []) ∷ told.None ∷ [])
+pub two_claimed : walks_of (codes " 0,0\t2,0\r\n \nnone ") 2 ≡ Ok
+    (claimed.Walk (record { x = 0; y = 0 } ∷ record { x = 2; y = 0 } ∷ []) ∷ claimed.None ∷ [])
 unfolding walks_of point_of
-two_told = refl
+two_claimed = refl
 
 -- no entry and no line
-pub nothing_told : walks_of (codes "\n\n") 0 ≡ Ok []
+pub nothing_claimed : walks_of (codes "\n\n") 0 ≡ Ok []
 unfolding walks_of point_of
-nothing_told = refl
+nothing_claimed = refl
 
 -- a line is missing: the one behind the last is named, and blank lines count
 pub too_few : walks_of (codes "none\n\nnone\n") 3 ≡ Err (Count 4)

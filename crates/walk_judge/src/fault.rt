@@ -3,7 +3,7 @@
 ghost use Rattle.std.specs.Prelude.{◌≡◌};
 ghost use Rattle.walk_judge.specs.declared.fault.WalkFault.TheVariants.{NoMemory};
 
-use crate::telling::Told;
+use crate::telling::Claimed;
 use std::alloc::AllocFailed;
 use thiserror::Error;
 
@@ -22,10 +22,10 @@ pub enum WalkFault {
     NoMemory,
 }
 
-impl From<AllocFailed<Told>> for WalkFault {
+impl From<AllocFailed<Claimed>> for WalkFault {
     ghost from_gives = { λ _ fault. fault ≡ NoMemory };
 
-    fn from(_refused: AllocFailed<Told>) -> WalkFault {
+    fn from(_refused: AllocFailed<Claimed>) -> WalkFault {
         WalkFault::NoMemory
     }
 }

@@ -1,4 +1,4 @@
-//! Judging what is told of the walks between two cells.
+//! Judging what is claimed of the walks between two cells.
 
 ghost use Rattle.std.specs.Prelude.{◌≡◌, ◌↔◌, List, true, IfOk};
 ghost use Rattle.root2_cost.specs.declared.Cost.{Cost};
@@ -14,7 +14,7 @@ ghost use Rattle.walk_judge.specs.declared.judging.Judged.{Judged};
 ghost use Rattle.walk_judge.specs.declared.judging.Judged.TheVariants.{Least};
 
 use crate::NoMemory;
-use crate::telling::Told;
+use crate::telling::Claimed;
 use grid_moves::{Cell, Terrain};
 use path_points::Points;
 use plain_search::{Found, Workspace, least_in};
@@ -22,25 +22,25 @@ use potential_check::walk_between;
 use root2_cost::Cost;
 use std::alloc::Global;
 
-/// How a told walk is judged: the first case that applies.
+/// How a claimed walk is judged: the first case that applies.
 #[derive(Clone, Copy, Debug, PartialEq, Eq)]
 pub enum Judged {
-    /// The told walk is legal and least, and costs this.
+    /// The claimed walk is legal and least, and costs this.
     Least(Cost),
-    /// Told is that no walk exists, and none does.
+    /// Claimed is that no walk exists, and none does.
     NoWalk,
-    /// The told points are no legal walk from start to goal. The number is 0 where the first point is
+    /// The claimed points are no legal walk from start to goal. The number is 0 where the first point is
     /// not the start; else that of the first later point, counted from 0, to which no legal run of at
     /// least one step leads from the point before, or that brings the steps above 2^24; else the number
     /// of points, where the last one is not the goal.
     BadWalk(u32),
-    /// The told walk is legal and costs the first, and the least cost is the second, another pair.
+    /// The claimed walk is legal and costs the first, and the least cost is the second, another pair.
     Longer(Cost, Cost),
-    /// Told is that no walk exists, and the least cost is this.
+    /// Claimed is that no walk exists, and the least cost is this.
     Exists(Cost),
 }
 
-/// How what is told of the walks between two cells is judged, by a search of the least cost.
+/// How what is claimed of the walks between two cells is judged, by a search of the least cost.
 ///
 /// `to` may be any cell: to one that is not free no walk leads.
 pub fn judge_walk<T: Terrain>(
@@ -48,55 +48,63 @@ pub fn judge_walk<T: Terrain>(
     t: &T,
     from: Cell,
     to: Cell,
-    told: &Told,
+    claimed: &Claimed,
 ) -> Result<Judged, NoMemory>
     requires free { is_free (T.grid t.now) from ≡ true }
-    requires fit { IsFit told.now }
+    requires fit { IsFit claimed.now }
     // The first case that applies, and no other answer.
-    ensures judged { IfOk result (IsJudgement (T.grid t.now) from to told.now) }
-    ensures only { (judged : Judged) → IsJudgement (T.grid t.now) from to told.now judged
+    ensures judged { IfOk result (IsJudgement (T.grid t.now) from to claimed.now) }
+    ensures only { (judged : Judged) → IsJudgement (T.grid t.now) from to claimed.now judged
         → IfOk result (λ answer. answer ≡ judged) }
     // Exactly the legal least walks are accepted, at their cost.
-    ensures accepted { (points : List Cell) (cost : Cost) → told.now ≡ walk_of points → IfOk result (λ answer.
+    ensures accepted { (points : List Cell) (cost : Cost) → claimed.now ≡ walk_of points
+        → IfOk result (λ answer.
         (answer ≡ Least cost) ↔ StandsForLeast (T.grid t.now) from to points cost) }
 {
     let least = least_cost(alloc, t, from, to)?;
-    Ok(judge_told(t, from, to, told, least))
+    Ok(judge_claimed(t, from, to, claimed, least))
 }
 
 /// The same where the least cost is known: none where no walk exists, as from a cell that is not free.
-/// No memory is taken. The told walk is passed over once, step by step, up to its first bad point.
-pub fn judge_told<T: Terrain>(
+/// No memory is taken. The claimed walk is passed over once, step by step, up to its first bad point.
+pub fn judge_claimed<T: Terrain>(
     t: &T,
     from: Cell,
     to: Cell,
-    told: &Told,
+    claimed: &Claimed,
     least: Option<Cost>,
 ) -> Judged
-    requires fit { IsFit told.now }
+    requires fit { IsFit claimed.now }
     requires least { IsCostTo (T.grid t.now) from to least }
-    ensures judged { IsJudgement (T.grid t.now) from to told.now result }
-    ensures only { (judged : Judged) → IsJudgement (T.grid t.now) from to told.now judged → result ≡ judged }
-    ensures accepted { (points : List Cell) (cost : Cost) → told.now ≡ walk_of points
+    ensures judged { IsJudgement (T.grid t.now) from to claimed.now result }
+    ensures only { (judged : Judged) → IsJudgement (T.grid t.now) from to claimed.now judged
+        → result ≡ judged }
+    ensures accepted { (points : List Cell) (cost : Cost) → claimed.now ≡ walk_of points
         → ((result ≡ Least cost) ↔ StandsForLeast (T.grid t.now) from to points cost) }
 {
     // A terrain that tells its width is a grid, on which a least walk has fewer than 2^24 steps.
     let _width = t.width();
-    judgement(t, from, to, told, least)
+    judgement(t, from, to, claimed, least)
 }
 
 /// The same, whose clause is the relation alone.
-fn judgement<T: Terrain>(t: &T, from: Cell, to: Cell, told: &Told, least: Option<Cost>) -> Judged
-    requires fit { IsFit told.now }
+fn judgement<T: Terrain>(
+    t: &T,
+    from: Cell,
+    to: Cell,
+    claimed: &Claimed,
+    least: Option<Cost>,
+) -> Judged
+    requires fit { IsFit claimed.now }
     requires least { IsCostTo (T.grid t.now) from to least }
-    ensures { IsJudgement (T.grid t.now) from to told.now result }
+    ensures { IsJudgement (T.grid t.now) from to claimed.now result }
 {
-    match told {
-        Told::Walk(points) => match walk_between(t, from, to, points) {
+    match claimed {
+        Claimed::Walk(points) => match walk_between(t, from, to, points) {
             Err(bad) => Judged::BadWalk(bad),
             Ok(paid) => compared(t, from, to, points, paid, least),
         },
-        Told::None => match least {
+        Claimed::None => match least {
             Some(cost) => Judged::Exists(cost),
             None => Judged::NoWalk,
         },

@@ -8,7 +8,7 @@
 //! none
 //! ```
 //!
-//! A told walk is judged by its own steps and the least cost alone, so it need not be the walk that
+//! A claimed walk is judged by its own steps and the least cost alone, so it need not be the walk that
 //! this program would find. It is accepted exactly where its points unfold to a walk from start to
 //! goal that no other undercuts; all else is refused with the first reason that applies.
 //!
@@ -22,7 +22,7 @@ mod reading;
 mod telling;
 
 pub use fault::WalkFault;
-pub use judging::{Judged, judge_told, judge_walk};
+pub use judging::{Judged, judge_claimed, judge_walk};
 pub use reading::read_walks;
 pub use std::alloc::AllocError as NoMemory;
-pub use telling::Told;
+pub use telling::Claimed;

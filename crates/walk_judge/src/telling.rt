@@ -4,7 +4,7 @@ use path_points::Points;
 
 /// What a line of the walks tells.
 #[derive(Debug, Drop)]
-pub enum Told {
+pub enum Claimed {
     /// A walk, by its points from the start to the goal: each next one lies on one of the eight lines
     /// from the one before it, if the walk is legal.
     Walk(Points),

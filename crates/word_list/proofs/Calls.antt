@@ -37,9 +37,9 @@ abbrev call_with : Asked → Settings → Call
 call_with request settings = record { request = request; settings = settings }
 
 -- what is told of the settings of some words is told of these words
-pub told_by : (words : List (List ℕ)) {set : Settings} {b : Bool} → set ≡ settings_of words
+pub served_as : (words : List (List ℕ)) {set : Settings} {b : Bool} → set ≡ settings_of words
     → b ≡ are_served set.pick words → is_complete words ≡ b
-told_by words same is = ap (λ (set : Settings). are_served set.pick words) (sym same) ∙ sym is
+served_as words same is = ap (λ (set : Settings). are_served set.pick words) (sym same) ∙ sym is
 
 -- where none is missing, the engine for their table file is picked
 pub sound_by : (words : List (List ℕ)) {tables : Option (List ℕ)} {set : Settings} → tables ≡ tables_of words

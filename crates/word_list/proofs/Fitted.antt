@@ -4,8 +4,8 @@ use Rattle.std.proofs.Common.{◌∙◌, subst, arith}
 use Rattle.std.specs.Prelude.{codes}
 use Rattle.text_line.specs.LongNumbers.{long_number_of}
 use Rattle.text_line.specs.Numbers.{number_of}
-use Rattle.word_list.specs.declared.rows.Kind.{Kind}
-use Rattle.word_list.specs.declared.rows.Kind.TheVariants.{File, Number, Seed, Side, Percent, Count}
+use Rattle.word_list.specs.declared.rows.WordKind.{WordKind}
+use Rattle.word_list.specs.declared.rows.WordKind.TheVariants.{File, Number, Seed, Side, Percent, Count}
 use Rattle.word_list.specs.declared.settings.Family.{Family}
 use Rattle.word_list.specs.Settings.{are_settings}
 use Rattle.word_list.specs.Kinds.{is_of}
@@ -16,7 +16,7 @@ use Rattle.word_list.proofs.Rules.{ends_at_once, ends_later}
 
 module _ (allows : List Family) where
   -- every form has a list
-  pub completed : (takes : List Kind) → Begins (fits takes allows) []
+  pub completed : (takes : List WordKind) → Begins (fits takes allows) []
   unfolding number_of long_number_of
   completed [] = ([], refl)
   completed (File ∷ takes) = let rest = completed takes in ([] ∷ rest.0, rest.1)
@@ -27,11 +27,11 @@ module _ (allows : List Family) where
   completed (Count ∷ takes) = let rest = completed takes in (codes "1" ∷ rest.0, rest.1)
 
   -- a first word that is of its kind
-  goes_on : (kind : Kind) (takes : List Kind) (word : List ℕ) → is_of kind word ≡ true
+  goes_on : (kind : WordKind) (takes : List WordKind) (word : List ℕ) → is_of kind word ≡ true
       → (more : List (List ℕ)) → fits (kind ∷ takes) allows (word ∷ more) ≡ fits takes allows more
   goes_on kind takes word right more = rw right refl
 
-  later : {kind : Kind} {takes : List Kind} {word : List ℕ} {words : List (List ℕ)} {count : ℕ}
+  later : {kind : WordKind} {takes : List WordKind} {word : List ℕ} {words : List (List ℕ)} {count : ℕ}
       → AreOf (kind ∷ takes) (word ∷ words) (suc count) → AreOf takes words count
   later are = record {
     within = omega (arith, are.within);
@@ -40,7 +40,7 @@ module _ (allows : List Family) where
   }
 
   -- where a word that is taken is absent or not of its kind
-  pub taken_part : (takes : List Kind) (words : List (List ℕ)) (count : ℕ) → AreOf takes words count
+  pub taken_part : (takes : List WordKind) (words : List (List ℕ)) (count : ℕ) → AreOf takes words count
       → count < length takes → (fits takes allows words ≡ false) × EndsAfter (fits takes allows) words count
   taken_part [] words count are below = absurd (omega arith)
   taken_part (kind ∷ takes) [] zero are below = (
@@ -64,7 +64,7 @@ module _ (allows : List Family) where
       )
 
   -- where all words that are taken are there
-  pub taken_whole : (takes : List Kind) (words : List (List ℕ)) → AreOf takes words (length takes)
+  pub taken_whole : (takes : List WordKind) (words : List (List ℕ)) → AreOf takes words (length takes)
       → (fits takes allows words ≡ are_settings allows (drop (length takes) words))
       × ((place count : ℕ) → count ≡ length takes + place
       → EndsAfter (are_settings allows) (drop (length takes) words) place

@@ -232,14 +232,14 @@ chosen_more words place word inside at =
     (word ∷ [])
 
 -- the table file that words tell, by what the next of them tells
-pub tables_ahead : (words : List (List ℕ)) (place : ℕ) (word : List ℕ) (told : Option (List ℕ))
+pub tables_ahead : (words : List (List ℕ)) (place : ℕ) (word : List ℕ) (given : Option (List ℕ))
     → place < length words
-    → get_or words place word ≡ word → told ≡ tables_in word
-    → tables_of (drop place words) ≡ option_or told (tables_of (drop (place + 1) words))
-tables_ahead words place word told inside at is = rw add-one (ahead words place inside at)
+    → get_or words place word ≡ word → given ≡ tables_in word
+    → tables_of (drop place words) ≡ option_or given (tables_of (drop (place + 1) words))
+tables_ahead words place word given inside at is = rw add-one (ahead words place inside at)
   where
     ahead : (words : List (List ℕ)) (place : ℕ) → place < length words → get_or words place word ≡ word
-        → tables_of (drop place words) ≡ option_or told (tables_of (drop (suc place) words))
+        → tables_of (drop place words) ≡ option_or given (tables_of (drop (suc place) words))
     ahead [] place inside at = absurd (omega arith)
     ahead (first ∷ words) zero inside at =
         ap (λ (t : Option (List ℕ)). option_or t (tables_of words)) (ap tables_in at ∙ sym is)

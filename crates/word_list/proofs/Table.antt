@@ -7,26 +7,27 @@ use Rattle.std.specs.Borrow.{Bor}
 use Rattle.std.specs.Option.{option_map}
 use Rattle.std.specs.Prelude.{Some, bytes_eq, nat_le, ◌&&◌, Option, None, IfSome, if◌then◌else◌}
 use Rattle.word_list.specs.declared.rows.Command.{Command}
-use Rattle.word_list.specs.declared.rows.Kind.{Kind}
+use Rattle.word_list.specs.declared.rows.WordKind.{WordKind}
 use Rattle.word_list.specs.declared.settings.Family.{Family}
 use Rattle.word_list.specs.declared.rows.Row as declared
-use Rattle.word_list.specs.Request.{Named, Row, row_data, row_in, row_of, rows, told_row}
+use Rattle.word_list.specs.Request.{Named, Row, row_data, row_in, row_of, rows, stored_row}
 
-abbrev Told : Type 0
-Told = Bor (List ℕ) × Command × Bor (List Kind) × Bor (List Family) × Bor (List ℕ) × Bor (List (Bor (List ℕ)))
+abbrev Stored : Type 0
+Stored = Bor (List ℕ) × Command × Bor (List WordKind) × Bor (List Family) × Bor (List ℕ)
+    × Bor (List (Bor (List ℕ)))
 
-module _ (told : List Told) (name : List ℕ) (i : ℕ) (other : Told) (inside : i < length told) where
+module _ (stored : List Stored) (name : List ℕ) (i : ℕ) (other : Stored) (inside : i < length stored) where
   abbrev left : ℕ → Option Row
-  left i = row_in (map told_row (drop i told)) name
+  left i = row_in (map stored_row (drop i stored)) name
 
   -- the next row has another name
-  pub skipped : bytes_eq name (get_or told i other).0.now ≡ false → left i ≡ left (i + 1)
-  skipped e = at_drop_more (λ left. row_in (map told_row left) name) told i other inside ∙ rw e refl
+  pub skipped : bytes_eq name (get_or stored i other).0.now ≡ false → left i ≡ left (i + 1)
+  skipped e = at_drop_more (λ left. row_in (map stored_row left) name) stored i other inside ∙ rw e refl
 
   -- it has this name
-  pub found : bytes_eq name (get_or told i other).0.now ≡ true
-      → left i ≡ Some (told_row (get_or told i other)).row
-  found e = at_drop_more (λ left. row_in (map told_row left) name) told i other inside ∙ rw e refl
+  pub found : bytes_eq name (get_or stored i other).0.now ≡ true
+      → left i ≡ Some (stored_row (get_or stored i other)).row
+  found e = at_drop_more (λ left. row_in (map stored_row left) name) stored i other inside ∙ rw e refl
 
 -- each command takes few words
 are_few : List Named → Bool

@@ -1,14 +1,14 @@
 -- The lists of words that are calls of the program.
 use Rattle.std.specs.Prelude.{ℕ, Bool, false, List, [], ◌∷◌, length, drop, is_some, ◌&&◌, if◌then◌else◌}
 use Rattle.std.specs.Prelude.{Option, Some, None, option_and_then}
-use Rattle.word_list.specs.declared.rows.Kind.{Kind}
+use Rattle.word_list.specs.declared.rows.WordKind.{WordKind}
 use Rattle.word_list.specs.declared.settings.Family.{Family}
 use Rattle.word_list.specs.Request.{Call, asked_by, row_of}
 use Rattle.word_list.specs.Settings.{are_settings, settings_of}
 use Rattle.word_list.specs.Kinds.{is_of}
 
 -- whether the words are a word of each kind and then settings
-abbrev pub fits : List Kind → List Family → List (List ℕ) → Bool
+abbrev pub fits : List WordKind → List Family → List (List ℕ) → Bool
 fits [] allows words = are_settings allows words
 fits (kind ∷ takes) allows [] = false
 fits (kind ∷ takes) allows (word ∷ words) = is_of kind word && fits takes allows words

@@ -3,8 +3,8 @@ use Rattle.std.specs.Prelude.{ℕ, Bool, true, nat_le, ◌&&◌, List, [], is_so
 use Rattle.std.specs.Prelude.{Some, None, unwrap_or}
 use Rattle.text_line.specs.LongNumbers.{long_number_of}
 use Rattle.text_line.specs.Numbers.{number_of}
-use Rattle.word_list.specs.declared.rows.Kind.{Kind}
-use Rattle.word_list.specs.declared.rows.Kind.TheVariants.{File, Number, Seed, Side, Percent, Count}
+use Rattle.word_list.specs.declared.rows.WordKind.{WordKind}
+use Rattle.word_list.specs.declared.rows.WordKind.TheVariants.{File, Number, Seed, Side, Percent, Count}
 
 -- the number, where it lies between these
 abbrev pub number_within : ℕ → ℕ → Option ℕ → Option ℕ
@@ -24,7 +24,7 @@ abbrev pub count_of : List ℕ → Option ℕ
 count_of word = number_within 1 100000 (number_of word)
 
 -- whether a word is of a kind: any word may name a file
-abbrev pub is_of : Kind → List ℕ → Bool
+abbrev pub is_of : WordKind → List ℕ → Bool
 is_of File word = true
 is_of Number word = is_some (number_of word)
 is_of Seed word = is_some (long_number_of word)

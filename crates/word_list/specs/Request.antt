@@ -5,7 +5,7 @@ use Rattle.std.specs.Borrow.{Bor}
 use Rattle.std.specs.Option.{option_copied}
 use Rattle.word_list.specs.declared.request.Settings.{Settings}
 use Rattle.word_list.specs.declared.rows.Command.{Command}
-use Rattle.word_list.specs.declared.rows.Kind.{Kind}
+use Rattle.word_list.specs.declared.rows.WordKind.{WordKind}
 use Rattle.word_list.specs.declared.rows.Request.{Request}
 use Rattle.word_list.specs.declared.rows.Row as declared
 use Rattle.word_list.specs.declared.rows.TheConstants.{ROWS}
@@ -15,7 +15,7 @@ use Rattle.word_list.specs.Settings.{can_load, tables_of}
 -- a command, the kinds of the words that it takes, and the settings that it allows after them
 pub record Row : Type 0 where
   pub command : Command
-  pub takes : List Kind
+  pub takes : List WordKind
   pub allows : List Family
 
 -- a command's name and row; and how help calls its words and says what it does, each line by itself
@@ -35,10 +35,11 @@ rows = map (λ row. record {
 }) ROWS
 
 -- a row of the table where it is handed on
-abbrev pub told_row
-    : Bor (List ℕ) × Command × Bor (List Kind) × Bor (List Family) × Bor (List ℕ) × Bor (List (Bor (List ℕ)))
+abbrev pub stored_row
+    : Bor (List ℕ) × Command × Bor (List WordKind) × Bor (List Family) × Bor (List ℕ)
+    × Bor (List (Bor (List ℕ)))
     → Named
-told_row row = record {
+stored_row row = record {
   name = row.0.now;
   row = record { command = row.1; takes = row.2.now; allows = row.3.now };
   words = row.4.now;

@@ -2,8 +2,8 @@
 use Rattle.std.specs.Prelude.{◌≡◌, ℕ, Bool, true, false, List, [], ◌∷◌, codes, refl, Option, Some, None}
 use Rattle.std.specs.Prelude.{◌||◌, ◌&&◌, if◌then◌else◌, bytes_eq, nat_eq}
 use Rattle.std.specs.List.{list_all, list_any}
-use Rattle.word_list.specs.declared.rows.Kind.{Kind}
-use Rattle.word_list.specs.declared.rows.Kind.TheVariants.{File, Number, Seed, Side, Percent, Count}
+use Rattle.word_list.specs.declared.rows.WordKind.{WordKind}
+use Rattle.word_list.specs.declared.rows.WordKind.TheVariants.{File, Number, Seed, Side, Percent, Count}
 use Rattle.grid_moves.specs.declared.Corner.{Corner}
 use Rattle.grid_moves.specs.declared.Corner.TheVariants.{Never, One, Both}
 use Rattle.text_line.specs.LongNumbers.{long_number_of}
@@ -73,7 +73,7 @@ unfolding tables_in
 boxed_edits = refl
 
 -- the words of help that stand for a word of each kind
-abbrev called_by : Kind → List (List ℕ)
+abbrev called_by : WordKind → List (List ℕ)
 called_by File = codes "MAP" ∷ codes "SCRIPT" ∷ codes "SCEN" ∷ codes "WALKS" ∷ codes "CERT" ∷ []
 called_by Number = codes "SX" ∷ codes "SY" ∷ codes "GX" ∷ codes "GY" ∷ codes "X" ∷ codes "Y" ∷ []
 called_by Seed = codes "SEED" ∷ []
@@ -91,14 +91,14 @@ parted [] = []
 parted (byte ∷ bytes) = if nat_eq byte 32 then [] ∷ parted bytes else with_byte byte (parted bytes)
 
 -- whether help calls each word of a command by one that stands for its kind
-abbrev are_called : List Kind → List (List ℕ) → Bool
+abbrev are_called : List WordKind → List (List ℕ) → Bool
 are_called [] [] = true
 are_called (kind ∷ takes) (word ∷ words) = list_any (bytes_eq word) (called_by kind) && are_called takes words
 are_called takes words = false
 
 -- each row takes the words that help tells
-pub kinds_as_told : list_all (λ one. are_called one.row.takes (parted one.words)) rows ≡ true
-kinds_as_told = refl
+pub kinds_as_called : list_all (λ one. are_called one.row.takes (parted one.words)) rows ≡ true
+kinds_as_called = refl
 
 -- the commands that allow an engine for small maps: what they ask for is answered without a session
 abbrev allowing_small : List Named → List (List ℕ)
@@ -163,10 +163,10 @@ ten_digits = refl
 pub named_so : word_at corners 0 ≡ codes "m"
 named_so = refl
 
-pub numbers_told : number_at (codes "m" ∷ codes "000000001" ∷ codes "20" ∷ []) 1
+pub numbers_read : number_at (codes "m" ∷ codes "000000001" ∷ codes "20" ∷ []) 1
     ∷ number_at (codes "m" ∷ codes "000000001" ∷ codes "20" ∷ []) 2 ∷ [] ≡ 1 ∷ 20 ∷ []
 unfolding number_of
-numbers_told = refl
+numbers_read = refl
 
 -- the empty word is a file's name
 pub empty_names : call_of (codes "solve" ∷ [] ∷ [] ∷ []) ≡ Some (record {
@@ -241,13 +241,13 @@ pub cell_before_block : query_with (codes "states=cell" ∷ codes "engine=block"
 unfolding number_of tables_in
 cell_before_block = refl
 
-pub arrival_told : query_with (codes "states=arrival" ∷ codes "engine=plus" ∷ []) ≡ stated_query Plus Arrival
+pub arrival_given : query_with (codes "states=arrival" ∷ codes "engine=plus" ∷ []) ≡ stated_query Plus Arrival
 unfolding number_of tables_in
-arrival_told = refl
+arrival_given = refl
 
-pub arrival_where_none_is_told : query_with (codes "engine=plus" ∷ []) ≡ stated_query Plus Arrival
+pub arrival_where_none_is_given : query_with (codes "engine=plus" ∷ []) ≡ stated_query Plus Arrival
 unfolding number_of tables_in
-arrival_where_none_is_told = refl
+arrival_where_none_is_given = refl
 
 pub cell_and_file : query_with (codes "states=cell" ∷ codes "tables=t=x" ∷ codes "engine=plus" ∷ [])
     ≡ Some (record {
@@ -357,14 +357,14 @@ pub map_of_a_seed : call_of (codes "make" ∷ largest_map) ≡ Some (record {
 unfolding number_of long_number_of tables_in
 map_of_a_seed = refl
 
-pub seed_told : seed_at largest_map 0 ≡ 18446744073709551615
+pub seed_read : seed_at largest_map 0 ≡ 18446744073709551615
 unfolding long_number_of
-seed_told = refl
+seed_read = refl
 
-pub sides_told : side_at largest_map 1 ∷ side_at largest_map 2 ∷ percent_at largest_map 3 ∷ []
+pub sides_read : side_at largest_map 1 ∷ side_at largest_map 2 ∷ percent_at largest_map 3 ∷ []
     ≡ 4096 ∷ 1 ∷ 100 ∷ []
 unfolding number_of
-sides_told = refl
+sides_read = refl
 
 -- no side is 0, and no percentage above 100
 pub side_of_nothing : call_of (codes "make" ∷ codes "7" ∷ codes "0" ∷ codes "2" ∷ codes "0" ∷ []) ≡ None
@@ -397,9 +397,9 @@ pub some_problems : call_of (codes "problems" ∷ codes "m" ∷ codes "184467440
 unfolding number_of long_number_of tables_in
 some_problems = refl
 
-pub count_told : count_at (codes "m" ∷ codes "1" ∷ codes "100000" ∷ []) 2 ≡ 100000
+pub count_read : count_at (codes "m" ∷ codes "1" ∷ codes "100000" ∷ []) 2 ≡ 100000
 unfolding number_of
-count_told = refl
+count_read = refl
 
 pub no_problems : call_of (codes "problems" ∷ codes "m" ∷ codes "1" ∷ codes "0" ∷ []) ≡ None
 unfolding number_of long_number_of tables_in

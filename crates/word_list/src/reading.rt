@@ -7,7 +7,7 @@ ghost use Rattle.word_list.specs.Rule.{IsBadWord, StopsAt};
 ghost use Rattle.word_list.specs.Steps.{AreOf};
 
 use crate::request::{BadWord, Settings};
-use crate::rows::{Kind, Request, row_named};
+use crate::rows::{Request, WordKind, row_named};
 use crate::settings::{chosen, serves, settled, table_file};
 
 /// The call that the words spell, or the number of the word that no call has there.
@@ -44,7 +44,7 @@ pub fn first_bad(words: &[String]) -> u32
 fn read(words: &[String]) -> Result<(Request<'_>, Settings), BadWord>
     ensures few { OnOk result (length words.now ≤ 14) }
     ensures sound { IfOk result (λ read. IsSound read.0 read.1) }
-    ensures told { MatchResult result
+    ensures spelled { MatchResult result
         (λ read. call_of (map string_bytes words.now) ≡ Some (called read.0 read.1))
         (λ bad. IsBadWord is_call (map string_bytes words.now) bad.0) }
 {
@@ -58,7 +58,7 @@ fn read(words: &[String]) -> Result<(Request<'_>, Settings), BadWord>
 fn read_after<'a>(name: &str, words: &'a [String]) -> Result<(Request<'a>, Settings), BadWord>
     ensures few { OnOk result (length words.now ≤ 13) }
     ensures sound { IfOk result (λ read. IsSound read.0 read.1) }
-    ensures told { MatchResult result
+    ensures spelled { MatchResult result
         (λ read. call_of (name.now ∷ map string_bytes words.now) ≡ Some (called read.0 read.1))
         (λ bad. IsBadWord is_call (name.now ∷ map string_bytes words.now) bad.0) }
 {
@@ -85,7 +85,7 @@ fn read_after<'a>(name: &str, words: &'a [String]) -> Result<(Request<'a>, Setti
 }
 
 /// How many of the words are of these kinds, one after the other.
-fn fitting(takes: &[Kind], words: &[String]) -> usize
+fn fitting(takes: &[WordKind], words: &[String]) -> usize
     ensures count { AreOf takes.now (map string_bytes words.now) result }
     ensures within { result ≤ length words.now }
 {

@@ -2,13 +2,13 @@
 
 ghost use Rattle.std.specs.Prelude.{◌≡◌, ◌≤◌, true, length, map, string_bytes, Some, IfSome, slice_get};
 ghost use Rattle.std.specs.Option.{option_copied, option_map};
-ghost use Rattle.word_list.specs.Request.{row_data, row_in, row_of, rows, told_row};
+ghost use Rattle.word_list.specs.Request.{row_data, row_in, row_of, rows, stored_row};
 ghost use Rattle.word_list.specs.Steps.{is_one_of};
 ghost use Rattle.word_list.specs.Kinds.{is_of, word_at, number_at as spelled_at, seed_at as spelled_seed_at, side_of as spelled_side, side_at as spelled_side_at, percent_of as spelled_percent, percent_at as spelled_percent_at, count_of as spelled_count, count_at as spelled_count_at};
 
 use crate::settings::Family;
 use Family::{Counts, Drawing, Engine, Rule, Show, SmallMap, TableFile};
-use Kind::{Count, File, Number, Percent, Seed, Side};
+use WordKind::{Count, File, Number, Percent, Seed, Side};
 use text_line::long_number;
 
 /// A command; its row says what it does.
@@ -127,7 +127,7 @@ fn count_of(word: &str) -> Option<u32>
 
 /// What a word that a command takes has to be.
 #[derive(Clone, Copy)]
-pub enum Kind {
+pub enum WordKind {
     /// The name of a file, which may be any word.
     File,
     /// A number of 1 to 9 decimal digits.
@@ -142,18 +142,18 @@ pub enum Kind {
     Count,
 }
 
-impl Kind {
+impl WordKind {
     /// Whether the word is of this kind.
     fn has(self, word: &str) -> bool
         ensures { result ≡ is_of self word.now }
     {
         match self {
-            Kind::File => true,
-            Kind::Number => text_line::number(word.as_bytes()).is_some(),
-            Kind::Seed => long_number(word.as_bytes()).is_some(),
-            Kind::Side => side_of(word).is_some(),
-            Kind::Percent => percent_of(word).is_some(),
-            Kind::Count => count_of(word).is_some(),
+            WordKind::File => true,
+            WordKind::Number => text_line::number(word.as_bytes()).is_some(),
+            WordKind::Seed => long_number(word.as_bytes()).is_some(),
+            WordKind::Side => side_of(word).is_some(),
+            WordKind::Percent => percent_of(word).is_some(),
+            WordKind::Count => count_of(word).is_some(),
         }
     }
 
@@ -171,17 +171,17 @@ impl Kind {
 /// What the table of commands tells of one: its name, what it names, the kinds of the words that it takes,
 /// the settings that it allows behind these, and how help calls its words and says what it does, line by
 /// line.
-type Told = (
+type Stored = (
     &'static str,
     Command,
-    &'static [Kind],
+    &'static [WordKind],
     &'static [Family],
     &'static str,
     &'static [&'static str],
 );
 
 /// The commands, in the order of help.
-static ROWS: [Told; 18] = [
+static ROWS: [Stored; 18] = [
     (
         "query",
         Command::Query,
@@ -339,8 +339,8 @@ static ROWS: [Told; 18] = [
 ];
 
 /// The rows of all commands; by its clause the proofs of what reads it need not spell the table out.
-fn all_rows() -> &'static [Told]
-    ensures { map told_row result.now ≡ rows }
+fn all_rows() -> &'static [Stored]
+    ensures { map stored_row result.now ≡ rows }
 {
     &ROWS
 }
@@ -353,8 +353,9 @@ pub fn command_name(place: usize) -> Option<&'static str>
 }
 
 /// The name of the row at the place among some.
-fn name_among(rows: &[Told], place: usize) -> Option<&'static str>
-    ensures { option_copied result ≡ option_map (λ row. row.name) (slice_get (map told_row rows.now) place) }
+fn name_among(rows: &[Stored], place: usize) -> Option<&'static str>
+    ensures { option_copied result
+        ≡ option_map (λ row. row.name) (slice_get (map stored_row rows.now) place) }
 {
     Some(rows.get(place)?.0)
 }
@@ -364,7 +365,7 @@ fn name_among(rows: &[Told], place: usize) -> Option<&'static str>
 #[derive(Clone, Copy)]
 pub struct Row {
     pub command: Command,
-    pub takes: &'static [Kind],
+    pub takes: &'static [WordKind],
     pub allows: &'static [Family],
 }
 
@@ -377,8 +378,8 @@ pub fn row_named(name: &str) -> Option<Row>
 }
 
 /// The first row of this name among some.
-fn row_among(rows: &[Told], name: &str) -> Option<Row>
-    ensures { option_map row_data result ≡ row_in (map told_row rows.now) name.now }
+fn row_among(rows: &[Stored], name: &str) -> Option<Row>
+    ensures { option_map row_data result ≡ row_in (map stored_row rows.now) name.now }
 {
     for (known, command, takes, allows, _, _) in rows {
         if name == *known {

@@ -3,7 +3,7 @@
 ghost use Rattle.std.specs.Prelude.{◌≡◌, ◌^◌, ◌<◌, ◌≤◌, length, IfOk, is_err};
 ghost use Rattle.std.specs.Result.{result_ok};
 ghost use Rattle.io_edge.specs.Causes.{HasCause, NoneFell};
-ghost use Rattle.io_edge.specs.Told.{ReadsAt};
+ghost use Rattle.io_edge.specs.Known.{ReadsAt};
 ghost use Rattle.io_edge.specs.Memory.{held_under, amount_read, after_call, first_pace};
 ghost use Rattle.io_edge.specs.Named.{named_bytes};
 

@@ -13,7 +13,7 @@ use line_work::Stop;
 use std::alloc::Global;
 use word_list::{Request, Settings};
 
-/// Opens a scenario and what is told of its entries.
+/// Opens a scenario and what is claimed of its entries.
 pub(crate) fn judge<F: Files>(
     alloc: Global,
     request: Request<'_>,

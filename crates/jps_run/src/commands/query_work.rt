@@ -2,7 +2,7 @@
 //! is made at once, with no more than it asks for.
 
 ghost use Rattle.std.specs.Prelude.{◌≡◌, ◌<◌, [], ◌∷◌, IfOk};
-ghost use Rattle.script_text.specs.declared.command.Command.TheVariants.{Query};
+ghost use Rattle.script_text.specs.declared.command.ScriptCommand.TheVariants.{Query};
 ghost use Rattle.jps_run.specs.Answerers.{who_from};
 ghost use Rattle.jps_run.specs.Lines.{Unfolds, reply_line};
 ghost use Rattle.jps_run.specs.Querying.{IsQueryWork};
@@ -12,20 +12,20 @@ ghost use Rattle.jps_run.specs.Who.{who_is};
 use crate::NoMemory;
 use crate::replies::{Answers, Basis, put_reply, small_reply};
 use crate::work::Work;
-use cell_lines::Ends;
+use cell_lines::AskedEnds;
 use edit_replay::{Reply, Session};
 use grid_moves::{Layers, Terrain};
-use script_text::Command;
+use script_text::ScriptCommand;
 use std::alloc::Global;
 use word_list::{Show, SmallEngine};
 
 // The query as the commands of a script.
-fn commands_of(alloc: Global, ends: Ends) -> Result<Vec<Command>, NoMemory>
+fn commands_of(alloc: Global, ends: AskedEnds) -> Result<Vec<ScriptCommand>, NoMemory>
     ensures { IfOk result (λ commands. commands.items ≡ Query ends.sx ends.sy ends.gx ends.gy ∷ []) }
 {
-    let Ends { sx, sy, gx, gy } = ends;
+    let AskedEnds { sx, sy, gx, gy } = ends;
     let mut commands = Vec::new(alloc);
-    commands.push(Command::Query { sx, sy, gx, gy })?;
+    commands.push(ScriptCommand::Query { sx, sy, gx, gy })?;
     Ok(commands)
 }
 
@@ -41,7 +41,12 @@ fn line_of(alloc: Global, reply: &Reply, width: u16, show: Show) -> Result<Vec<u
 }
 
 // The work of a session on one query.
-fn by_session(alloc: Global, session: Session, ends: Ends, show: Show) -> Result<Work, NoMemory>
+fn by_session(
+    alloc: Global,
+    session: Session,
+    ends: AskedEnds,
+    show: Show,
+) -> Result<Work, NoMemory>
     ensures { IfOk result (IsQueryWork (who_is session) show
         (record { x = ends.sx; y = ends.sy }) (record { x = ends.gx; y = ends.gy })) }
 {
@@ -55,7 +60,7 @@ fn by_small(
     alloc: Global,
     layers: &Layers,
     engine: SmallEngine,
-    ends: Ends,
+    ends: AskedEnds,
     show: Show,
 ) -> Result<Work, NoMemory>
     ensures { IfOk result (IsQueryWork (record { layers = layers.now; by = spec.by_small engine }) show
@@ -67,7 +72,7 @@ fn by_small(
 }
 
 /// The work on one query, by what was made of a map.
-pub fn work_on(alloc: Global, basis: Basis, ends: Ends, show: Show) -> Result<Work, NoMemory>
+pub fn work_on(alloc: Global, basis: Basis, ends: AskedEnds, show: Show) -> Result<Work, NoMemory>
     ensures { IfOk result (IsQueryWork (who_from basis) show
         (record { x = ends.sx; y = ends.sy }) (record { x = ends.gx; y = ends.gy })) }
 {

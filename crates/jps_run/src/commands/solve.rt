@@ -11,7 +11,7 @@ use crate::work::Work;
 use call_files::read_file;
 use io_edge::Files;
 use line_work::Stop;
-use script_text::Command;
+use script_text::ScriptCommand;
 use std::alloc::Global;
 use word_list::{Request, Settings};
 
@@ -30,6 +30,6 @@ pub(crate) fn solve<F: Files>(
     let map = request.name(0);
     let script = request.name(1);
     let job = open_answers(alloc, files, map, request.tables, settings)?;
-    let commands: Vec<Command> = read_file(alloc, files, script, &())?;
+    let commands: Vec<ScriptCommand> = read_file(alloc, files, script, &())?;
     Ok(Work::Answer { job, commands })
 }

@@ -17,7 +17,7 @@ use crate::NoMemory;
 use crate::replies::session_on;
 use crate::replies::small::{follow_moves, search_boxed};
 use call_files::{Extent, OfMap};
-use cell_lines::Ends;
+use cell_lines::AskedEnds;
 use edit_replay::{Reply, Session};
 use first_moves::Moves;
 use goal_boxes::Boxes;
@@ -86,7 +86,7 @@ pub enum Answerer {
 
 impl BoxLibrary {
     // The reply to a query.
-    fn query(&self, alloc: Global, ends: Ends) -> Result<Reply, NoMemory>
+    fn query(&self, alloc: Global, ends: AskedEnds) -> Result<Reply, NoMemory>
         requires ready { CanAnswer (Answerer.Boxes self.now) }
         ensures reply { IfOk result (IsReplyBy (who_of (Answerer.Boxes self.now))
             (record { x = ends.sx; y = ends.sy }) (record { x = ends.gx; y = ends.gy })) }
@@ -118,7 +118,7 @@ impl MoveLibrary {
     fn query<L: Ledger>(
         &self,
         alloc: Global,
-        ends: Ends,
+        ends: AskedEnds,
         steps: &mut Steps<L>,
     ) -> Result<Reply, NoMemory>
         requires ready { CanAnswer (Answerer.Moves self.now) }
@@ -219,7 +219,7 @@ impl Answerer {
     pub fn query<L: Ledger>(
         &mut self,
         alloc: Global,
-        ends: Ends,
+        ends: AskedEnds,
         steps: &mut Steps<L>,
     ) -> Result<Reply, NoMemory>
         requires ready { CanAnswer self.old }

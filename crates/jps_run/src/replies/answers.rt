@@ -14,7 +14,7 @@ use grid_moves::Ground;
 use io_edge::Sink;
 use line_work::{Job, Stop, work_items};
 use map_text::MapText;
-use script_text::Command;
+use script_text::ScriptCommand;
 use std::alloc::Global;
 use std::sync::ledger::Ledger;
 use steps::Steps;
@@ -50,7 +50,7 @@ impl Job for Answers {
     ghost use Rattle.std.specs.Prelude.{⊤, false};
     ghost use Rattle.jps_run.specs.Answering.{HasAnswered, HaveCounted, IsSolved};
 
-    type Item = Command;
+    type Item = ScriptCommand;
 
     ghost can_work = { λ _. ⊤ };
 
@@ -67,7 +67,7 @@ impl Job for Answers {
     fn answer<L: Ledger>(
         &mut self,
         alloc: Global,
-        item: Command,
+        item: ScriptCommand,
         lines: &mut Vec<u8>,
         steps: &mut Steps<L>,
     ) -> Result<(), NoMemory> {
@@ -84,7 +84,7 @@ fn put_answer<L: Ledger>(
     alloc: Global,
     session: &mut Session,
     show: Show,
-    command: Command,
+    command: ScriptCommand,
     lines: &mut Vec<u8>,
     steps: &mut Steps<L>,
 ) -> Result<(), NoMemory>
@@ -93,13 +93,19 @@ fn put_answer<L: Ledger>(
     ensures counted { OnOk result (RoseForCommand session.old session.new command steps.old steps.new) }
 {
     match command {
-        Command::Block { x, y } => put_edit_reply(
+        ScriptCommand::Block { x, y } => put_edit_reply(
             lines,
             session.edit(x, y, Ground::Blocked, steps),
         ),
-        Command::Free { x, y } => put_edit_reply(lines, session.edit(x, y, Ground::Land, steps)),
-        Command::Flood { x, y } => put_edit_reply(lines, session.edit(x, y, Ground::Water, steps)),
-        Command::Query { sx, sy, gx, gy } => {
+        ScriptCommand::Free { x, y } => put_edit_reply(
+            lines,
+            session.edit(x, y, Ground::Land, steps),
+        ),
+        ScriptCommand::Flood { x, y } => put_edit_reply(
+            lines,
+            session.edit(x, y, Ground::Water, steps),
+        ),
+        ScriptCommand::Query { sx, sy, gx, gy } => {
             let reply = session.query(alloc, sx, sy, gx, gy, steps)?;
             put_reply(alloc, lines, &reply, session.width(), show)
         }
@@ -110,7 +116,7 @@ fn put_answer<L: Ledger>(
 pub fn write_answers<O: Sink, L: Ledger>(
     alloc: Global,
     mut job: Answers,
-    commands: Vec<Command>,
+    commands: Vec<ScriptCommand>,
     out: &mut O,
     steps: &mut Steps<L>,
 ) -> Result<u8, Stop>

@@ -12,13 +12,13 @@ ghost use Rattle.jps_run.specs.Who.{who_is};
 use crate::NoMemory;
 use crate::replies::session_on;
 use call_files::{Extent, OfMap};
-use cell_lines::Ends;
+use cell_lines::AskedEnds;
 use edit_replay::{Reply, Session};
 use grid_moves::Cell;
 use io_edge::Sink;
 use line_work::{Printed, Stop, said, send_text};
 use map_text::MapText;
-use picture::Walk;
+use picture::DrawnWalk;
 use std::alloc::Global;
 use std::sync::ledger::Ledger;
 use steps::Steps;
@@ -56,7 +56,7 @@ fn picture_of(
     from: Cell,
     to: Cell,
     show: Show,
-    walk: Option<Walk<'_>>,
+    walk: Option<DrawnWalk<'_>>,
     taken: &[u32],
 ) -> Result<Vec<u8>, NoMemory>
     ensures { IfOk result (λ text. text.items ≡ pictures.picture_of (plain map.now) from to
@@ -95,7 +95,7 @@ fn drawing_of(
             cost,
             taken,
         } => {
-            let walk = Walk {
+            let walk = DrawnWalk {
                 points: points.as_slice(),
                 cost: *cost,
             };
@@ -110,7 +110,7 @@ fn drawn<L: Ledger>(
     alloc: Global,
     map: &MapText,
     session: &mut Session,
-    ends: Ends,
+    ends: AskedEnds,
     show: Show,
     steps: &mut Steps<L>,
 ) -> Result<Printed, NoMemory>
@@ -133,7 +133,7 @@ fn drawn<L: Ledger>(
 pub fn write_drawing<O: Sink, L: Ledger>(
     alloc: Global,
     canvas: &mut Canvas,
-    ends: Ends,
+    ends: AskedEnds,
     show: Show,
     out: &mut O,
     steps: &mut Steps<L>,

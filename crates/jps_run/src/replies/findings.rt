@@ -15,7 +15,7 @@ use grid_moves::Ground;
 use io_edge::Sink;
 use line_work::{Job, Stop, work_items};
 use root2_cost::Cost;
-use script_text::Command;
+use script_text::ScriptCommand;
 use std::alloc::Global;
 use std::sync::ledger::Ledger;
 use steps::Steps;
@@ -61,7 +61,7 @@ impl Job for Summary {
     ghost use Rattle.std.specs.Prelude.{⊤, true};
     ghost use Rattle.jps_run.specs.Drilling.{HasDrilled, HaveCounted, IsDrilled, LeavesRoom};
 
-    type Item = Command;
+    type Item = ScriptCommand;
 
     ghost can_work = { λ _. ⊤ };
 
@@ -78,7 +78,7 @@ impl Job for Summary {
     fn answer<L: Ledger>(
         &mut self,
         alloc: Global,
-        item: Command,
+        item: ScriptCommand,
         _lines: &mut Vec<u8>,
         steps: &mut Steps<L>,
     ) -> Result<(), NoMemory> {
@@ -206,7 +206,7 @@ fn finding_of_edit(reply: EditReply) -> Finding
 fn find<L: Ledger>(
     alloc: Global,
     session: &mut Session,
-    command: Command,
+    command: ScriptCommand,
     steps: &mut Steps<L>,
 ) -> Result<Finding, NoMemory>
     ensures found { IfOk result (IsFinding session.old command) }
@@ -215,10 +215,25 @@ fn find<L: Ledger>(
     ensures counted { OnOk result (RoseForCommand session.old session.new command steps.old steps.new) }
 {
     match command {
-        Command::Block { x, y } => Ok(finding_of_edit(session.edit(x, y, Ground::Blocked, steps))),
-        Command::Free { x, y } => Ok(finding_of_edit(session.edit(x, y, Ground::Land, steps))),
-        Command::Flood { x, y } => Ok(finding_of_edit(session.edit(x, y, Ground::Water, steps))),
-        Command::Query { sx, sy, gx, gy } => {
+        ScriptCommand::Block { x, y } => Ok(finding_of_edit(session.edit(
+            x,
+            y,
+            Ground::Blocked,
+            steps,
+        ))),
+        ScriptCommand::Free { x, y } => Ok(finding_of_edit(session.edit(
+            x,
+            y,
+            Ground::Land,
+            steps,
+        ))),
+        ScriptCommand::Flood { x, y } => Ok(finding_of_edit(session.edit(
+            x,
+            y,
+            Ground::Water,
+            steps,
+        ))),
+        ScriptCommand::Query { sx, sy, gx, gy } => {
             let reply = session.query(alloc, sx, sy, gx, gy, steps)?;
             Ok(finding_of(&reply))
         }
@@ -229,7 +244,7 @@ fn find<L: Ledger>(
 pub fn write_sums<O: Sink, L: Ledger>(
     alloc: Global,
     mut job: Summary,
-    commands: Vec<Command>,
+    commands: Vec<ScriptCommand>,
     out: &mut O,
     steps: &mut Steps<L>,
 ) -> Result<u8, Stop>

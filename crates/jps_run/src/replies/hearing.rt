@@ -14,7 +14,7 @@ use crate::replies::Answers;
 use call_files::{LONGEST, long_line, script_line};
 use io_edge::{Failed, Sink, Source};
 use line_work::{Stop, work_more};
-use script_text::{Command, LineFeeder, ScriptFault};
+use script_text::{LineFeeder, ScriptCommand, ScriptFault};
 use std::alloc::Global;
 use std::sync::ledger::Ledger;
 use steps::Steps;
@@ -160,7 +160,7 @@ fn answer_known<O: Sink, L: Ledger>(
     alloc: Global,
     job: &mut Answers,
     known: Result<(), ScriptFault>,
-    got: &[Command],
+    got: &[ScriptCommand],
     out: &mut O,
     steps: &mut Steps<L>,
 ) -> Result<(), Stop>

@@ -1,4 +1,4 @@
-//! The rows of told walks, entry by entry.
+//! The rows of claimed walks, entry by entry.
 
 ghost use Rattle.std.specs.Prelude.{◌≡◌, length, IfOk};
 ghost use Rattle.walk_judge.specs.Telling.{IsFit};
@@ -16,14 +16,14 @@ use scen_text::Entry;
 use std::alloc::Global;
 use std::sync::ledger::Ledger;
 use steps::Steps;
-use walk_judge::{Told, judge_told};
+use walk_judge::{Claimed, judge_claimed};
 
-/// What judges a scenario's entries in order: the least costs on the map, what is told of each, one walk for
-/// each, and the counts of the rows so far.
+/// What judges a scenario's entries in order: the least costs on the map, what is claimed of each, one walk
+/// for each, and the counts of the rows so far.
 #[derive(Drop)]
 pub struct Judge {
     pub costs: LeastCosts,
-    pub walks: Vec<Told>,
+    pub walks: Vec<Claimed>,
     pub counts: Counts,
 }
 
@@ -52,8 +52,8 @@ impl Job for Judge {
         lines: &mut Vec<u8>,
         steps: &mut Steps<L>,
     ) -> Result<(), NoMemory> {
-        let told = &self.walks[self.counts.rows as usize];
-        let ruling = ruling_on(alloc, &mut self.costs, item, told, steps)?;
+        let claimed = &self.walks[self.counts.rows as usize];
+        let ruling = ruling_on(alloc, &mut self.costs, item, claimed, steps)?;
         self.counts.count(ruling);
         put_ruling(lines, self.counts.rows, ruling)
     }
@@ -64,39 +64,39 @@ impl Job for Judge {
     }
 }
 
-// The row of an entry whose query was settled so, by what is told of it.
-fn ruling_by(costs: &LeastCosts, entry: Entry, told: &Told, settled: Settled) -> Ruling
-    requires fit { IsFit told.now }
+// The row of an entry whose query was settled so, by what is claimed of it.
+fn ruling_by(costs: &LeastCosts, entry: Entry, claimed: &Claimed, settled: Settled) -> Ruling
+    requires fit { IsFit claimed.now }
     requires settled { IsSettled costs.now entry settled }
-    ensures { IsRuling costs.now entry told.now result }
+    ensures { IsRuling costs.now entry claimed.now result }
 {
     match settled {
         Settled::Scale => Ruling::Scale,
         Settled::Outside => Ruling::Outside,
         Settled::Blocked => Ruling::Blocked,
         Settled::Searched { from, to, least } => {
-            Ruling::Judged(judge_told(costs.query_grid(from), from, to, told, least))
+            Ruling::Judged(judge_claimed(costs.query_grid(from), from, to, claimed, least))
         }
     }
 }
 
-// The row of an entry, by what is told of it.
+// The row of an entry, by what is claimed of it.
 fn ruling_on<L: Ledger>(
     alloc: Global,
     costs: &mut LeastCosts,
     entry: Entry,
-    told: &Told,
+    claimed: &Claimed,
     steps: &mut Steps<L>,
 ) -> Result<Ruling, NoMemory>
-    requires { IsFit told.now }
-    ensures ruling { IfOk result (IsRuling costs.old entry told.now) }
+    requires { IsFit claimed.now }
+    ensures ruling { IfOk result (IsRuling costs.old entry claimed.now) }
     ensures unchanged { costs.new ≡ costs.old }
 {
     let settled = costs.settle(alloc, entry, steps)?;
-    Ok(ruling_by(costs, entry, told, settled))
+    Ok(ruling_by(costs, entry, claimed, settled))
 }
 
-/// Judges what is told of the entries in order, and sums the rows up.
+/// Judges what is claimed of the entries in order, and sums the rows up.
 pub fn write_rulings<O: Sink, L: Ledger>(
     alloc: Global,
     mut job: Judge,

@@ -1,4 +1,4 @@
-//! The rows that judge told walks, and the line that sums them up.
+//! The rows that judge claimed walks, and the line that sums them up.
 
 ghost use Rattle.std.specs.Prelude.{◌≡◌, ℕ, ◌<◌, ◌+◌, ◌^◌, ◌++◌, ◌∷◌, [], List, OnOk};
 ghost use Rattle.jps_run.specs.Judging.{IsCounts, counts_of, sum_text};
@@ -9,7 +9,7 @@ use root2_cost::Cost;
 use text_line::{put, put_number};
 use walk_judge::Judged;
 
-/// What becomes of what is told of a scenario's entry.
+/// What becomes of what is claimed of a scenario's entry.
 #[derive(Clone, Copy)]
 pub enum Ruling {
     /// The entry is meant for a map of another size.
@@ -18,7 +18,7 @@ pub enum Ruling {
     Outside,
     /// An end is blocked.
     Blocked,
-    /// How what is told is judged.
+    /// How what is claimed is judged.
     Judged(Judged),
 }
 
@@ -40,7 +40,7 @@ fn put_bad(out: &mut Vec<u8>, bad: u32) -> Result<(), NoMemory>
     put_number(out, u64::from(bad))
 }
 
-// Appends how what is told is judged.
+// Appends how what is claimed is judged.
 fn put_judged(out: &mut Vec<u8>, judged: Judged) -> Result<(), NoMemory>
     ensures { OnOk result (out.new.items ≡ out.old.items ++ spec.judged_text judged) }
 {

@@ -14,7 +14,7 @@ ghost use Rattle.jps_run.specs.Tally.{tally_of};
 use crate::NoMemory;
 use crate::replies::Answerer;
 use crate::replies::row::{Row, Tally, put_row};
-use cell_lines::Ends;
+use cell_lines::AskedEnds;
 use edit_replay::Reply;
 use io_edge::Sink;
 use line_work::{Job, Stop, work_items};
@@ -107,7 +107,7 @@ fn row_of<L: Ledger>(
     if !has_sides(answerer.width(), answerer.height(), entry) {
         return Ok(Row::Scale);
     }
-    let ends = Ends {
+    let ends = AskedEnds {
         sx: entry.sx,
         sy: entry.sy,
         gx: entry.gx,

@@ -8,7 +8,7 @@ ghost use Rattle.grid_moves.specs.Grid.{is_free};
 ghost use Rattle.jps_run.specs.Who.{IsBoxedReply, IsLedReply, IsReplyBy, IsReplyOn, by_small};
 
 use crate::NoMemory;
-use cell_lines::Ends;
+use cell_lines::AskedEnds;
 use edit_replay::Reply;
 use first_moves::{Moves, follow_by_pass};
 use goal_boxes::{Boxes, boxed_query, boxed_search};
@@ -100,7 +100,7 @@ pub fn small_reply(
     alloc: Global,
     layers: &Layers,
     engine: SmallEngine,
-    ends: Ends,
+    ends: AskedEnds,
 ) -> Result<Reply, NoMemory>
     ensures { IfOk result (IsReplyBy (record { layers = layers.now; by = by_small engine })
         (record { x = ends.sx; y = ends.sy }) (record { x = ends.gx; y = ends.gy })) }

@@ -1,7 +1,7 @@
 use Rattle.std.proofs.Common.{subst}
 use Rattle.io_edge.specs.Whole.{IsWhole}
 use Rattle.call_files.specs.Kinds.{limit_of}
-use Rattle.call_files.specs.declared.kind.Kind.{Kind}
+use Rattle.call_files.specs.declared.kind.TextKind.{TextKind}
 use Rattle.call_files.proofs.Readings.{file-read}
 use Rattle.call_files.proofs.files.read_file.Goals as goal
 
@@ -14,5 +14,5 @@ returns-clause-read g c =
     ((g.F.Files.disk c.args.files.now).faults c.args.name.now)
     ((g.F.Files.disk c.read_text.new.files).faults c.args.name.now)
     c.of_text.result
-    (subst (λ (k : Kind). IsWhole held (limit_of k) c.in_ok-text.text.items) c.kind.ensures
+    (subst (λ (k : TextKind). IsWhole held (limit_of k) c.in_ok-text.text.items) c.kind.ensures
     c.in_ok-text.ensures.read) c.of_text.ensures

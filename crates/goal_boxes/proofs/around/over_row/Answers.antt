@@ -3,21 +3,21 @@ use Rattle.std.specs.Prelude.{Option, Some}
 use Rattle.goal_boxes.specs.declared.area.Area.{Area}
 use Rattle.goal_boxes.specs.Box.{IsAreaOf}
 use Rattle.goal_boxes.specs.Wide as wide
-use Rattle.goal_boxes.specs.Wide.{Seen}
-use Rattle.goal_boxes.proofs.Growing.{row_untold, row_told}
+use Rattle.goal_boxes.specs.Wide.{Met}
+use Rattle.goal_boxes.proofs.Growing.{row_unbegun, row_begun}
 use Rattle.goal_boxes.proofs.around.over_row.Goals as goal
 
 pub returns-in-None : goal.returns-in-None
-returns-in-None c = row_untold c.args.waves.now c.args.d c.args.y c.in-None.ensures c.args.before
+returns-in-None c = row_unbegun c.args.waves.now c.args.d c.args.y c.in-None.ensures c.args.before
 
 pub returns-in-Some : goal.returns-in-Some
 returns-in-Some c = λ before.
     let w = c.args.waves.now in
     let d = c.args.d in
     let y = c.args.y in
-    subst (λ (o : Option Area). IsAreaOf (Seen w d (y + 1) 0) o)
+    subst (λ (o : Option Area). IsAreaOf (Met w d (y + 1) 0) o)
     (sym (c.widened-in-Some.ensures
-    ∙ ap (λ (o : Option Area). Some (wide.widened o (record { x = c.last_told-last.result; y = y })))
+    ∙ ap (λ (o : Option Area). Some (wide.widened o (record { x = c.last_begun-last.result; y = y })))
     c.widened.ensures))
-    (row_told w d y c.in-Some.first c.last_told-last.result c.in-Some.ensures c.last_told-last.ensures
+    (row_begun w d y c.in-Some.first c.last_begun-last.result c.in-Some.ensures c.last_begun-last.ensures
     c.args.before before)

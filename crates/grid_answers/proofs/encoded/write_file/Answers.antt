@@ -1,6 +1,6 @@
 use Rattle.std.proofs.Common.{◌≡◌, ◌++◌, refl, sym, subst, flat_map, List, [], ◌∷◌, ℕ}
 use Rattle.std.proofs.lemmas.List.{append-nil}
-use Rattle.io_edge.specs.Told.{Outflow}
+use Rattle.io_edge.specs.Known.{Outflow}
 use Rattle.io_edge.specs.Whole.{AppendsSome}
 use Rattle.plus_tables.specs.Tables.{IsWhole}
 use Rattle.table_file.specs.Encoding.{entry_bytes}

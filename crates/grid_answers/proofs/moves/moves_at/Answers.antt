@@ -1,5 +1,5 @@
 use Rattle.grid_answers.specs.RunLines.{IsRunText}
-use Rattle.grid_answers.specs.OfCell.{untold}
+use Rattle.grid_answers.specs.OfCell.{unanswered}
 use Rattle.grid_answers.proofs.Cells.{if_line, if_same}
 use Rattle.grid_answers.proofs.moves.moves_at.Goals as goal
 
@@ -11,4 +11,4 @@ returns-in-Ok c =
 pub returns-in-Err : goal.returns-in-Err
 returns-in-Err c =
     if_line c.from_slice.result (IsRunText c.args.layers.now (record { x = c.args.x; y = c.args.y }))
-    c.in-Err.line.now c.from_slice.ensures.items (untold c.in-Err.line.now c.in-Err.ensures)
+    c.in-Err.line.now c.from_slice.ensures.items (unanswered c.in-Err.line.now c.in-Err.ensures)

@@ -33,7 +33,7 @@ returns-in-Ok-serve g c =
     (g.E.Sink.outflow c.tell.new.err) c.args.steps.now c.serve.new.steps
     (called c.in-Ok.call.0 c.in-Ok.call.1) c.in-Ok.ensures.found c.serve.ensures.unchanged
     c.serve.ensures.input_stays
-    c.in-Ok-serve.status c.in-Ok-serve.ensures.served c.tell.ensures.told c.in-Ok-serve.ensures.counted in
+    c.in-Ok-serve.status c.in-Ok-serve.ensures.served c.tell.ensures.printed c.in-Ok-serve.ensures.counted in
     record {
       statuses = h.statuses;
       outcome = h.outcome;
@@ -58,7 +58,7 @@ returns-in-Err-Text g c =
     (called c.in-Ok.call.0 c.in-Ok.call.1) c.in-Ok.ensures.found c.serve.ensures.unchanged
     c.serve.ensures.input_stays
     c.in-Err-Text.line.items c.as_slice.result.now (rw c.in-Err-Text.field-0-is at c.in-Err-Text.ensures.served)
-    c.as_slice.ensures.value c.tell-in-Err-Text.ensures.told in
+    c.as_slice.ensures.value c.tell-in-Err-Text.ensures.printed in
     record {
       statuses = h.statuses;
       outcome = h.outcome;
@@ -82,7 +82,7 @@ returns-in-Err-Read g c =
     (g.E.Sink.outflow c.tell-in-Err-Read.new.err) c.args.steps.now c.serve.new.steps
     (called c.in-Ok.call.0 c.in-Ok.call.1) c.in-Ok.ensures.found c.serve.ensures.unchanged
     c.serve.ensures.input_stays
-    (rw c.in-Err-Read.field-0-is at c.in-Err-Read.ensures.served) c.tell-in-Err-Read.ensures.told in
+    (rw c.in-Err-Read.field-0-is at c.in-Err-Read.ensures.served) c.tell-in-Err-Read.ensures.printed in
     record {
       statuses = h.statuses;
       outcome = h.outcome;
@@ -106,7 +106,7 @@ returns-in-Err-Write g c =
     (g.E.Sink.outflow c.tell-in-Err-Write.new.err) c.args.steps.now c.serve.new.steps
     (called c.in-Ok.call.0 c.in-Ok.call.1) c.in-Ok.ensures.found c.serve.ensures.unchanged
     c.serve.ensures.input_stays
-    (rw c.in-Err-Write.field-0-is at c.in-Err-Write.ensures.served) c.tell-in-Err-Write.ensures.told in
+    (rw c.in-Err-Write.field-0-is at c.in-Err-Write.ensures.served) c.tell-in-Err-Write.ensures.printed in
     record {
       statuses = h.statuses;
       outcome = h.outcome;

@@ -16,14 +16,14 @@ overflow_add-moves g c = grind (arith, nat_tests, common_steps, run_length-next,
 pub ahead_by-beside-requires-in-Some-clause-free : goal.ahead_by-beside-requires-in-Some-clause-free
 ahead_by-beside-requires-in-Some-clause-free g c = grind (arith, nat_tests, common_steps, legal_ahead-free)
 
-pub stops_at-requires-clause-told : goal.stops_at-requires-clause-told
-stops_at-requires-clause-told g c =
+pub stops_at-requires-clause-given : goal.stops_at-requires-clause-given
+stops_at-requires-clause-given g c =
     let grid : GridData = g.T.Terrain.grid c.args.t.now in
     c.place_ahead-place.ensures c.in-Some.next.cell
     (legal_leads grid c.run.cell c.in-Some.next.cell c.args.d (sym c.in-Some.ensures.legal)).ahead_is
 
-pub ahead_by-beside-requires-in-Some-clause-told : goal.ahead_by-beside-requires-in-Some-clause-told
-ahead_by-beside-requires-in-Some-clause-told g c =
+pub ahead_by-beside-requires-in-Some-clause-given : goal.ahead_by-beside-requires-in-Some-clause-given
+ahead_by-beside-requires-in-Some-clause-given g c =
     let grid : GridData = g.T.Terrain.grid c.args.t.now in
     c.place_ahead-place.ensures c.in-Some.next.cell
     (legal_leads grid c.run.cell c.in-Some.next.cell c.args.d (sym c.in-Some.ensures.legal)).ahead_is
@@ -51,7 +51,7 @@ run-preserved g c =
     let grid : GridData = g.T.Terrain.grid c.args.t.now in
     let legal = sym c.in-Some.ensures.legal in
     record {
-      told = c.place_ahead-place.ensures c.in-Some.next.cell
+      given = c.place_ahead-place.ensures c.in-Some.next.cell
           (legal_leads grid c.run.cell c.in-Some.next.cell c.args.d legal).ahead_is;
       free = legal_ahead-free grid c.run.cell c.in-Some.next.cell c.args.d legal;
       beside = c.ahead_by-beside-in-Some.ensures;

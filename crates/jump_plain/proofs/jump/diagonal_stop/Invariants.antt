@@ -11,7 +11,7 @@ abbrev pub invariant-run : goal.invariant-run
 invariant-run g l =
     let grid = g.T.Terrain.grid l.t in
     record {
-      told : l.place ≡ g.T.Terrain.place_of l.t l.cell;
+      given : l.place ≡ g.T.Terrain.place_of l.t l.cell;
       free : is_free grid l.cell ≡ true;
       beside : l.beside ≡ sides_ahead grid l.cell l.d;
       stop : first_stop grid l.goal l.fn.at l.d

@@ -14,7 +14,7 @@ pub run-init : goal.run-init
 run-init g c =
     let grid : GridData = g.T.Terrain.grid c.args.t.now in
     record {
-      told = c.requires.told;
+      given = c.requires.given;
       free = c.requires.free;
       left = sides_begun grid c.args.at c.args.d c.requires.straight c.requires.free c.args.sides
           c.requires.sides c.free_bits.result c.shut_bits-shut.result c.free_bits.ensures
@@ -25,8 +25,8 @@ run-init g c =
 pub by-requires-clause-free : goal.by-requires-clause-free
 by-requires-clause-free g c = grind (arith, nat_tests, common_steps, legal_ahead-free)
 
-pub by-requires-clause-told : goal.by-requires-clause-told
-by-requires-clause-told g c =
+pub by-requires-clause-given : goal.by-requires-clause-given
+by-requires-clause-given g c =
     let grid : GridData = g.T.Terrain.grid c.args.t.now in
     c.place_ahead-place.ensures c.in-Some.next
     (legal_leads grid c.run.cell c.in-Some.next c.args.d (sym c.in-Some.ensures)).ahead_is
@@ -50,7 +50,7 @@ run-preserved g c =
     let legal = sym c.in-Some.ensures in
     let free = legal_ahead-free grid c.run.cell c.in-Some.next c.args.d legal in
     record {
-      told = c.place_ahead-place.ensures c.in-Some.next
+      given = c.place_ahead-place.ensures c.in-Some.next
           (legal_leads grid c.run.cell c.in-Some.next c.args.d legal).ahead_is;
       free = free;
       left = record {

@@ -10,7 +10,7 @@ abbrev pub invariant-run : goal.invariant-run
 invariant-run g l =
     let grid = g.T.Terrain.grid l.t in
     record {
-      told : l.place ≡ g.T.Terrain.place_of l.t l.cell;
+      given : l.place ≡ g.T.Terrain.place_of l.t l.cell;
       free : is_free grid l.cell ≡ true;
       left : HasSides grid l.cell l.d l.shut l.moves (reach_of grid l.fn.at l.d);
       run : l.moves + run_length grid l.cell l.d ≡ run_length grid l.fn.at l.d;

@@ -1,6 +1,6 @@
 use Rattle.std.specs.Prelude.{[], ◌∷◌}
 use Rattle.map_text.specs.Faults.{plain}
-use Rattle.picture.specs.declared.kinds.Ground.TheVariants.{Swamp, Trees, Wall, Water}
+use Rattle.picture.specs.declared.kinds.DrawnGround.TheVariants.{Swamp, Trees, Wall, Water}
 use Rattle.picture.specs.Picture.{ground_line}
 use Rattle.picture.proofs.Texts.{lines_then, lines_then_ok}
 use Rattle.picture.proofs.drawing.put_grounds.Goals as goal

@@ -15,4 +15,4 @@ returns-clause-expanded g c =
     c.moves_around-around.result c.less_offered-moves.result c.of.result c.cost_rank.result
     c.cell-cell.ensures c.moves_around-around.ensures.around c.less_offered-moves.ensures c.cost_rank.ensures
     c.args.space.now.table c.offer_around.new.space.table c.arrival_of.result c.of.ensures
-    (c.arrival_of.ensures ∙ c.requires.told) c.offer_around.ensures.table
+    (c.arrival_of.ensures ∙ c.requires.given) c.offer_around.ensures.table

@@ -4,9 +4,9 @@ use Rattle.std.proofs.lemmas.List.{with_items_is}
 use Rattle.grid_moves.specs.declared.Dir.TheVariants.{N}
 use Rattle.grid_moves.specs.Grid.{GridData}
 use Rattle.grid_moves.specs.Move.{row_ahead}
-use Rattle.plus_tables.specs.Rows.{IsRowAt, seen}
+use Rattle.plus_tables.specs.Rows.{IsRowAt, dir_seen}
 use Rattle.plus_tables.specs.Lines.{IsKept}
-use Rattle.plus_tables.proofs.Lining.{lines_told, read_behind, row_next, kept_on, with_along}
+use Rattle.plus_tables.proofs.Lining.{lines_made, read_behind, row_next, kept_on, with_along}
 use Rattle.plus_tables.proofs.Laying.{row_swept}
 use Rattle.plus_tables.proofs.build.sweep_row.Goals as goal
 
@@ -25,8 +25,8 @@ returns-clause-swept g c =
     let h = c.args.heading in
     let y = c.args.y in
     let behind = read_behind c.requires.kept.ready c.read_row.ensures (omega arith) c.behind.ensures.lies in
-    let told = c.tell.ensures.told h y behind.0 behind.1 in
-    let line = lines_told grid h y c.tell.new.this c.bring_along.new.east c.bring_along.new.west told
+    let ahead_right = c.tell.ensures.ahead_right h y behind.0 behind.1 in
+    let line = lines_made grid h y c.tell.new.this c.bring_along.new.east c.bring_along.new.west ahead_right
     c.bring_along.ensures.0 c.bring_along.ensures.1 (omega arith) (omega arith) in
     row_swept grid c.requires.whole h y
     (with_along c.tell.new.this c.bring_along.new.east c.bring_along.new.west)
@@ -38,7 +38,7 @@ returns-clause-kept g c = λ m next.
     let h = c.args.heading in
     let y = c.args.y in
     let behind = read_behind c.requires.kept.ready c.read_row.ensures (omega arith) c.behind.ensures.lies in
-    let told = c.tell.ensures.told h y behind.0 behind.1 in
+    let ahead_right = c.tell.ensures.ahead_right h y behind.0 behind.1 in
     let inner = with_items c.args.rows.now.forced c.tell.new.forced in
     let same = with_items_is inner c.bring_along.new.forced (omega arith) in
     let room : length c.bring_along.new.forced ≡ grid.width + 2 = omega (arith, c.requires.kept.forced) in
@@ -46,7 +46,7 @@ returns-clause-kept g c = λ m next.
     subst (λ (k : ℕ). IsKept grid h k c.go_on.new.self) is
     (kept_on c.requires.kept.ready c.read_row.ensures (omega arith) c.behind.ensures.lies c.tell.new.this
     c.bring_along.new.east c.bring_along.new.west c.go_on.new.self
-    (subst (λ (k : ℕ). IsRowAt (row_ahead (seen h N) k) y) (sym is) (row_next h y m next)) told
+    (subst (λ (k : ℕ). IsRowAt (row_ahead (dir_seen h N) k) y) (sym is) (row_next h y m next)) ahead_right
     c.bring_along.ensures.0 c.bring_along.ensures.1 c.tell.ensures.long (omega arith) (omega arith)
     c.go_on.ensures.far c.go_on.ensures.next c.go_on.ensures.here c.go_on.ensures.back c.go_on.ensures.last
     c.go_on.ensures.this (ap (λ (r : List Bool). length r) (c.go_on.ensures.forced ∙ same) ∙ room))

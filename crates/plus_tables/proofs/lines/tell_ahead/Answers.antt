@@ -4,7 +4,7 @@ use Rattle.pruning.specs.declared.turns.Side.TheVariants.{Right, Left}
 use Rattle.pruning.specs.Turns.{turn}
 use Rattle.plus_tables.proofs.Fitting.{bordered, fits_across, long_as}
 use Rattle.plus_tables.proofs.Lining.{leads_ahead, part_long, part_row, seen_as, upward_ahead, upward_beside}
-use Rattle.plus_tables.proofs.Rowing.{forced_if, told_row}
+use Rattle.plus_tables.proofs.Rowing.{forced_if, entries_of_row}
 use Rattle.plus_tables.proofs.lines.tell_ahead.Goals as goal
 
 pub across-requires : goal.across-requires
@@ -24,8 +24,8 @@ returns g c = λ h y ready around.
     let grid : GridData = g.T.Terrain.grid c.args.t.now in
     let band = c.args.band.now in
     let m = ready.rows.ahead in
-    let part = part_row grid h m c.args.last.now ready.told ready.along in
-    told_row grid c.requires.whole h y m c.args.d
+    let part = part_row grid h m c.args.last.now ready.ahead_right ready.along in
+    entries_of_row grid c.requires.whole h y m c.args.d
     (leads_ahead h c.args.d y m c.requires.ahead ready.rows.ahead_is)
     c.corner-corner.result c.corner-corner.ensures _ _ _ c.force.new.forced _ _ _ c.across.new.out
     (seen_as grid h y band.next.items band.here.items band.back.items _ _ _ c.deref-4.ensures.value

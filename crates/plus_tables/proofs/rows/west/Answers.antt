@@ -2,7 +2,7 @@ use Rattle.std.proofs.Common.{◌≡◌, ◌+◌, ◌<◌, true, ◌&&◌, lengt
 use Rattle.std.specs.Prelude.{ℤ}
 use Rattle.plus_tables.specs.Tables.{IsShort}
 use Rattle.plus_tables.specs.Rows as spec
-use Rattle.plus_tables.proofs.Growing.{told_read, number_after}
+use Rattle.plus_tables.proofs.Growing.{entry_from_read, number_after}
 use Rattle.plus_tables.proofs.rows.west.Goals as goal
 
 pub loop-x-preserved : goal.loop-x-preserved
@@ -11,7 +11,7 @@ loop-x-preserved c =
     number_after c.loop-x.out c.loop-x.x _
     (λ k (next here : ℤ). ((spec.flag c.args.here.now (k + 1) && spec.flag c.args.here.now k) ≡ true →
     IsShort next)
-    → here ≡ spec.told (spec.flag c.args.here.now (k + 1) && spec.flag c.args.here.now k)
+    → here ≡ spec.entry_from (spec.flag c.args.here.now (k + 1) && spec.flag c.args.here.now k)
     (spec.flag c.args.forced.now k) next)
     long c.loop-x.invariant
-    (told_read _ _ (spec.number c.loop-x.out c.loop-x.x) c.told.result c.told.ensures)
+    (entry_from_read _ _ (spec.number c.loop-x.out c.loop-x.x) c.entry_from.result c.entry_from.ensures)

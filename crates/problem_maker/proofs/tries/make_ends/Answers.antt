@@ -4,7 +4,7 @@ use Rattle.std.proofs.lemmas.Result.{IfOk-weaker}
 use Rattle.grid_moves.specs.Layers.{Layers}
 use Rattle.joined_cells.specs.Both.{HasWalk, are_joined_in}
 use Rattle.problem_maker.specs.Tries.{AreKept, kept_ends}
-use Rattle.problem_maker.proofs.Drawn.{kept_told, kept_walks, kept_few}
+use Rattle.problem_maker.proofs.Drawn.{kept_decides, kept_walks, kept_few}
 use Rattle.problem_maker.proofs.tries.make_ends.Goals as goal
 
 pub returns-clause-kept : goal.returns-clause-kept
@@ -13,7 +13,7 @@ returns-clause-kept c =
     IfOk-weaker c.kept_ends.result
     (λ kept. kept.items ≡ kept_ends (are_joined_in c.in_ok-joined.joined) c.deref.result.now c.args.seed
     c.args.count) (λ kept. AreKept ls c.args.seed c.args.count kept.items)
-    (λ kept e. kept_told ls c.args.seed c.args.count c.in_ok-joined.joined c.in_ok-joined.ensures.tells
+    (λ kept e. kept_decides ls c.args.seed c.args.count c.in_ok-joined.joined c.in_ok-joined.ensures.tells
     c.deref.result.now (c.deref.ensures.value ∙ c.in_ok-cells.ensures) kept.items e) c.kept_ends.ensures
 
 pub returns-clause-walks : goal.returns-clause-walks
@@ -22,7 +22,7 @@ returns-clause-walks c =
     IfOk-weaker c.kept_ends.result
     (λ kept. kept.items ≡ kept_ends (are_joined_in c.in_ok-joined.joined) c.deref.result.now c.args.seed
     c.args.count) (λ kept. All (λ ends. HasWalk ls ends.start ends.goal) kept.items)
-    (λ kept e. kept_walks ls c.args.seed c.args.count kept.items (kept_told ls c.args.seed c.args.count
+    (λ kept e. kept_walks ls c.args.seed c.args.count kept.items (kept_decides ls c.args.seed c.args.count
     c.in_ok-joined.joined c.in_ok-joined.ensures.tells
     c.deref.result.now (c.deref.ensures.value ∙ c.in_ok-cells.ensures) kept.items e)) c.kept_ends.ensures
 
@@ -32,6 +32,6 @@ returns-clause-few c =
     IfOk-weaker c.kept_ends.result
     (λ kept. kept.items ≡ kept_ends (are_joined_in c.in_ok-joined.joined) c.deref.result.now c.args.seed
     c.args.count) (λ kept. length kept.items ≤ c.args.count)
-    (λ kept e. kept_few ls c.args.seed c.args.count kept.items (kept_told ls c.args.seed c.args.count
+    (λ kept e. kept_few ls c.args.seed c.args.count kept.items (kept_decides ls c.args.seed c.args.count
     c.in_ok-joined.joined c.in_ok-joined.ensures.tells
     c.deref.result.now (c.deref.ensures.value ∙ c.in_ok-cells.ensures) kept.items e)) c.kept_ends.ensures

@@ -1,4 +1,4 @@
-use Rattle.scen_lines.proofs.Told.{names_read}
+use Rattle.scen_lines.proofs.NamesRead.{names_read}
 use Rattle.scen_lines.proofs.laws.names_are_read.Goals as goal
 
 pub returns : goal.returns

@@ -2,7 +2,7 @@ use Rattle.std.proofs.Common.{◌∙◌, List, subst, sym}
 use Rattle.std.proofs.lemmas.List.{take_all}
 use Rattle.std.proofs.lemmas.Result.{IfOk-from_err}
 use Rattle.grid_moves.specs.Layers.{AreLayers, Layers}
-use Rattle.problem_maker.specs.declared.tries.Ends.{Ends}
+use Rattle.problem_maker.specs.declared.tries.ProblemEnds.{ProblemEnds}
 use Rattle.scen_maker.specs.Problems.{ArePriced}
 use Rattle.scen_maker.proofs.Posed.{priced-more}
 use Rattle.scen_maker.proofs.problems.price_all.Goals as goal
@@ -36,7 +36,7 @@ returns-in_err-push-clause-unchanged g c = c.price.ensures.unchanged ∙ c.loop-
 
 pub returns-clause-priced : goal.returns-clause-priced
 returns-clause-priced g c =
-    subst (λ (kept : List Ends). ArePriced c.args.costs.now kept c.loop-ends.problems.items)
+    subst (λ (kept : List ProblemEnds). ArePriced c.args.costs.now kept c.loop-ends.problems.items)
     (take_all c.loop-ends.ends-index c.args.kept.now c.loop-ends-test.false) c.loop-ends.invariant.priced
 
 pub returns-clause-unchanged : goal.returns-clause-unchanged

@@ -10,13 +10,13 @@ use Rattle.table_file.proofs.loading.body_of.Goals as goal
 
 -- the fault of a frame by whether the text has the head, and by its length
 module _ (g : GridData) (text : List ℕ) (corner : Corner) (width height : ℕ) (has : Bool)
-    (told : has ≡ bytes_eq (head_bytes corner width height) (take 13 text)) (same : corner ≡ g.corner)
+    (tested : has ≡ bytes_eq (head_bytes corner width height) (take 13 text)) (same : corner ≡ g.corner)
     (wide : width ≡ g.width) (high : height ≡ g.height) where
   abbrev headed : Bool
   headed = bytes_eq (head_bytes g.corner g.width g.height) (take 13 text)
 
   is_headed : headed ≡ has
-  is_headed = sym (told ∙ ap (λ (k : Corner). bytes_eq (head_bytes k width height) (take 13 text)) same
+  is_headed = sym (tested ∙ ap (λ (k : Corner). bytes_eq (head_bytes k width height) (take 13 text)) same
       ∙ ap (λ (n : ℕ). bytes_eq (head_bytes g.corner n height) (take 13 text)) wide
       ∙ ap (λ (n : ℕ). bytes_eq (head_bytes g.corner g.width n) (take 13 text)) high)
 

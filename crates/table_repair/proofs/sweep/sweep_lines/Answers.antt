@@ -1,7 +1,7 @@
 -- Each line taken is one line more in which walks begin.
 use Rattle.std.proofs.Common.{arith, sym, ◌∙◌}
 use Rattle.table_repair.specs.Lines.{lines_rise}
-use Rattle.table_repair.proofs.Sweeping.{taken_told, none_taken}
+use Rattle.table_repair.proofs.Sweeping.{taken_is, none_taken}
 use Rattle.table_repair.proofs.Abreast.{abreast_ends, enter_ends, enter_none}
 use Rattle.table_repair.proofs.Entering.{past_none, line_low, enter_right, enter_past, enter_line}
 use Rattle.table_repair.proofs.Entering.{none_left}
@@ -28,14 +28,14 @@ enter_line-changed-requires-clause-short g c = c.loop-line.invariant.short
 pub enter_line-changed-requires-clause-line : goal.enter_line-changed-requires-clause-line
 enter_line-changed-requires-clause-line g c =
     let i = c.loop-line.invariant in
-    let taken = taken_told c.lines_rise.ensures c.loop-line.left c.in-Some.is c.take_far.ensures.taken
+    let taken = taken_is c.lines_rise.ensures c.loop-line.left c.in-Some.is c.take_far.ensures.taken
     c.take_far.ensures.rest in
     line_low c.args.lines c.args.places i.abreast i.past i.within taken c.requires.lines
 
 pub enter_line-changed-requires-clause-line_right : goal.enter_line-changed-requires-clause-line_right
 enter_line-changed-requires-clause-line_right g c =
     let i = c.loop-line.invariant in
-    let taken = taken_told c.lines_rise.ensures c.loop-line.left c.in-Some.is c.take_far.ensures.taken
+    let taken = taken_is c.lines_rise.ensures c.loop-line.left c.in-Some.is c.take_far.ensures.taken
     c.take_far.ensures.rest in
     enter_right c.args.lines c.args.places i.abreast i.past i.within taken c.requires.lines c.requires.places
     c.requires.waits
@@ -43,7 +43,7 @@ enter_line-changed-requires-clause-line_right g c =
 pub loop-line-preserved : goal.loop-line-preserved
 loop-line-preserved g c =
     let i = c.loop-line.invariant in
-    let taken = taken_told c.lines_rise.ensures c.loop-line.left c.in-Some.is c.take_far.ensures.taken
+    let taken = taken_is c.lines_rise.ensures c.loop-line.left c.in-Some.is c.take_far.ensures.taken
     c.take_far.ensures.rest in
     record {
       abreast = enter_line c.args.lines c.args.places i.abreast i.past i.within taken c.requires.lines

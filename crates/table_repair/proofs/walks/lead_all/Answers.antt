@@ -1,13 +1,13 @@
 -- Walk by walk.
 use Rattle.std.proofs.Common.{arith, ap, ◌∙◌}
 use Rattle.arrayvec.specs.ArrayVec.{ArrayVec}
-use Rattle.table_repair.specs.declared.walks.Walk.{Walk}
+use Rattle.table_repair.specs.declared.walks.WalkBack.{WalkBack}
 use Rattle.table_repair.proofs.InPlace.{place_begins, place_next}
 use Rattle.table_repair.proofs.InPlace.{place_ends, led_on, its_inside, its_right}
 use Rattle.table_repair.proofs.walks.lead_all.Goals as goal
 use Rattle.table_repair.proofs.walks.lead_all.Goals.{in-Some, in_default}
 
-abbrev nowhere : Walk
+abbrev nowhere : WalkBack
 nowhere = record { at = record { x = 0; y = 0 } }
 
 pub loop-i-init : goal.loop-i-init
@@ -27,11 +27,11 @@ loop-i-preserved g c =
       | in-Some w ↦ place_next nowhere c.loop-i.invariant c.as_slice.ensures.value within
           c.walk_on.ensures.mends c.walk_on.ensures.follows
           c.walk_on.ensures.onward c.walk_on.ensures.step c.walk_on.ensures.later
-          w.in-Some.is (ap (λ (v : ArrayVec Walk). v.items) w.walks-is ∙ w.set_walk.ensures) w.onward-is
+          w.in-Some.is (ap (λ (v : ArrayVec WalkBack). v.items) w.walks-is ∙ w.set_walk.ensures) w.onward-is
       | in_default w ↦ place_ends nowhere c.loop-i.invariant c.as_slice.ensures.value within
           c.walk_on.ensures.mends c.walk_on.ensures.follows
           c.walk_on.ensures.onward c.walk_on.ensures.step c.walk_on.ensures.later
-          w.in_default.is (ap (λ (v : ArrayVec Walk). v.items) w.walks-is) w.onward-is
+          w.in_default.is (ap (λ (v : ArrayVec WalkBack). v.items) w.walks-is) w.onward-is
     ]
 
 pub returns : goal.returns

@@ -3,7 +3,7 @@ use Rattle.std.proofs.Common.{sym, ◌∙◌}
 use Rattle.table_repair.proofs.Lines.{behind_on-is}
 use Rattle.table_repair.proofs.Mends.{on_inside, nothing_mended}
 use Rattle.table_repair.proofs.Walking.{rests_right, nothing_set}
-use Rattle.table_repair.proofs.Walking.{follows_end, follows_stay, mends_one, follows_on, onward_told}
+use Rattle.table_repair.proofs.Walking.{follows_end, follows_stay, mends_one, follows_on, onward_is}
 use Rattle.table_repair.proofs.walks.walk_on.Goals as goal
 
 pub refresh-requires-clause-rests : goal.refresh-requires-clause-rests
@@ -34,7 +34,7 @@ returns-then-refresh-clause-follows g c =
 
 pub returns-then-refresh-clause-onward : goal.returns-then-refresh-clause-onward
 returns-then-refresh-clause-onward g c =
-    onward_told c.args.walk.at c.requires.ready c.in-Some.before (sym c.cell_before.ensures ∙ c.in-Some.is)
+    onward_is c.args.walk.at c.requires.ready c.in-Some.before (sym c.cell_before.ensures ∙ c.in-Some.is)
     c.refresh.ensures.is
 
 pub returns-else-refresh-clause-follows : goal.returns-else-refresh-clause-follows

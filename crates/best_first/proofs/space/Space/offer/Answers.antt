@@ -9,12 +9,12 @@ use Rattle.best_first.specs.declared.state.State.{State}
 use Rattle.best_first.specs.declared.node.Node.{Node}
 use Rattle.best_first.specs.Node.{state_of}
 use Rattle.best_first.specs.Space.{SpaceData, IsPlaced}
-use Rattle.best_first.specs.State.{state_in, state_told, place_of}
+use Rattle.best_first.specs.State.{state_in, state_of_place, place_of}
 use Rattle.best_first.specs.Table.{lookup, node_for}
 use Rattle.best_first.proofs.Lookup.{lookup-found}
 use Rattle.best_first.proofs.Mirrors.{some_node}
 use Rattle.best_first.proofs.Parts.{node_state}
-use Rattle.best_first.proofs.States.{told-place}
+use Rattle.best_first.proofs.States.{place-again}
 use Rattle.best_first.proofs.Tables.{entry_none, entry_some, open_of}
 use Rattle.best_first.proofs.space.Space.offer.Goals as goal
 
@@ -51,39 +51,39 @@ lower_parts-requires-clause-same g c = λ old h.
     ap (λ (n : Node). state_of s.layout n) (some_node old f.node (sym h ∙ f.node_is)) ∙ f.state ∙ sym made
 
 -- what is told of the node's place is the state that is offered
-told_again : (goal : Cell) (o : Offer) (n : Node) → o.to.cell.x < 4096 → n ≡ node_for goal o
-    → state_told n.place ≡ o.to
-told_again goal o n column made = ap (λ (p : Place). state_told p) (ap (λ (n : Node). n.place) made)
-    ∙ told-place o.to column
+offered_again : (goal : Cell) (o : Offer) (n : Node) → o.to.cell.x < 4096 → n ≡ node_for goal o
+    → state_of_place n.place ≡ o.to
+offered_again goal o n column made = ap (λ (p : Place). state_of_place p) (ap (λ (n : Node). n.place) made)
+    ∙ place-again o.to column
 
 pub add_parts-requires-clause-placed : goal.add_parts-requires-clause-placed
 add_parts-requires-clause-placed g c =
     let p = c.requires.placed in
-    let told = told_again c.args.goal c.args.offer c.node_for-node.result
+    let again = offered_again c.args.goal c.args.offer c.node_for-node.result
     (omega (arith, p.column, c.requires.narrow)) c.node_for-node.ensures in
     let s = c.args.self.now in
-    subst (λ (t : State). IsPlaced s.width s.places t.cell) (sym told) p
+    subst (λ (t : State). IsPlaced s.width s.places t.cell) (sym again) p
 
 pub add_parts-requires-clause-number : goal.add_parts-requires-clause-number
 add_parts-requires-clause-number g c =
-    let told = told_again c.args.goal c.args.offer c.node_for-node.result
+    let again = offered_again c.args.goal c.args.offer c.node_for-node.result
     (omega (arith, c.requires.placed.column, c.requires.narrow)) c.node_for-node.ensures in
     let number = c.number_of-number.ensures in
-    subst (λ (t : State). c.number_of-number.result ≡ cell_number c.args.self.now.width t.cell) (sym told)
+    subst (λ (t : State). c.number_of-number.result ≡ cell_number c.args.self.now.width t.cell) (sym again)
     (subst (λ (d : SpaceData). c.number_of-number.result ≡ cell_number d.width c.args.offer.to.cell)
     c.self.view_is number)
 
 pub add_parts-requires-clause-made : goal.add_parts-requires-clause-made
 add_parts-requires-clause-made g c =
-    let told = told_again c.args.goal c.args.offer c.node_for-node.result
+    let again = offered_again c.args.goal c.args.offer c.node_for-node.result
     (omega (arith, c.requires.placed.column, c.requires.narrow)) c.node_for-node.ensures in
-    ap (λ (n : Node). n.place) c.node_for-node.ensures ∙ ap place_of (sym told)
+    ap (λ (n : Node). n.place) c.node_for-node.ensures ∙ ap place_of (sym again)
 
 pub add_parts-requires-clause-new : goal.add_parts-requires-clause-new
 add_parts-requires-clause-new g c =
     let s = c.args.self.now in
-    let told = told_again c.args.goal c.args.offer c.node_for-node.result
+    let again = offered_again c.args.goal c.args.offer c.node_for-node.result
     (omega (arith, c.requires.placed.column, c.requires.narrow)) c.node_for-node.ensures in
-    subst (λ (t : State). lookup s.layout s.table.nodes (state_in s.layout t) ≡ None) (sym told)
+    subst (λ (t : State). lookup s.layout s.table.nodes (state_in s.layout t) ≡ None) (sym again)
     (entry_none (lookup s.layout s.table.nodes (state_in s.layout c.args.offer.to)) c.find-entry.result
     c.find-entry.ensures c.if-entry-eq0.true)

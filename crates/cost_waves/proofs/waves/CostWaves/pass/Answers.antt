@@ -1,7 +1,7 @@
 use Rattle.std.proofs.Common.{◌≡◌, ℕ, List, ap, sym, ◌∙◌, subst, arith}
 use Rattle.std.specs.Vec.{with_items}
 use Rattle.std.proofs.lemmas.List.{with_items_is}
-use Rattle.cost_waves.specs.Told.{WaveData, Tells, IsBlank}
+use Rattle.cost_waves.specs.Stored.{WaveData, Tells, IsBlank}
 use Rattle.cost_waves.proofs.Blank.{blank}
 use Rattle.cost_waves.proofs.Least.{tells}
 use Rattle.cost_waves.proofs.waves.CostWaves.pass.Goals as goal

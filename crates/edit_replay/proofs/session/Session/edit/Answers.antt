@@ -5,7 +5,7 @@ use Rattle.grid_moves.specs.declared.Ground.{Ground}
 use Rattle.grid_moves.specs.Grid.{is_ground}
 use Rattle.grid_moves.specs.Layers.{AreLayers, Layers, is_on_map, ground_at, layers_with}
 use Rattle.edit_replay.proofs.Edits.{adds_done, adds_outside, adds_same, layers_changed, same_layers}
-use Rattle.edit_replay.proofs.Following.{no_less, stands_for, told}
+use Rattle.edit_replay.proofs.Following.{no_less, stands_for, same_ground}
 use Rattle.edit_replay.specs.declared.engine.Engine.{Engine}
 use Rattle.edit_replay.specs.declared.engine.Engine.TheVariants.{Plain, Jps, Block, Plus}
 use Rattle.edit_replay.specs.declared.parts.Parts.{Parts}
@@ -118,7 +118,7 @@ returns-then-eq-clause-reply g c =
     ap (λ (ls : Layers). is_ground (ground_at ls cell) c.args.to) layers
     ∙ ap (λ (u : Cell). is_ground (ground_at now u) c.args.to) (sym c.in-Some.ensures.cell.cell)
     ∙ ap (λ (v : Ground). is_ground v c.args.to) (sym c.ground_at.ensures)
-    ∙ sym (told c.ground_at.result c.args.to) ∙ sym c.if-eq.ensures in
+    ∙ sym (same_ground c.ground_at.result c.args.to) ∙ sym c.if-eq.ensures in
     reply_same c.args.self.now.layers (edit_at c.args.x c.args.y c.args.to) on asked
 
 pub returns-then-eq-clause-edited : goal.returns-then-eq-clause-edited
@@ -134,7 +134,7 @@ returns-then-eq-clause-edited g c =
     ap (λ (ls : Layers). is_ground (ground_at ls cell) c.args.to) layers
     ∙ ap (λ (u : Cell). is_ground (ground_at now u) c.args.to) (sym c.in-Some.ensures.cell.cell)
     ∙ ap (λ (v : Ground). is_ground v c.args.to) (sym c.ground_at.ensures)
-    ∙ sym (told c.ground_at.result c.args.to) ∙ sym c.if-eq.ensures in
+    ∙ sym (same_ground c.ground_at.result c.args.to) ∙ sym c.if-eq.ensures in
     let are : AreLayers c.args.self.now.layers = subst (λ (ls : Layers). AreLayers ls)
     (ap (λ (p : Parts). as_layers p.grids) (sym c.deref_mut-parts.ensures.value) ∙ sym layers)
     c.self.invariant.layers in
@@ -155,7 +155,7 @@ returns-then-eq-clause-cell g c =
     ap (λ (ls : Layers). is_ground (ground_at ls cell) c.args.to) layers
     ∙ ap (λ (u : Cell). is_ground (ground_at now u) c.args.to) (sym c.in-Some.ensures.cell.cell)
     ∙ ap (λ (v : Ground). is_ground v c.args.to) (sym c.ground_at.ensures)
-    ∙ sym (told c.ground_at.result c.args.to) ∙ sym c.if-eq.ensures in
+    ∙ sym (same_ground c.ground_at.result c.args.to) ∙ sym c.if-eq.ensures in
     (on, asked, sym layers)
 
 pub returns-then-eq-clause-engine : goal.returns-then-eq-clause-engine
@@ -186,7 +186,7 @@ returns-clause-reply g c =
     ap (λ (ls : Layers). is_ground (ground_at ls cell) c.args.to) layers
     ∙ ap (λ (u : Cell). is_ground (ground_at now u) c.args.to) (sym c.in-Some.ensures.cell.cell)
     ∙ ap (λ (v : Ground). is_ground v c.args.to) (sym c.ground_at.ensures)
-    ∙ sym (told c.ground_at.result c.args.to) ∙ sym c.if-eq.ensures in
+    ∙ sym (same_ground c.ground_at.result c.args.to) ∙ sym c.if-eq.ensures in
     reply_done c.args.self.now.layers (edit_at c.args.x c.args.y c.args.to) on asked
 
 pub returns-clause-edited : goal.returns-clause-edited
@@ -222,7 +222,7 @@ returns-clause-cell g c =
     ap (λ (ls : Layers). is_ground (ground_at ls cell) c.args.to) layers
     ∙ ap (λ (u : Cell). is_ground (ground_at now u) c.args.to) (sym c.in-Some.ensures.cell.cell)
     ∙ ap (λ (v : Ground). is_ground v c.args.to) (sym c.ground_at.ensures)
-    ∙ sym (told c.ground_at.result c.args.to) ∙ sym c.if-eq.ensures in
+    ∙ sym (same_ground c.ground_at.result c.args.to) ∙ sym c.if-eq.ensures in
     let changed : as_layers c.set.new.self.grids ≡ layers_with c.args.self.now.layers cell c.args.to =
     same_layers (as_layers c.set.new.self.grids) (layers_with now c.in-Some.c c.args.to) c.set.ensures.land
     c.set.ensures.water

@@ -14,7 +14,7 @@ use Rattle.edit_replay.specs.declared.parts.Parts.{Parts}
 use Rattle.edit_replay.proofs.Following.{stands_for}
 use Rattle.edit_replay.proofs.Answering.{result_on_grid, unsearched_right, unsearched_run, unsearched_short}
 use Rattle.edit_replay.proofs.Counts.{none_away, none_within}
-use Rattle.edit_replay.proofs.Oneness.{only, result_told}
+use Rattle.edit_replay.proofs.Oneness.{only, result_known}
 use Rattle.edit_replay.proofs.Simple.{reply_is_short}
 use Rattle.edit_replay.proofs.session.Session.query.Goals as goal
 
@@ -146,17 +146,17 @@ pub invariant_of-self-2 : goal.invariant_of-self-2
 invariant_of-self-2 g c =
     c.search.ensures.kept
 
-pub returns-clause-told : goal.returns-clause-told
-returns-clause-told g c =
+pub returns-clause-known : goal.returns-clause-known
+returns-clause-known g c =
     let whole : c.args.self.now ≡ stands_for c.deref_mut-parts.result.now =
     sym c.self.view_is ∙ ap stands_for (sym c.deref_mut-parts.ensures.value) in
     let are : AreLayers c.args.self.now.layers = subst (λ (d : SessionData). AreLayers d.layers)
     (ap stands_for (sym c.deref_mut-parts.ensures.value) ∙ sym whole) c.self.invariant.layers in
-    result_told c.args.self.now are (record { x = c.args.sx; y = c.args.sy })
+    result_known c.args.self.now are (record { x = c.args.sx; y = c.args.sy })
     (record { x = c.args.gx; y = c.args.gy }) c.search.result (returns-clause-right g c) (returns-clause-run g c)
 
-pub returns-in-Err-clause-told : goal.returns-in-Err-clause-told
-returns-in-Err-clause-told g c =
+pub returns-in-Err-clause-known : goal.returns-in-Err-clause-known
+returns-in-Err-clause-known g c =
     let whole : c.args.self.now ≡ stands_for c.deref_mut-parts.result.now =
     sym c.self.view_is ∙ ap stands_for (sym c.deref_mut-parts.ensures.value) in
     let are : AreLayers c.args.self.now.layers = subst (λ (d : SessionData). AreLayers d.layers)

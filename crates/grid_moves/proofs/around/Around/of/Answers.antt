@@ -1,11 +1,11 @@
 use Rattle.std.proofs.Common.{◌+◌, rules}
-use Rattle.grid_moves.proofs.Besides.{around_told}
+use Rattle.grid_moves.proofs.Besides.{around_by_ends}
 use Rattle.grid_moves.proofs.around.Around.of.Goals as goal
 
 pub returns-clause-around : goal.returns-clause-around
 returns-clause-around g c =
     let pass = c.between-pass in
-    around_told (g.T.Terrain.grid c.args.t.now) c.args.c c.requires.free _ c.corner.ensures (record {
+    around_by_ends (g.T.Terrain.grid c.args.t.now) c.args.c c.requires.free _ c.corner.ensures (record {
       left = c.before-left.result;
       right = c.args.c.x + 1;
       up = c.before-up.result;

@@ -18,7 +18,7 @@ invariant_of-result c =
     subst (λ (cells : List Bool). IsPadded (grid_in a.width a.height a.corner cells) cells)
     (sym (with_items_is places c.fill.new.cells long))
     (grid_in_padded grid c.fill.new.cells (padded_layer a.kind a.corner a.width a.height a.cells.now
-    c.fill.new.cells c.requires.cells c.fill.ensures.long c.fill.ensures.told))
+    c.fill.new.cells c.requires.cells c.fill.ensures.long c.fill.ensures.stored))
 
 pub returns : goal.returns
 returns c =
@@ -32,4 +32,4 @@ returns c =
     ap (λ (cells : List Bool). grid_in a.width a.height a.corner cells)
     (with_items_is places c.fill.new.cells long)
     ∙ grid_in_is grid c.fill.new.cells (padded_layer a.kind a.corner a.width a.height a.cells.now
-    c.fill.new.cells c.requires.cells c.fill.ensures.long c.fill.ensures.told)
+    c.fill.new.cells c.requires.cells c.fill.ensures.long c.fill.ensures.stored)

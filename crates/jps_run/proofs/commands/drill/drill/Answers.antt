@@ -3,7 +3,7 @@ use Rattle.map_text.specs.Map.{Map}
 use Rattle.map_maker.specs.Drill.{drill_commands}
 use Rattle.map_maker.specs.Making.{made_map}
 use Rattle.word_list.specs.Kinds.{seed_at}
-use Rattle.script_text.specs.declared.command.Command.{Command}
+use Rattle.script_text.specs.declared.command.ScriptCommand.{ScriptCommand}
 use Rattle.jps_run.specs.Calls.{HasSearched, IsAnswered}
 use Rattle.jps_run.specs.Rising.{RoseForCommands}
 use Rattle.jps_run.specs.Drill.{AreFindings}
@@ -34,7 +34,7 @@ returns c =
             known = record {
               session = session;
               is = begun;
-              known = subst (λ (some : List Command). AreFindings session some w.found) e w.are;
+              known = subst (λ (some : List ScriptCommand). AreFindings session some w.found) e w.are;
             };
           },
         ),
@@ -44,7 +44,7 @@ returns c =
         record {
           session = session;
           is = begun;
-          known = subst (λ (some : List Command). RoseForCommands session some old new) e rose;
+          known = subst (λ (some : List ScriptCommand). RoseForCommands session some old new) e rose;
         },
       );
     }

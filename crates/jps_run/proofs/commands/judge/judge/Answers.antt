@@ -11,7 +11,7 @@ returns-clause-opened g c =
     let r = c.in_ok-costs.ensures.read in
     let case = c.in_ok-costs.field-0 in
     let entries = case.entries.items in
-    let told = case.walks.items in
+    let claimed = case.walks.items in
     record {
       texts = r.text ∷ r.second ∷ r.third ∷ [];
       accepted = rw (← c.name-map.ensures, ← c.name-scen.ensures, ← c.name-walks.ensures) r.accepted;
@@ -37,13 +37,13 @@ returns-clause-opened g c =
                 value = entries;
                 is = r.entries.0;
                 known = record {
-                  value = told;
+                  value = claimed;
                   is = r.walks.0;
                   known = record {
                     from = w.rulings;
                     all = w.all;
                     code = w.same_status;
-                    known = subst (λ (ls : Layers). AreRulings ls entries told w.rulings) r.costs.is w.are;
+                    known = subst (λ (ls : Layers). AreRulings ls entries claimed w.rulings) r.costs.is w.are;
                   };
                 };
               },

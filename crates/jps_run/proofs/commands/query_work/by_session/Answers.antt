@@ -1,5 +1,5 @@
 use Rattle.std.proofs.Common.{subst, List}
-use Rattle.script_text.specs.declared.command.Command.{Command}
+use Rattle.script_text.specs.declared.command.ScriptCommand.{ScriptCommand}
 use Rattle.jps_run.specs.Answers.{AreAnswers}
 use Rattle.jps_run.specs.Rising.{RoseForCommands}
 use Rattle.jps_run.proofs.Querying.{one-line, one-rose}
@@ -14,9 +14,9 @@ returns c =
       right = λ lines status w. (
         w.good,
         one-line d c.args.show e.sx e.sy e.gx e.gy lines
-            (subst (λ (all : List Command). AreAnswers d c.args.show all lines) c.in_ok-commands.ensures
+            (subst (λ (all : List ScriptCommand). AreAnswers d c.args.show all lines) c.in_ok-commands.ensures
             w.answers),
       );
       counted = λ old new rose. one-rose d c.args.show e.sx e.sy e.gx e.gy old new
-          (subst (λ (all : List Command). RoseForCommands d all old new) c.in_ok-commands.ensures rose);
+          (subst (λ (all : List ScriptCommand). RoseForCommands d all old new) c.in_ok-commands.ensures rose);
     }

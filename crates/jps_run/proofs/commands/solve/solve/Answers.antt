@@ -1,11 +1,11 @@
 use Rattle.std.proofs.Common.{◌≡◌, inr, subst, ℕ, List, [], ◌∷◌, ◌++◌, map, string_bytes, arith}
 use Rattle.std.specs.Option.{option_copied}
-use Rattle.io_edge.specs.Told.{Held}
+use Rattle.io_edge.specs.Known.{Held}
 use Rattle.call_files.proofs.Opening.{accepted-more, next-file, reading-stops, stops-longer}
 use Rattle.call_files.specs.Files.{IsAccepted, file_of}
 use Rattle.call_files.specs.MapFiles.{map_files}
 use Rattle.call_files.specs.Reading.{open_stops}
-use Rattle.call_files.specs.declared.kind.Kind.TheVariants as kinds
+use Rattle.call_files.specs.declared.kind.TextKind.TheVariants as kinds
 use Rattle.line_work.proofs.Stopping.{passed}
 use Rattle.word_list.specs.Kinds.{word_at}
 use Rattle.word_list.specs.declared.request.Show.{Show}

@@ -6,7 +6,7 @@ use Rattle.scen_text.specs.declared.fault.ScenFault.{ScenFault}
 use Rattle.call_files.specs.Files.{file_of}
 use Rattle.call_files.specs.Kinds.{count_in}
 use Rattle.call_files.specs.Reading.{SpellsWalks}
-use Rattle.call_files.specs.declared.kind.Kind.TheVariants as kinds
+use Rattle.call_files.specs.declared.kind.TextKind.TheVariants as kinds
 use Rattle.call_files.proofs.Opening.{both-accepted, fell-on, next-file, none-fell, reading-stops}
 use Rattle.call_files.proofs.Opening.{third-accepted}
 use Rattle.jps_run.proofs.replies.case.read_case.Goals as goal

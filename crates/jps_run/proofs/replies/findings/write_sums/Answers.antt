@@ -1,6 +1,6 @@
 use Rattle.std.proofs.Common.{length, subst, sym, List, ◌≤◌, ◌^◌}
 use Rattle.std.specs.Prelude.{OnOk}
-use Rattle.script_text.specs.declared.command.Command.{Command}
+use Rattle.script_text.specs.declared.command.ScriptCommand.{ScriptCommand}
 use Rattle.jps_run.specs.Rising.{RoseForCommands}
 use Rattle.jps_run.proofs.Rising.{on_ok}
 use Rattle.jps_run.proofs.Drilling.{all-fit, drill-complete, drilled-none, taken-none}
@@ -9,7 +9,7 @@ use Rattle.jps_run.proofs.replies.findings.write_sums.Goals as goal
 pub work_items-requires-clause-room : goal.work_items-requires-clause-room
 work_items-requires-clause-room g c =
     all-fit c.args.job (length c.as_slice.result.now) c.requires.new
-    (subst (λ (cs : List Command). length cs ≤ 2 ^ 32) (sym c.as_slice.ensures.value) c.requires.few)
+    (subst (λ (cs : List ScriptCommand). length cs ≤ 2 ^ 32) (sym c.as_slice.ensures.value) c.requires.few)
 
 pub work_items-requires-clause-completes : goal.work_items-requires-clause-completes
 work_items-requires-clause-completes g c = drill-complete
@@ -22,7 +22,7 @@ work_items-requires-clause-counts g c = taken-none c.args.job c.args.steps.now
 
 pub returns-clause-counted : goal.returns-clause-counted
 returns-clause-counted g c =
-    subst (λ (items : List Command). OnOk c.work_items.result
+    subst (λ (items : List ScriptCommand). OnOk c.work_items.result
     (RoseForCommands c.args.job.session items c.args.steps.now c.work_items.new.steps))
     c.as_slice.ensures.value
     (on_ok c.work_items.result (λ taken. taken.rose) c.work_items.ensures.counted)

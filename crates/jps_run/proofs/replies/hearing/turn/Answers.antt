@@ -7,8 +7,8 @@ use Rattle.jps_run.proofs.HeardCounts.{rising-more, rising-ended}
 use Rattle.jps_run.proofs.replies.hearing.turn.Goals as goal
 
 -- how many bytes there is room for
-room_is : (told taken : ℕ) → told ≡ taken → taken ≤ 67108864 → taken + (67108864 - told) ≡ 67108864
-room_is told taken same few = omega arith
+room_is : (known taken : ℕ) → known ≡ taken → taken ≤ 67108864 → taken + (67108864 - known) ≡ 67108864
+room_is known taken same few = omega arith
 
 -- what is taken of it
 piece_is : (bytes also : List ℕ) (n m : ℕ) → n ≡ m → bytes ≡ also → take n bytes ≡ take m also

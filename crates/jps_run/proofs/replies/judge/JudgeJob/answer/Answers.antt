@@ -11,14 +11,14 @@ returns-clause-worked g c =
     let inside = one-left rows c.requires.room.0 (length walks) c.requires.room.1.left in
     judged-more c.put_ruling.result c.args.self.now
     (record { costs = c.ruling_on.new.costs; walks = c.args.self.now.walks; counts = c.count.new.self })
-    c.args.item c.index-told.result.now c.in_ok-ruling.ruling c.args.lines.now.items
+    c.args.item c.index-claimed.result.now c.in_ok-ruling.ruling c.args.lines.now.items
     c.put_ruling.new.out.items
-    c.in_ok-ruling.ensures.ruling (slice_get_read walks (length walks) rows c.index-told.result.now refl
-    inside c.index-told.ensures)
+    c.in_ok-ruling.ensures.ruling (slice_get_read walks (length walks) rows c.index-claimed.result.now refl
+    inside c.index-claimed.ensures)
     c.ruling_on.ensures.unchanged refl c.count.ensures c.put_ruling.ensures
 
-pub index-told-requires : goal.index-told-requires
-index-told-requires g c =
+pub index-claimed-requires : goal.index-claimed-requires
+index-claimed-requires g c =
     let rows = c.args.self.now.counts.rows in
     subst (λ n. rows < n) (sym c.args.self.now.walks.ok.0)
     (one-left rows c.requires.room.0 (length c.args.self.now.walks.items) c.requires.room.1.left)
@@ -28,8 +28,8 @@ ruling_on-requires g c =
     let walks = c.args.self.now.walks.items in
     let rows = c.args.self.now.counts.rows in
     let inside = one-left rows c.requires.room.0 (length walks) c.requires.room.1.left in
-    c.requires.room.1.fit rows c.index-told.result.now
-    (slice_get_read walks (length walks) rows c.index-told.result.now refl inside c.index-told.ensures)
+    c.requires.room.1.fit rows c.index-claimed.result.now
+    (slice_get_read walks (length walks) rows c.index-claimed.result.now refl inside c.index-claimed.ensures)
 
 pub count-requires : goal.count-requires
 count-requires g c = record {

@@ -1,5 +1,0 @@
-use Rattle.plain_search.proofs.Answering.{answers_are}
-use Rattle.plain_search.proofs.laws.answers_are_told.Goals as goal
-
-pub returns : goal.returns
-returns c = answers_are

@@ -1,5 +1,0 @@
-use Rattle.search_core.proofs.Answering.{answers_are}
-use Rattle.search_core.proofs.laws.answers_are_told.Goals as goal
-
-pub returns : goal.returns
-returns c = answers_are
