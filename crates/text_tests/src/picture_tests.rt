@@ -24,7 +24,7 @@ fn a_walk_and_its_taken_states_are_drawn(rt: HostRuntime) -> Result<(), Fail> {
         b"type octile\nheight 2\nwidth 4\nmap\n..GT\nS@OW\n",
     )?;
     let (start, goal) = (Cell { x: 0, y: 0 }, Cell { x: 2, y: 0 });
-    let walk = Walk {
+    let walk = DrawnWalk {
         points: &[start, goal],
         cost: Cost { a: 2, b: 0 },
     };

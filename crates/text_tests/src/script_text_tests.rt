@@ -18,16 +18,16 @@ fn commands_are_read_in_order(rt: HostRuntime) -> Result<(), Fail> {
         b"query 0 1 2 1\nblock 1 1\nquery 0 1 2 1\nfree 1 1\n\tflood  01 1\r\n\nquery 0 1 2 1\nblock 3 0";
     assert!(rt; text.len() < 200);
     let commands = read_script(rt.alloc(), text)?;
-    let query = Command::Query {
+    let query = ScriptCommand::Query {
         sx: 0,
         sy: 1,
         gx: 2,
         gy: 1,
     };
-    let free = Command::Free { x: 1, y: 1 };
-    let flood = Command::Flood { x: 1, y: 1 };
-    let block = Command::Block { x: 1, y: 1 };
-    let outside = Command::Block { x: 3, y: 0 };
+    let free = ScriptCommand::Free { x: 1, y: 1 };
+    let flood = ScriptCommand::Flood { x: 1, y: 1 };
+    let block = ScriptCommand::Block { x: 1, y: 1 };
+    let outside = ScriptCommand::Block { x: 3, y: 0 };
     let wanted = [query, block, query, free, flood, query, outside];
     assert_eq!(rt; commands.as_slice(), wanted.as_slice());
     Ok(())
@@ -67,7 +67,7 @@ fn a_line_has_at_most_128_bytes(rt: HostRuntime) -> Result<(), Fail> {
 }
 
 // Feeds the text in pieces of so many bytes, and ends it.
-fn feed_all(text: &[u8], size: usize, got: &mut Vec<Command>) -> Result<(), ScriptFault>
+fn feed_all(text: &[u8], size: usize, got: &mut Vec<ScriptCommand>) -> Result<(), ScriptFault>
     requires some { 0 < size }
     requires few { length text.now < 1000 }
 {
@@ -83,13 +83,13 @@ fn feed_all(text: &[u8], size: usize, got: &mut Vec<Command>) -> Result<(), Scri
 // Two lines, the second with a carriage return, and a last one without line feed.
 #[test]
 fn a_script_in_pieces_is_the_script(rt: HostRuntime) -> Result<(), Fail> {
-    let query = Command::Query {
+    let query = ScriptCommand::Query {
         sx: 0,
         sy: 1,
         gx: 2,
         gy: 1,
     };
-    let free = Command::Free { x: 1, y: 1 };
+    let free = ScriptCommand::Free { x: 1, y: 1 };
     for size in [1, 7, 64] {
         let mut got = Vec::new(rt.alloc());
         feed_all(
@@ -137,7 +137,10 @@ fn a_list_of_pieces_is_the_script(rt: HostRuntime) -> Result<(), Fail> {
     pieces.push(Vec::from_slice(rt.alloc(), b"\nfree 3 4")?)?;
     let mut got = Vec::new(rt.alloc());
     read_pieces(&pieces, &mut got)?;
-    let wanted = [Command::Block { x: 1, y: 12 }, Command::Free { x: 3, y: 4 }];
+    let wanted = [
+        ScriptCommand::Block { x: 1, y: 12 },
+        ScriptCommand::Free { x: 3, y: 4 },
+    ];
     assert_eq!(rt; got.as_slice(), wanted.as_slice());
     Ok(())
 }
