@@ -123,7 +123,7 @@ def cell_line(results):
         ratios = [told.ratio(*(it["per_query"] for it in pair))[0] for pair in pairs if all(pair)]
         if ratios:
             found.append(f"`{engine}` {told.median(ratios):.2f} ({min(ratios):.2f} to {max(ratios):.2f})")
-    words = "With one state for each cell they take, in the middle of the maps, this part of the time: "
+    words = "With one state for each cell they take this share of their time by arrival (median over the maps): "
     return f"{words}{', '.join(found)}; [FIGURES](../bench/FIGURES.md#with-one-state-for-each-cell) has each map."
 
 
@@ -157,8 +157,9 @@ def has_pairing(results):
 def queries_text(results):
     parts = [origin(results), queries_table(results, "arrival", ENGINES)]
     parts.append(
-        "A time is the median over the turns of one further query (of 150 to 400 a map), behind it its ratio to the "
-        "C++ reference of the same engine; `~` says that the turns do not tell it from 1."
+        "A time is the mean of a map's further queries (150 to 400), by its median over the turns; behind it stands the "
+        "median of the turns' ratios to the C++ reference of the same engine; `~` says that they do not tell it from 1. "
+        "These engines have a state for each arrival; the field's JPS has one for each cell (`states=cell`)."
     )
     if has_cell(results):
         parts.append(cell_line(results))
@@ -296,7 +297,8 @@ def process_words(name, side):
     if name in PROCESS_WORDS:
         return PROCESS_WORDS[name].format(side=side)
     if name.startswith("first answer"):
-        return f"first answer on {side}x{side}, a quarter blocked, by `{name.split(', ')[1]}`"
+        where = f"{side}x{side}, a quarter blocked (map read, a query from a cell to itself)"
+        return f"start on {where}, by `{name.split(', ')[1]}`"
     _, kind, engine = name.split(", ")
     scattered = kind == "scattered"
     where = f"on {side}x{side}, a quarter blocked" if scattered else f"in the middle of {side}x{side} open cells"
@@ -341,7 +343,7 @@ def pipe_text(results):
         found = [find(rows, map=name, engine=engine) for engine in engines]
         lines.append([asked_words(find(rows, map=name)), *(told.seconds(row["0.5"]) if row else "" for row in found)])
     head = ["Questions", *("the pipe alone" if it == "cat" else f"`{it}`" for it in engines)]
-    words = "The median by the clock; how late answers may be: [FIGURES](../bench/FIGURES.md#the-pipe-of-live)."
+    words = "Medians over the questions by the clock, so below the means above; how late answers may be: [FIGURES](../bench/FIGURES.md#the-pipe-of-live)."
     return ["## Answers through the pipe of `live`", words, told.table(head, lines)]
 
 
@@ -369,7 +371,7 @@ def by_size(results, part, write):
 
 def growth_text(pictures):
     """The picture."""
-    words = "Cities of five sizes, each with 40 queries spread over all lengths: the median time of a further query. "
+    words = "Cities of five sizes, each with 40 queries spread over all lengths: the mean time of a further query. "
     words += "[FIGURES](../bench/FIGURES.md#how-it-grows) has the numbers, and the memory that is taken."
     told_of = "the time of a query by the side of the map, a line for each engine"
     return ["## How it grows", words, *picture("growth", pictures, told_of)]
@@ -377,7 +379,7 @@ def growth_text(pictures):
 
 def growth_numbers_text(results):
     """The times, and the memory."""
-    parts = ["The median time of a further query:"]
+    parts = ["The mean time of a further query, by its median over the turns:"]
     parts.append(by_size(results, "growth", lambda row: told.seconds(told.median(row["per_query"]))))
     if results.get("memory"):
         parts.append("The most memory that a `live` takes which has answered one of the longest queries:")
@@ -504,12 +506,13 @@ def library_words(found):
 def library_row(results):
     """The least and largest ratio of a library to `plain` and to `block`; networkx is too slow to stand here."""
     found = {key: pair for key, pair in library_ratios(results).items() if not key[1].startswith("networkx")}
-    plain = [pair[0] for pair in found.values()]
+    plain = [pair[0] for (_, library), pair in found.items() if "Dijkstra" not in library]
+    walls = [pair[1] for (name, _), pair in found.items() if name == "random25"]
     block = [pair[1] for (name, _), pair in found.items() if name != "random25"]
-    if not plain or not block:
+    if not plain or not block or not walls:
         return None
-    words = [told.times_as_long(it) for it in (min(plain), max(plain), min(block), max(block))]
-    row = "they take {} to {} times as long as `plain`, {} to {} times as long as `block` but among scattered walls"
+    words = [told.times_as_long(pick(them)) for them in (plain, block, walls) for pick in (min, max)]
+    row = "A* takes {} to {} times as long as `plain`; all take {} to {} times as long as `block`, among scattered walls {} to {}"
     return [library_words(found), row.format(*words)]
 
 
@@ -522,7 +525,7 @@ def readme_text(results):
     head = f"On {len(names)} maps, from {sizes[0]} to {sizes[1]} cells"
     mine = [row for row in rows if row["program"] == "jps"]
     quick, slow = (choose(mine, key=lambda row: told.median(row["per_query"])) for choose in (min, max))
-    last = f"A query takes from {mean_words(quick)} to {mean_words(slow)}"
+    last = f"A mean query takes from {mean_words(quick)} to {mean_words(slow)}"
     campus = find(mine, map="campus", engine="block", states="arrival")
     if campus:
         last += f"; on the campus `block` takes {told.seconds(told.median(campus['per_query']))}"
@@ -579,7 +582,7 @@ def engines_text(results):
     edits = [of.process("edit, scattered, block", "µs"), of.process("edit, scattered, plus", "µs")]
     edits.append(of.process("edit, open, plus", "ms"))
     told_of = [
-        f"first on {side}: {first[0]}, {first[1]} s; `plus` makes tables, {first[2]} s",
+        f"start on {side}: {first[0]}, {first[1]} s; `plus` makes tables, {first[2]} s",
         "rooms, 512 × 512: {}, {} µs, with `states=cell` {}, {}; `plain` {}".format(*rooms),
         f"open, {open_side}, through `live`: {{}}, {{}} µs; `block` {{}}, `jps` {{}}".format(*short),
         "there: {}, {} ms; `jps` {}, `plain` {}".format(*far),
