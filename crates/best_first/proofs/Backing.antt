@@ -8,6 +8,7 @@ use Rattle.std.specs.Prelude.{Some, slice_get}
 use Rattle.root2_cost.specs.declared.Cost.{Cost}
 use Rattle.root2_cost.specs.Rank.{rank_of}
 use Rattle.root2_cost.specs.Sums.{add_costs, no_cost}
+use Rattle.root2_cost.proofs.Differences.{rank-add_costs}
 use Rattle.grid_moves.specs.declared.Cell.{Cell}
 use Rattle.grid_moves.specs.Move.{is_same}
 use Rattle.grid_moves.specs.Points.{estimate}
@@ -23,7 +24,7 @@ use Rattle.best_first.specs.Table.{Table}
 use Rattle.best_first.specs.Mirror.{Offers, IsSearching}
 use Rattle.best_first.specs.Trace.{IsBack, stops, goes, node_cell, rank_left}
 use Rattle.best_first.proofs.Mirrors.{some_node, in_taken}
-use Rattle.best_first.proofs.Offering.{in_cell, rank-add_costs}
+use Rattle.best_first.proofs.Offering.{in_cell}
 use Rattle.best_first.proofs.States.{is_same_state-state, is_same_state-itself, same_or_not}
 use Rattle.best_first.proofs.Searching.{start_taken, taken_key}
 

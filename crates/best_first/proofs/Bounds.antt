@@ -5,10 +5,10 @@ use Rattle.std.proofs.Common.{◌≡◌, ℕ, zero, suc, ◌*◌, ◌<◌, ◌�
 use Rattle.std.proofs.Common.{◌∙◌, subst, false, arith}
 use Rattle.std.specs.Prelude.{Some, slice_get}
 use Rattle.std.proofs.lemmas.Option.{same_Some}
+use Rattle.std.proofs.lemmas.Bool.{or_parts}
 use Rattle.grid_moves.specs.declared.Cell.{Cell}
 use Rattle.grid_moves.proofs.Places.{one_cell, number_below}
 use Rattle.search_run.specs.Run.{Taken, IsIn, here, there, IsRun, is_taken}
-use Rattle.search_run.proofs.Leastness.{or_false}
 use Rattle.best_first.specs.declared.state.State.{State}
 use Rattle.best_first.specs.State.{state_number, is_same_state, start_at}
 use Rattle.best_first.specs.Rule.{Links, search_rule, LiesOn, IsPosed}
@@ -41,8 +41,8 @@ module _ {width height : ℕ} {start goal : Cell} {link : Links}
       → u.state ≡ x.state → ⊥
   later_other x [] n u m e = elim m [ ]
   later_other x (y ∷ some) n u (here z) e =
-      grind (arith, nat_tests, common_steps, or_false, is_same_state-itself)
-  later_other x (y ∷ some) n u (there z w m) e = later_other x some (or_false (is_same_state y.state x.state)
+      grind (arith, nat_tests, common_steps, or_parts, is_same_state-itself)
+  later_other x (y ∷ some) n u (there z w m) e = later_other x some (or_parts (is_same_state y.state x.state)
       (is_taken (search_rule width goal link) some x.state) n).1 u m e
 
   pub apart_run : (run : List (Taken State)) → IsRun (search_rule width goal link) (start_at start) run

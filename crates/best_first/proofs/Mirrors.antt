@@ -3,9 +3,9 @@ use Rattle.std.proofs.Common.{◌≡◌, ◌≢◌, ℕ, ◌<◌, ◌⊎◌, inl
 use Rattle.std.proofs.Common.{Bool, true, false, arith}
 use Rattle.std.specs.Prelude.{Some, None, slice_get}
 use Rattle.std.proofs.lemmas.Option.{same_Some}
+use Rattle.std.proofs.lemmas.Bool.{or_right}
 use Rattle.grid_moves.specs.declared.Cell.{Cell}
 use Rattle.search_run.specs.Run.{Taken, Offer, IsIn, here, there, is_taken}
-use Rattle.search_run.proofs.Leastness.{or_true}
 use Rattle.best_first.specs.declared.node.Node.{Node}
 use Rattle.best_first.specs.declared.state.State.{State}
 use Rattle.best_first.specs.declared.state.Layout.{Layout}
@@ -37,7 +37,7 @@ module _ (width : ℕ) (goal : Cell) (link : Links) where
       → is_taken (search_rule width goal link) run u.state ≡ true
   in_taken [] u m = elim m [ ]
   in_taken (x ∷ earlier) u (here e) = rw (is_same_state-itself x.state) refl
-  in_taken (x ∷ earlier) u (there z e m) = grind (arith, or_true, in_taken earlier u m)
+  in_taken (x ∷ earlier) u (there z e m) = grind (arith, or_right, in_taken earlier u m)
 
 module _ {layout : Layout} {width : ℕ} {goal : Cell} {link : Links} where
   module _ {run : List (Taken State)} {best : Offers} {k l : Table} {v : State} {id : ℕ} {n : Node}

@@ -12,6 +12,7 @@ use Rattle.root2_cost.specs.Rank.{rank_of}
 use Rattle.root2_cost.specs.Sums.{add_costs}
 use Rattle.root2_cost.proofs.Ranking.{less_ranks, ranks_less}
 use Rattle.root2_cost.proofs.Sums.{IsLess-add_right, IsLess-cancel_right}
+use Rattle.root2_cost.proofs.Differences.{rank-add_costs}
 use Rattle.grid_moves.specs.declared.Cell.{Cell}
 use Rattle.grid_moves.specs.Points.{estimate}
 use Rattle.search_run.specs.Run.{Taken, Offer, is_taken, lesser, sum_at}
@@ -36,11 +37,7 @@ pub in_cell : (layout : Layout) (s : State) → (state_in layout s).cell ≡ s.c
 in_cell ByCell s = refl
 in_cell ByArrival s = refl
 
--- the rank of a sum is the sum of the ranks
-pub rank-add_costs : (p q : Cost) → rank_of (add_costs p q) ≡ rank_of p + rank_of q
-rank-add_costs p q = omega arith
-
--- of two sums with one estimate the lesser is told by the ranks
+-- which of two sums with one estimate is less the ranks say
 keys_tell : (p q e : Cost) → HasShortParts (add_costs p e) → HasShortParts (add_costs q e)
     → nat_lt (rank_of (add_costs p e)) (rank_of (add_costs q e)) ≡ is_less p q
 keys_tell p q e s t = by_test (is_less p q) refl

@@ -28,7 +28,7 @@ numbers-next : (width : ℕ) (link : Links) (x : Taken State) (run : List (Taken
 numbers-next width link x run = reverse-append (state_number width (link.arrived x.parent x.state) ∷ [])
     (map (λ u. state_number width (link.arrived u.parent u.state)) run)
 
--- a number is that of the state of a node, told by its place and with how it was come to, whatever from
+-- a number is that of the state of a node, read from its place and with how it was come to, whatever from
 abbrev pub IsShown : Layout → ℕ → Links → Node → ℕ → Type 0
 IsShown layout width link node number =
     (p : State) → link.led p (state_of_place node.place) ≡ true

@@ -2,6 +2,7 @@
 use Rattle.std.proofs.Common.{◌≡◌, ℕ, zero, suc, ◌+◌, ◌<◌, ◌≤◌, ◌^◌, ◌⊎◌, inl, inr, List, [], ◌∷◌, refl, ap}
 use Rattle.std.proofs.Common.{sym, ◌∙◌, subst, Bool, true, false, ◌||◌, arith}
 use Rattle.std.specs.Prelude.{Option, Some, None, slice_get, if◌then◌else◌}
+use Rattle.std.proofs.lemmas.Bool.{or_right}
 use Rattle.root2_cost.specs.declared.Cost.{Cost}
 use Rattle.root2_cost.specs.Laws.{HasShortParts}
 use Rattle.root2_cost.specs.Rank.{rank_of}
@@ -9,13 +10,14 @@ use Rattle.root2_cost.specs.Sums.{add_costs, no_cost}
 use Rattle.root2_cost.proofs.AtMost.{IsAtMost-not_more}
 use Rattle.root2_cost.proofs.Most.{Most}
 use Rattle.root2_cost.proofs.Ranking.{ranks_less}
+use Rattle.root2_cost.proofs.Differences.{rank-add_costs}
 use Rattle.grid_moves.specs.declared.Cell.{Cell}
 use Rattle.grid_moves.specs.Move.{is_same}
 use Rattle.grid_moves.specs.Points.{estimate}
 use Rattle.search_run.specs.Chain.{IsConsistent}
 use Rattle.search_run.specs.Run.{Rule, Taken, IsIn, here, there, IsRun, is_taken, has_goal, lesser}
 use Rattle.search_run.specs.Run.{least_offer, sum_at}
-use Rattle.search_run.proofs.Leastness.{least_offer-from, or_true, taken_state, below_last, link_rises}
+use Rattle.search_run.proofs.Leastness.{least_offer-from, taken_state, below_last, link_rises}
 use Rattle.best_first.specs.declared.node.Node.{Node}
 use Rattle.best_first.specs.declared.node.Offer.{Offer as Way}
 use Rattle.best_first.specs.declared.state.State.{State}
@@ -31,7 +33,7 @@ use Rattle.best_first.specs.Ways.{with_onward}
 use Rattle.best_first.specs.Progress.{IsExhausted, numbers_of}
 use Rattle.best_first.proofs.Links.{consistent, short_sum, short_link}
 use Rattle.best_first.proofs.Mirrors.{some_node}
-use Rattle.best_first.proofs.Offering.{IsFitting, in_cell, rank-add_costs, new_key, offered_keeps, same_best}
+use Rattle.best_first.proofs.Offering.{IsFitting, in_cell, new_key, offered_keeps, same_best}
 use Rattle.best_first.proofs.States.{is_same_state-itself, place-again}
 use Rattle.best_first.proofs.Tables.{offered_slot}
 use Rattle.best_first.proofs.Taking.{next, is_next, mirrors_on, none_open}
@@ -70,7 +72,7 @@ module _ {width height : ℕ} {start goal : Cell} {link : Links}
       let t : is_same_state y.state (start_at start) ≡ true =
       ap (λ (s : State). is_same_state s (start_at start)) e ∙ is_same_state-itself (start_at start) in
       rw t refl
-  start_taken (y ∷ z ∷ rest) is = or_true (is_same_state y.state (start_at start))
+  start_taken (y ∷ z ∷ rest) is = or_right (is_same_state y.state (start_at start))
       (is_taken (search_rule width goal link) (z ∷ rest) (start_at start)) (start_taken (z ∷ rest) is.0)
 
   pub fair : IsConsistent (search_rule width goal link)

@@ -1,12 +1,12 @@
 -- States, their numbers, and the places that stand for them.
 use Rattle.std.proofs.Common.{◌≡◌, ℕ, min, ◌+◌, ◌*◌, ◌/◌, ◌%◌, ◌<◌, ◌≤◌, ◌⊎◌, inl, inr, ap}
 use Rattle.std.proofs.Common.{sym, ◌∙◌, Bool, true, false, ◌&&◌, arith}
-use Rattle.std.specs.Prelude.{Option, slice_get}
+use Rattle.std.specs.Prelude.{Option}
 use Rattle.std.proofs.lemmas.Bool.Decides.{nat_tests}
 use Rattle.std.proofs.Math.Nat.{mul-le-mul}
 use Rattle.grid_moves.specs.declared.Dir.{Dir}
-use Rattle.grid_moves.specs.Move.{all_dirs}
-use Rattle.grid_moves.proofs.Legal.{same_cell, is_same-cell, is_same-itself}
+use Rattle.grid_moves.specs.Move.{dir_of_number}
+use Rattle.grid_moves.proofs.Legal.{same_cell, is_same-cell, is_same-itself, and_both}
 use Rattle.best_first.specs.declared.state.State.{State}
 use Rattle.best_first.specs.declared.state.Layout.{Layout}
 use Rattle.best_first.specs.declared.state.Layout.TheVariants.{ByCell, ByArrival}
@@ -14,11 +14,7 @@ use Rattle.best_first.specs.declared.place.Place.{Place}
 use Rattle.best_first.specs.State.{arrival_number, state_number, is_same_state, state_in, place_of}
 use Rattle.best_first.specs.State.{state_of_place}
 
-arrival_of : ℕ → Option Dir
-arrival_of n = slice_get all_dirs n
-
-arrival_again : (a : Option Dir) → arrival_of (arrival_number a) ≡ a
-unfolding arrival_of
+arrival_again : (a : Option Dir) → dir_of_number (arrival_number a) ≡ a
 arrival_again a = grind (arith, nat_tests)
 
 pub arrival_small : (a : Option Dir) → arrival_number a < 9
@@ -26,16 +22,13 @@ arrival_small a = grind (arith, nat_tests)
 
 -- arrivals of one number are one
 pub one_arrival : (a b : Option Dir) → arrival_number a ≡ arrival_number b → a ≡ b
-one_arrival a b e = sym (arrival_again a) ∙ ap arrival_of e ∙ arrival_again b
+one_arrival a b e = sym (arrival_again a) ∙ ap (λ (n : ℕ). dir_of_number n) e ∙ arrival_again b
 
 pub same_state : (s t : State) → s.cell ≡ t.cell → s.arrival ≡ t.arrival → s ≡ t
 same_state s t e f = grind (arith, nat_tests)
 
-both : (a b : Bool) → (a && b) ≡ true → (a ≡ true) × (b ≡ true)
-both a b h1 = grind (arith, nat_tests)
-
 pub is_same_state-state : (s t : State) → is_same_state s t ≡ true → s ≡ t
-is_same_state-state s t h = grind (arith, nat_tests, both, same_state, is_same-cell, one_arrival)
+is_same_state-state s t h = grind (arith, nat_tests, and_both, same_state, is_same-cell, one_arrival)
 
 pub is_same_state-itself : (s : State) → is_same_state s s ≡ true
 is_same_state-itself s = grind (arith, nat_tests, is_same-itself)
@@ -45,11 +38,11 @@ same_or_not b = grind (arith, nat_tests)
 
 -- a place tells its state
 pub place-again : (s : State) → s.cell.x < 4096 → state_of_place (place_of s) ≡ s
-unfolding place_of state_of_place arrival_of
-place-again s h = grind (arith, nat_tests, arrival_small, same_state, same_cell, arrival_of, arrival_again)
+unfolding place_of state_of_place
+place-again s h = grind (arith, nat_tests, arrival_small, same_state, same_cell, arrival_again)
 
--- the number that is told of an arrival, where 8 and more stand for the start
-arrival_kept : (n : ℕ) → arrival_number (slice_get all_dirs n) ≡ min n 8
+-- the number of the arrival that a number stands for, where 8 and more stand for the start
+arrival_kept : (n : ℕ) → arrival_number (dir_of_number n) ≡ min n 8
 arrival_kept n = grind (arith, nat_tests)
 
 -- rows first, then columns, then arrivals

@@ -5,6 +5,7 @@ use Rattle.std.specs.Prelude.{Option, Some, None, slice_get, slice_set, nat_eq, 
 use Rattle.std.proofs.lemmas.Bool.Decides.{nat_tests}
 use Rattle.std.proofs.lemmas.Grind.{common_steps}
 use Rattle.std.proofs.lemmas.Option.{same_Some}
+use Rattle.std.proofs.lemmas.Bool.{or_parts, or_right}
 use Rattle.root2_cost.specs.declared.Cost.{Cost}
 use Rattle.root2_cost.specs.Laws.{HasShortParts}
 use Rattle.root2_cost.specs.Order.{is_less}
@@ -14,7 +15,6 @@ use Rattle.root2_cost.proofs.Ranking.{less_ranks}
 use Rattle.grid_moves.specs.declared.Cell.{Cell}
 use Rattle.search_run.specs.Run.{Taken, Offer, IsIn, here, there, is_taken, least_offer, sum_at, IsNext}
 use Rattle.search_run.specs.Run.{NoneWaits, goes_before}
-use Rattle.search_run.proofs.Leastness.{or_false, or_true}
 use Rattle.best_first.specs.declared.node.Node.{Node}
 use Rattle.best_first.specs.declared.state.State.{State}
 use Rattle.best_first.specs.declared.state.Layout.{Layout}
@@ -32,7 +32,7 @@ use Rattle.best_first.proofs.Mirrors.{some_node}
 keys_order : (p q : Cost) (i j m n : ℕ) → HasShortParts p → HasShortParts q → (j ≤ i → n ≤ m)
     → (nat_lt (rank_of p) (rank_of q) || (nat_eq (rank_of p) (rank_of q) && nat_lt i j)) ≡ false
     → (is_less p q || (nat_eq p.a q.a && nat_eq p.b q.b && nat_lt m n)) ≡ false
-keys_order p q i j m n s t order e = grind (arith, nat_tests, common_steps, or_false, less_ranks, same_cost)
+keys_order p q i j m n s t order e = grind (arith, nat_tests, common_steps, or_parts, less_ranks, same_cost)
 
 module _ {layout : Layout} {width : ℕ} {goal : Cell} {link : Links} {run : List (Taken State)} {k : Table}
     (m : Mirrors layout width goal link run (least_offer (search_rule width goal link) run) k) where
@@ -142,9 +142,9 @@ module _ {layout : Layout} {width : ℕ} {goal : Cell} {link : Links} {run : Lis
           offer = o.offer;
           keeps = o.keeps;
           led = o.led;
-          source = or_true (is_same_state (state_of layout n) o.offer.from)
+          source = or_right (is_same_state (state_of layout n) o.offer.from)
               (is_taken (search_rule width goal link) run o.offer.from) o.source;
-          best_is = λ z. o.best_is (or_false (is_same_state (state_of layout n) (state_of layout x))
+          best_is = λ z. o.best_is (or_parts (is_same_state (state_of layout n) (state_of layout x))
               (is_taken (search_rule width goal link) run (state_of layout x)) z).1;
           taken_by = taken_by;
         }

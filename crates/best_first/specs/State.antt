@@ -1,11 +1,11 @@
 -- States of a search: a cell and how it was come to.
 use Rattle.std.specs.Prelude.{◌≡◌, ℕ, ◌+◌, ◌*◌, ◌/◌, ◌%◌, Bool, true, nat_eq, nat_lt, ◌&&◌, refl}
-use Rattle.std.specs.Prelude.{Option, Some, None, if◌then◌else◌, slice_get}
+use Rattle.std.specs.Prelude.{Option, Some, None, if◌then◌else◌}
 use Rattle.grid_moves.specs.declared.Cell.{Cell}
 use Rattle.grid_moves.specs.declared.Dir.{Dir}
 use Rattle.grid_moves.specs.declared.Dir.TheVariants.{N, NE, E, SE, S, SW, W, NW}
 use Rattle.grid_moves.specs.Grid.{cell_number}
-use Rattle.grid_moves.specs.Move.{is_same, all_dirs, dir_number}
+use Rattle.grid_moves.specs.Move.{is_same, dir_number, dir_of_number}
 use Rattle.best_first.specs.declared.state.State.{State}
 use Rattle.best_first.specs.declared.state.Layout.{Layout}
 use Rattle.best_first.specs.declared.state.Layout.TheVariants.{ByCell, ByArrival}
@@ -49,7 +49,7 @@ heading u v =
     else if nat_lt u.y v.y then Some S
     else None
 
--- how the second state was come to from the first: where a cell has one state, that is told by where it lies
+-- how the second state was come to from the first: where a cell has one state, that hangs on where it lies
 abbrev pub arrival_from : Layout → State → State → Option Dir
 arrival_from ByCell p s = heading p.cell s.cell
 arrival_from ByArrival p s = s.arrival
@@ -71,7 +71,7 @@ place_of s = record { bits = s.cell.y * 65536 + (s.cell.x * 16 + arrival_number 
 unfoldable pub state_of_place : Place → State
 state_of_place p = record {
   cell = record { x = p.bits / 16 % 4096; y = p.bits / 65536 };
-  arrival = slice_get all_dirs (p.bits % 16);
+  arrival = dir_of_number (p.bits % 16);
 }
 
 -- to the lower right, to the left, and nowhere

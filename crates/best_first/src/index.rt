@@ -125,10 +125,10 @@ impl Index {
     }
 
     /// The entry for a state, given its cell's number: 0, or the number of its node and one. The layout
-    /// is told too: where it is a constant, there is no look at it.
+    /// is an argument too: where it is a constant, there is no look at it.
     #[inline(always)]
     pub(crate) fn entry(&self, layout: Layout, cell: u32, state: State) -> u32
-        requires given { layout ≡ self.now.layout }
+        requires layout { layout ≡ self.now.layout }
         requires heads { AreHeads self.now.layout self.now.heads.items self.now.records.items }
         requires within { cell < length self.now.heads.items }
         requires few { length self.now.heads.items ≤ 16777216 }
@@ -148,7 +148,7 @@ impl Index {
     /// Sets the entry for the state of a new node, given the layout and its cell's number.
     #[inline(always)]
     pub(crate) fn put(&mut self, layout: Layout, cell: u32, state: State, entry: u32)
-        requires given { layout ≡ self.old.layout }
+        requires layout { layout ≡ self.old.layout }
         requires heads { AreHeads self.old.layout self.old.heads.items self.old.records.items }
         requires within { cell < length self.old.heads.items }
         requires few { length self.old.heads.items ≤ 16777216 }

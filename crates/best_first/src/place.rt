@@ -5,7 +5,7 @@ ghost use Rattle.best_first.specs.State.{place_of, state_of_place};
 
 use crate::State;
 use crate::state::number_of_arrival;
-use grid_moves::{Cell, Dir};
+use grid_moves::{Cell, Dir, dir_of_number};
 
 /// A state packed: 16 bits of its row, 12 of its column and 4 of its arrival, from the highest on.
 /// On one map the state of the lesser number has the lesser bits.
@@ -46,16 +46,6 @@ impl Place {
     pub fn arrival(self) -> Option<Dir>
         ensures { result ≡ (state_of_place self).arrival }
     {
-        match self.bits % 16 {
-            0 => Some(Dir::N),
-            1 => Some(Dir::NE),
-            2 => Some(Dir::E),
-            3 => Some(Dir::SE),
-            4 => Some(Dir::S),
-            5 => Some(Dir::SW),
-            6 => Some(Dir::W),
-            7 => Some(Dir::NW),
-            _ => None,
-        }
+        dir_of_number(self.bits as usize % 16)
     }
 }

@@ -259,7 +259,7 @@ impl Space {
     // 0 where a state has no node, or the number of its node and one; given the number of its cell.
     #[inline(always)]
     fn find<const BY_CELL: bool>(&self, number: u32, state: State) -> u32
-        requires given { layout_by BY_CELL ≡ self.now.layout }
+        requires layout { layout_by BY_CELL ≡ self.now.layout }
         requires narrow { self.now.width ≤ 4096 }
         requires placed { IsPlaced self.now.width self.now.places state.cell }
         requires number { number ≡ cell_number self.now.width state.cell }
@@ -278,7 +278,7 @@ impl Space {
         node: Node,
         steps: &mut Steps<L>,
     )
-        requires given { layout_by BY_CELL ≡ self.old.layout }
+        requires layout { layout_by BY_CELL ≡ self.old.layout }
         requires narrow { self.old.width ≤ 4096 }
         requires placed { IsPlaced self.old.width self.old.places state.cell }
         requires number { number ≡ cell_number self.old.width state.cell }
@@ -304,7 +304,7 @@ impl Space {
         parent: u32,
         steps: &mut Steps<L>,
     )
-        requires given { layout_by BY_CELL ≡ self.old.layout }
+        requires layout { layout_by BY_CELL ≡ self.old.layout }
         requires narrow { self.old.width ≤ 4096 }
         requires placed { IsPlaced self.old.width self.old.places (state_of_place place).cell }
         requires number { number ≡ cell_number self.old.width (state_of_place place).cell }
@@ -362,7 +362,7 @@ impl Space {
     }
 
     /// Offers a way on from a taken state: its node is added where the state has none, and takes the
-    /// place of the state's node where that one has a greater key. The layout is told as a constant, so
+    /// place of the state's node where that one has a greater key. The layout is given as a constant, so
     /// that there is no look at it.
     ///
     /// No closed node may have a greater key than the offer. As the estimate is consistent, none has
@@ -374,7 +374,7 @@ impl Space {
         offer: Offer,
         steps: &mut Steps<L>,
     )
-        requires given { layout_by BY_CELL ≡ self.old.layout }
+        requires layout { layout_by BY_CELL ≡ self.old.layout }
         requires narrow { self.old.width ≤ 4096 }
         requires placed { IsPlaced self.old.width self.old.places offer.to.cell }
         requires fits { offer.rank < 2 ^ 63 }

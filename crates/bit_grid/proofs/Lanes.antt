@@ -11,9 +11,8 @@ use Rattle.std.specs.Prelude.{nat_eq, replicate}
 use Rattle.std.specs.Int.{bit_at}
 use Rattle.std.proofs.lemmas.Bool.Decides.{nat_tests}
 use Rattle.std.proofs.lemmas.Nat.Bits.{and_pow, bit_at-lt, bit_at_ones}
-use Rattle.std.proofs.lemmas.Nat.{shr-shr}
-use Rattle.bit_grid.specs.Bits.{is_set}
-use Rattle.bit_grid.proofs.Words.{set_and}
+use Rattle.grid_moves.specs.Bits.{is_set}
+use Rattle.grid_moves.proofs.Bits.{set_and}
 
 of_bit : (n m : ℕ) → n < 2 → 0 < m → eqb (n * m) m ≡ nat_eq n 1
 of_bit zero m h k = grind (arith, nat_tests)
@@ -47,10 +46,6 @@ set_in_byte n k h = set_and n 255 k ∙ and_true _ _ (ap (λ (m : ℕ). nat_eq m
   where
     and_true : (a b : Bool) → b ≡ true → (a && b) ≡ a
     and_true a b e = grind arith
-
--- the bits of a word from a place on
-pub set_from : (word place j : ℕ) → is_set (word / 2 ^ place) j ≡ is_set word (place + j)
-set_from word place j = ap (λ (n : ℕ). nat_eq (n % 2) 1) (shr-shr word place j)
 
 set_mask : (ms : List Bool) (j : ℕ) → is_set (mask_l ms) j ≡ slice_index_or ms j false
 set_mask ms j = ap (λ (n : ℕ). nat_eq n 1) (bit_mask_l ms j) ∙ of_flag (slice_index_or ms j false)

@@ -9,11 +9,12 @@ use Rattle.std.proofs.lemmas.List.{get_or_append_left}
 use Rattle.std.proofs.Math.Seq.{get_or-append_seam}
 use Rattle.std.proofs.lemmas.Nat.{div-mul-add, mod-mul-add, mul-add-lt}
 use Rattle.std.proofs.lemmas.Bool.{cases_lt}
-use Rattle.bit_grid.specs.Bits.{LineData, BitData, Shows, AreBitsOf, AreRowsOf, AreColumnsOf, HasRoom, is_set}
+use Rattle.grid_moves.specs.Bits.{is_set}
+use Rattle.bit_grid.specs.Bits.{LineData, BitData, Shows, AreBitsOf, AreRowsOf, AreColumnsOf, HasRoom}
 use Rattle.bit_grid.specs.Bits.{is_free_from_one}
 use Rattle.bit_grid.specs.Pack.{is_free_in, IsBordered}
 use Rattle.bit_grid.specs.Turn.{ArePackedSoFar}
-use Rattle.bit_grid.proofs.Words.{set_none}
+use Rattle.grid_moves.proofs.Bits.{set_none}
 
 -- the flags of a row's first cells
 abbrev pub AreFirst : GridData → ℕ → ℕ → List ℕ → Type 0

@@ -8,7 +8,8 @@ use Rattle.std.proofs.lemmas.Bool.Decides.{nat_tests}
 use Rattle.grid_moves.specs.declared.Cell.{Cell}
 use Rattle.grid_moves.specs.Grid.{GridData, IsGrid, is_free, is_inside, grid_with}
 use Rattle.grid_moves.proofs.Edited.{is_free-with_same, is_free-with_other}
-use Rattle.bit_grid.specs.Bits.{LineData, BitData, Shows, AreBitsOf, IsOnMap, is_set, with_cell}
+use Rattle.grid_moves.specs.Bits.{is_set}
+use Rattle.bit_grid.specs.Bits.{LineData, BitData, Shows, AreBitsOf, IsOnMap, with_cell}
 use Rattle.bit_grid.specs.Bits.{is_free_from_one}
 
 -- the eight words of a block, and of the same block in the line before and in the one after
@@ -143,7 +144,7 @@ module _ (l : LineData) (lines positions : ℕ) (shown : ℕ → ℕ → Bool) (
           rw (one.0, one.1) (bits_there j e)
       by_place m w j c d e false f = bits_elsewhere m w j c d e (λ same. grind (arith, nat_tests))
 
--- what is shown is told by its cells alone
+-- what is shown follows from its cells alone
 pub shows_alike : (l : LineData) (lines positions : ℕ) (free now : ℕ → ℕ → Bool)
     → ((line position : ℕ) → free line position ≡ now line position)
     → Shows l lines positions free → Shows l lines positions now

@@ -3,10 +3,11 @@ use Rattle.std.proofs.Common.{◌≡◌, ℕ, ◌+◌, ◌*◌, ◌/◌, ◌%◌
 use Rattle.std.proofs.Common.{◌∙◌, List, length, slice_index_or, nat_lt}
 use Rattle.std.specs.Prelude.{if◌then◌else◌}
 use Rattle.std.proofs.lemmas.Bool.Decides.{nat_tests}
-use Rattle.bit_grid.specs.Bits.{LineData, Shows, is_set}
+use Rattle.grid_moves.specs.Bits.{is_set}
+use Rattle.bit_grid.specs.Bits.{LineData, Shows}
 use Rattle.bit_grid.specs.Turn.{IsStrip, IsWhole, ArePackedSoFar}
 use Rattle.bit_grid.proofs.Packing.{packed_lines}
-use Rattle.bit_grid.proofs.Words.{set_none}
+use Rattle.grid_moves.proofs.Bits.{set_none}
 
 -- a bit of a strip is one of a row
 pub strip_bit : (strip words : List ℕ) (lines per_line byte : ℕ) (free : ℕ → ℕ → Bool)

@@ -1,21 +1,14 @@
 -- Single bits of words.
 use Rattle.std.proofs.Common.{◌≡◌, ◌≢◌, ℕ, suc, ◌+◌, ◌*◌, ◌-◌, ◌/◌, ◌%◌, ◌^◌, ◌<◌, arith, Bool, true, false}
-use Rattle.std.proofs.Common.{not, ◌&&◌, ◌||◌, refl, ap, sym, ◌∙◌, bit_and, bit_or, w64}
+use Rattle.std.proofs.Common.{not, refl, ap, sym, ◌∙◌, bit_and, bit_or, w64}
 use Rattle.std.specs.Prelude.{nat_eq, if◌then◌else◌}
 use Rattle.std.specs.Int.{bit_at}
 use mir.Val.{bool_byte}
 use Rattle.std.proofs.lemmas.Bool.Decides.{nat_tests}
-use Rattle.std.proofs.lemmas.Nat.Bits.{bit_at-lt, bit_at-suc, bit_at-zero, bit_at_not, bit_at_lowest}
+use Rattle.std.proofs.lemmas.Nat.Bits.{bit_at-lt, bit_at-suc, bit_at_not, bit_at_lowest}
 use Rattle.std.proofs.lemmas.Nat.Bits.{bit_at_above, bit_at_cat_low, bit_at_set_same, bit_at_set_other}
 use Rattle.std.proofs.lemmas.Nat.Bits.{bit_at_clear_same, bit_at_clear_other}
-use Rattle.grid_moves.proofs.Bits.{bit_in_both, bit_in_either}
-use Rattle.bit_grid.specs.Bits.{is_set}
-
-pub set_or : (a b j : ℕ) → is_set (bit_or a b) j ≡ (is_set a j || is_set b j)
-set_or = bit_in_either
-
-pub set_and : (a b j : ℕ) → is_set (bit_and a b) j ≡ (is_set a j && is_set b j)
-set_and = bit_in_both
+use Rattle.grid_moves.specs.Bits.{is_set}
 
 pub set_not : (a j : ℕ) → a < 18446744073709551616 → j < 64
     → is_set (18446744073709551615 - a) j ≡ not (is_set a j)
@@ -23,9 +16,6 @@ set_not a j h k = ap (λ (n : ℕ). nat_eq n 1) (bit_at_not w64 a j h k) ∙ of_
   where
     of_bit : (m : ℕ) → m < 2 → nat_eq (1 - m) 1 ≡ not (nat_eq m 1)
     of_bit m h = grind (arith, nat_tests)
-
-pub set_none : (j : ℕ) → is_set 0 j ≡ false
-set_none j = ap (λ (n : ℕ). nat_eq n 1) (bit_at-zero j)
 
 -- a flag as a number has its one bit
 pub set_flag : (b : Bool) (n : ℕ) → n ≡ bool_byte b → is_set n 0 ≡ b

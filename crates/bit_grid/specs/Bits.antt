@@ -1,7 +1,7 @@
 -- Bits of a map: lines of words, with a border of blocked cells on every side.
 use Rattle.std.specs.Prelude.{◌≡◌, ℕ, zero, suc, ◌+◌, ◌*◌, ◌<◌, ◌≤◌, Bool, true, false, ◌&&◌, nat_eq}
 use Rattle.std.specs.Prelude.{if◌then◌else◌, refl, List, [], ◌∷◌, slice_index_or}
-use Rattle.std.specs.Int.{bit_at}
+use Rattle.grid_moves.specs.Bits.{is_set}
 use Rattle.grid_moves.specs.declared.Cell.{Cell}
 use Rattle.grid_moves.specs.declared.Corner.{Corner}
 use Rattle.grid_moves.specs.declared.Corner.TheVariants.{Never}
@@ -14,10 +14,6 @@ abbrev pub is_free_from_one : GridData → ℕ → ℕ → Bool
 is_free_from_one g zero y = false
 is_free_from_one g (suc x) zero = false
 is_free_from_one g (suc x) (suc y) = is_free g (record { x = x; y = y })
-
--- bit j of a word, from the lowest, is set
-abbrev pub is_set : ℕ → ℕ → Bool
-is_set word j = nat_eq (bit_at word j) 1
 
 -- so many lines, of so many blocks each; a block is eight words of 64 bits, and the lines follow one another
 pub record LineData : Type 0 where
@@ -86,8 +82,3 @@ pub row_of_the_notch : is_free_from_one (notch Never) 0 2 ∷ is_free_from_one (
     ∷ is_free_from_one (notch Never) 6 2 ∷ is_free_from_one (notch Never) 3 3 ∷ []
     ≡ false ∷ true ∷ false ∷ true ∷ false ∷ false ∷ []
 row_of_the_notch = refl
-
--- 11 is 1011 in twos
-pub bits_of_eleven : is_set 11 0 ∷ is_set 11 1 ∷ is_set 11 2 ∷ is_set 11 3 ∷ is_set 11 4 ∷ []
-    ≡ true ∷ true ∷ false ∷ true ∷ false ∷ []
-bits_of_eleven = refl

@@ -1,7 +1,8 @@
 -- Rows packed to words.
 use Rattle.std.specs.Prelude.{◌≡◌, ℕ, ◌+◌, ◌*◌, ◌<◌, Bool, List, length, slice_index_or}
 use Rattle.grid_moves.specs.Grid.{GridData}
-use Rattle.bit_grid.specs.Bits.{is_free_from_one, is_set}
+use Rattle.grid_moves.specs.Bits.{is_set}
+use Rattle.bit_grid.specs.Bits.{is_free_from_one}
 
 -- the cell at a position of a row is free
 abbrev pub is_free_in : GridData → ℕ → ℕ → Bool

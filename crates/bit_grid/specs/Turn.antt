@@ -1,7 +1,7 @@
 -- Rows turned to columns.
 use Rattle.std.specs.Prelude.{◌≡◌, ℕ, ◌+◌, ◌*◌, ◌/◌, ◌%◌, ◌<◌, ◌≤◌, Bool, false, List, length, nat_lt}
 use Rattle.std.specs.Prelude.{slice_index_or, if◌then◌else◌}
-use Rattle.bit_grid.specs.Bits.{is_set}
+use Rattle.grid_moves.specs.Bits.{is_set}
 
 -- a word of a row, and 0 where there is no such row
 abbrev pub word_or_none : List ℕ → ℕ → ℕ → ℕ → ℕ → ℕ

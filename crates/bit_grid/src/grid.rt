@@ -58,7 +58,7 @@ impl BitGrid {
     }
 
     /// The same, where other bits under the grid's rule are at hand: their allowed directions are copied and
-    /// not told anew.
+    /// not worked out anew.
     pub fn of_grid_beside(alloc: Global, grid: &Grid, other: &BitGrid) -> Result<BitGrid, NoMemory>
         requires { other.now.corner ≡ grid.now.corner }
         ensures { IfOk result (λ bits. AreBitsOf bits grid.now) }

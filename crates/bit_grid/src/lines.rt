@@ -2,7 +2,8 @@
 
 ghost use Rattle.std.specs.Prelude.{◌≡◌, ℕ, ◌+◌, ◌-◌, ◌*◌, ◌<◌, ◌≤◌, Bool, false, IfOk, length, slice_index_or, nat_eq, if◌then◌else◌};
 ghost use Rattle.bit_grid.specs.Pack.{is_free_in};
-ghost use Rattle.bit_grid.specs.Bits.{Shows, is_set, with_cell};
+ghost use Rattle.grid_moves.specs.Bits.{is_set};
+ghost use Rattle.bit_grid.specs.Bits.{Shows, with_cell};
 
 use crate::NoMemory;
 use crate::pack::words_on;

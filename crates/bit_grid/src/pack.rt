@@ -2,7 +2,7 @@
 
 ghost use Rattle.std.specs.Prelude.{◌≡◌, ℕ, suc, ◌+◌, ◌*◌, ◌<◌, ◌≤◌, Bool, IfOk, OnOk, length, slice_index_or, nat_eq};
 ghost use Rattle.std.specs.Int.Bits.{bit_and};
-ghost use Rattle.bit_grid.specs.Bits.{is_set};
+ghost use Rattle.grid_moves.specs.Bits.{is_set};
 ghost use Rattle.bit_grid.specs.Pack.{is_free_in, AreFlags, IsBordered, ArePacked};
 ghost use Rattle.bit_grid.specs.Turn.{ArePackedSoFar};
 
@@ -40,7 +40,7 @@ fn bits_at(bytes: &[u8], first: usize, place: u32) -> u64
     lanes_with(u8x64::from_slice(&bytes[first..first + 64]), 1 << place)
 }
 
-// Pushes the words of one line, told by a bit of each byte.
+// Pushes the words of one line, made of one bit of each byte.
 pub(crate) fn push_line(
     words: &mut Vec<u64>,
     bytes: &[u8],

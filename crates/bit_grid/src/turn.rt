@@ -5,7 +5,7 @@
 //! memory, are gone through once for 64 columns.
 
 ghost use Rattle.std.specs.Prelude.{◌≡◌, ℕ, ◌+◌, ◌*◌, ◌/◌, ◌%◌, ◌<◌, ◌≤◌, Bool, IfOk, List, length, slice_index_or};
-ghost use Rattle.bit_grid.specs.Bits.{is_set};
+ghost use Rattle.grid_moves.specs.Bits.{is_set};
 ghost use Rattle.bit_grid.specs.Turn.{AreWordsTo, AreBytesTo, IsStrip, IsWhole, ArePackedSoFar};
 
 use crate::NoMemory;

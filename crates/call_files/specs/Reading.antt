@@ -12,9 +12,9 @@ use Rattle.scen_text.specs.declared.entry.Entry.{Entry}
 use Rattle.potential_check.specs.Text.{certificate_of, plain as claimed_by}
 use Rattle.potential_check.specs.declared.certificate.Certificate.{Certificate}
 use Rattle.grid_moves.specs.Layers.{Layers, layers_of}
-use Rattle.walk_judge.specs.Telling.{IsFit}
+use Rattle.walk_judge.specs.Claims.{IsFit}
 use Rattle.walk_judge.specs.Walks.{walks_of}
-use Rattle.walk_judge.specs.declared.telling.Claimed.{Claimed}
+use Rattle.walk_judge.specs.declared.claims.Claimed.{Claimed}
 use Rattle.word_list.specs.declared.request.Settings.{Settings}
 use Rattle.call_files.specs.Layered.{layers_on}
 use Rattle.std.specs.Prelude.{None, ⊤, Result}

@@ -8,9 +8,9 @@ use std::test::Fail;
 
 // Round the pillar the stops are those of the rule under which one blocked cell may be passed; where free
 // cells touch at their corners alone each cell of a diagonal is one. Each walk of the script is the only
-// least one, so its cells are the same by each engine. On `.@/@.` a walk of one diagonal move is told by an
-// entry of a scenario, by another program and in a certificate; a certificate that there is none is refuted
-// by a move that leads out.
+// least one, so its cells are the same by each engine. On `.@/@.` a walk of one diagonal move is claimed by
+// an entry of a scenario, by another program and in a certificate; a certificate that there is none is
+// refuted by a move that leads out.
 const CORNERS: &str = "
 trace | query m 0 0 2 2 show=trace engine=by-arrival rule=both | .../.@./... \
     => 0 walk 2 1 0,0 0,1 1,2 2,2 taken 0,0:- 1,0:E 0,1:S 2,1:SE 1,2:SE 2,2:E

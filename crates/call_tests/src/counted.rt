@@ -26,7 +26,7 @@ const TABLES: [&str; 15] = [
 
 // Why a kind of outcome has no row of its own.
 const REASONS: &str = "
-walks long | judge rule=slipping => - it is told before the rule is looked at, and each call reads 2^30 bytes
+walks long | judge rule=slipping => - it is met before the rule is looked at, and each call reads 2^30 bytes
 cert long | check rule=slipping => - the same
 tables long | query engine=loading rule=slipping => - the same
 tables long | query engine=plus-by-cell rule=none => - the same

@@ -26,8 +26,8 @@ use std::process::Abort;
 use std::sync::ledger::Blank;
 use std::test::Fail;
 
-// A map: its text before the cells, its sides, and whether its walls lie along rows. Its cells are told as words:
-// the first opening, a goal, and the cell that is closed in. The cost is that of (0,0) to the goal.
+// A map: its text before the cells, its sides, and whether its walls lie along rows. Three cells are given
+// as text, column and row: the first opening, a goal, and the cell that is closed in. The cost is that of (0,0) to the goal.
 #[derive(Clone, Copy)]
 struct Plan {
     head: &'static [u8],

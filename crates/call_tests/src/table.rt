@@ -54,7 +54,7 @@ const JUMPING: [&str; 6] = [
     "engine=plus states=cell",
 ];
 
-// By arrival, where it is told and where it is not.
+// By arrival, where the words say so and where they do not.
 const BY_ARRIVAL: [&str; 6] = [
     "engine=jps",
     "engine=block",

@@ -4,13 +4,14 @@ use Rattle.std.proofs.Common.{◌∙◌, subst, true, false, List, [], ◌∷◌
 use Rattle.std.specs.Prelude.{Some, slice_get}
 use Rattle.std.proofs.lemmas.Bool.Decides.{nat_tests}
 use Rattle.std.proofs.lemmas.List.{get_or-set_same, get_or-set_other}
-use Rattle.std.proofs.lemmas.Nat.Bits.{bit_at-pow_same, bit_at-pow_other, bit_at-zero}
+use Rattle.std.proofs.lemmas.Nat.Bits.{bit_at-pow_same, bit_at-pow_other}
 use Rattle.std.proofs.lemmas.Option.{slice_get_within}
 use Rattle.root2_cost.specs.Rank.{straight_rank, diagonal_rank}
 use Rattle.grid_moves.specs.declared.Cell.{Cell}
 use Rattle.grid_moves.specs.declared.Dir.{Dir}
 use Rattle.grid_moves.specs.Grid.{GridData, IsGrid, cell_number, is_free, is_inside}
 use Rattle.grid_moves.specs.Move.{all_dirs, dir_number}
+use Rattle.grid_moves.proofs.Bits.{set_none}
 use Rattle.grid_moves.proofs.Places.{free_below}
 use Rattle.grid_moves.proofs.Dirs.{one_dir}
 use Rattle.cost_waves.specs.declared.front.Source.{Source}
@@ -28,8 +29,7 @@ use Rattle.cost_waves.proofs.Waving.{turned, turn_ready, ready_by}
 
 -- no direction is in an empty byte, and one in that of a single direction
 pub no_dirs : (d : Dir) → has_dir 0 d ≡ true → ⊥
-no_dirs d e = let z = bit_at-zero (dir_number d) in let f : has_dir 0 d
-    ≡ false = grind (arith, nat_tests) in cc
+no_dirs d e = let f : has_dir 0 d ≡ false = set_none (dir_number d) in cc
 
 own_dir : (d : Dir) → has_dir (2 ^ dir_number d) d ≡ true
 own_dir d = let z = bit_at-pow_same (dir_number d) in grind (arith, nat_tests)
@@ -38,7 +38,7 @@ only_dir : (d b : Dir) → has_dir (2 ^ dir_number d) b ≡ true → d ≡ b
 only_dir d b h1 = grind (arith, nat_tests, one_dir, bit_at-pow_other)
 
 module _ (g : GridData) (s : Cell) (whole : IsGrid g) (free : is_free g s ≡ true) (ranks firsts : List ℕ)
-    (ranked : length ranks ≡ g.height * g.width) (begun : length firsts ≡ g.height * g.width)
+    (ranked : length ranks ≡ g.height * g.width) (bytes : length firsts ≡ g.height * g.width)
     (all_far : (k : ℕ) → get_or ranks k far ≡ far) (none : (k : ℕ) → get_or firsts k 0 ≡ 0) where
   abbrev at : ℕ
   at = cell_number g.width s
@@ -88,13 +88,13 @@ module _ (g : GridData) (s : Cell) (whole : IsGrid g) (free : is_free g s ≡ tr
   keeps : Keeps g s 0 only f0
   keeps = record {
     ranked = length-set ranks at 0 ∙ ranked;
-    begun = begun;
+    bytes = bytes;
     home = free;
     start = here;
     quiet = none at;
     ways = at_start (λ c r. Way g s c r) (way_nowhere g s free);
     begins = λ c d i e. absurd (empty c d e);
-    stored = λ c d i e. absurd (empty c d e);
+    dirs_reached = λ c d i e. absurd (empty c d e);
     held = at_start (λ c r. Held 0 only [] [] c r) (in_now (omega arith) (record { place = 0; is = refl }));
     bounded = at_start (λ c r. r + diagonal_rank ≤ diagonal_rank * known_count f0.ranks)
         (let o = one_known in omega arith);

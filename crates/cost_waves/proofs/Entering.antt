@@ -39,8 +39,8 @@ module _ (g : GridData) (s : Cell) (whole : IsGrid g) (floor : ℕ) (now : List 
   ranked : at < length f.ranks
   ranked = rw k.ranked (free_below g to o.free)
 
-  begun : at < length f.firsts
-  begun = rw k.begun (free_below g to o.free)
+  bytes : at < length f.firsts
+  bytes = rw k.bytes (free_below g to o.free)
 
   short : rank < rank_limit
   short = let b = o.bounded in let m = few g whole f k.ranked in omega arith
@@ -61,7 +61,7 @@ module _ (g : GridData) (s : Cell) (whole : IsGrid g) (floor : ℕ) (now : List 
     with_dirs = joined at first f
 
     dirs_here : dirs_at g with_dirs.firsts to ≡ bit_or (dirs_at g f.firsts to) first
-    dirs_here = get_or-set_same f.firsts at (bit_or (get_or f.firsts at 0) first) 0 begun
+    dirs_here = get_or-set_same f.firsts at (bit_or (get_or f.firsts at 0) first) 0 bytes
 
     dirs_there : (c : Cell) → cell_number g.width c ≢ at → dirs_at g with_dirs.firsts c ≡ dirs_at g f.firsts c
     dirs_there c n = get_or-set_other f.firsts at (cell_number g.width c) (bit_or
@@ -83,11 +83,11 @@ module _ (g : GridData) (s : Cell) (whole : IsGrid g) (floor : ℕ) (now : List 
           (joined_way d (ap (λ (v : Cell). has_dir (dirs_at g with_dirs.firsts v) d) (sym h) ∙ e))
     ]
 
-    joined_stored : (c : Cell) (d : Dir) → is_inside g c ≡ true → has_dir (dirs_at g with_dirs.firsts c) d
+    joined_reached : (c : Cell) (d : Dir) → is_inside g c ≡ true → has_dir (dirs_at g with_dirs.firsts c) d
         ≡ true
         → rank_at g f.ranks c < rank_limit
-    joined_stored c d h1 h2 = elim (same_or_apart g c to (is_on g c h1) on) [
-      | inr n ↦ k.stored c d h1 (ap (λ (m : ℕ). has_dir m d) (sym (dirs_there c n)) ∙ h2)
+    joined_reached c d h1 h2 = elim (same_or_apart g c to (is_on g c h1) on) [
+      | inr n ↦ k.dirs_reached c d h1 (ap (λ (m : ℕ). has_dir m d) (sym (dirs_there c n)) ∙ h2)
       | inl e ↦
           let r : rank_at g f.ranks c ≡ old = ap (λ (v : Cell). rank_at g f.ranks v) e in
           let l = short in
@@ -97,13 +97,13 @@ module _ (g : GridData) (s : Cell) (whole : IsGrid g) (floor : ℕ) (now : List 
     pub joined_keeps : Keeps g s floor now with_dirs
     joined_keeps = record {
       ranked = k.ranked;
-      begun = length-set f.firsts at (bit_or (get_or f.firsts at 0) first) ∙ k.begun;
+      bytes = length-set f.firsts at (bit_or (get_or f.firsts at 0) first) ∙ k.bytes;
       home = k.home;
       start = k.start;
       quiet = dirs_there s (not_start (omega arith)) ∙ k.quiet;
       ways = k.ways;
       begins = joined_begins;
-      stored = joined_stored;
+      dirs_reached = joined_reached;
       held = k.held;
       bounded = k.bounded;
       wait_now = k.wait_now;
@@ -156,7 +156,7 @@ module _ (g : GridData) (s : Cell) (whole : IsGrid g) (floor : ℕ) (now : List 
     there c n = get_or-set_other f.ranks at (cell_number g.width c) rank far n
 
     dirs_to : dirs_at g with_rank.firsts to ≡ first
-    dirs_to = get_or-set_same f.firsts at first 0 begun
+    dirs_to = get_or-set_same f.firsts at first 0 bytes
 
     dirs_else : (c : Cell) → cell_number g.width c ≢ at → dirs_at g with_rank.firsts c ≡ dirs_at g f.firsts c
     dirs_else c n = get_or-set_other f.firsts at (cell_number g.width c) first 0 n
@@ -303,15 +303,15 @@ module _ (g : GridData) (s : Cell) (whole : IsGrid g) (floor : ℕ) (now : List 
     pub lowered_keeps : Keeps g s floor now with_rank
     lowered_keeps = record {
       ranked = length-set f.ranks at rank ∙ k.ranked;
-      begun = length-set f.firsts at first ∙ k.begun;
+      bytes = length-set f.firsts at first ∙ k.bytes;
       home = k.home;
       start = there s (not_start (omega arith)) ∙ k.start;
       quiet = dirs_else s (not_start (omega arith)) ∙ k.quiet;
       ways = λ c i. entry (λ v r m. r < rank_limit → Way g s v r) (λ h. o.way) c (is_on g c i) (k.ways c i);
       begins = λ c d i. entry (λ v r m. has_dir m d ≡ true → WayBy g s v d r) (o.sound d) c (is_on g c i)
           (k.begins c d i);
-      stored = λ c d i. entry (λ v r m. has_dir m d ≡ true → r < rank_limit) (λ h. short) c (is_on g c i)
-          (k.stored c d i);
+      dirs_reached = λ c d i. entry (λ v r m. has_dir m d ≡ true → r < rank_limit) (λ h. short) c
+          (is_on g c i) (k.dirs_reached c d i);
       held = λ c i. entry (λ v r m. r < rank_limit → Held floor now with_rank.next with_rank.after v r)
           (λ h. held_to) c (is_on g c i) (λ h. held_on c (rank_at g f.ranks c) (k.held c i h));
       bounded = λ c i. entry (λ v r m. r < rank_limit

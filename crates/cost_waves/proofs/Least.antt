@@ -26,9 +26,10 @@ use Rattle.cost_waves.specs.Stored.{has_dir, Tells}
 use Rattle.cost_waves.specs.Wave.{rank_at, dirs_at, Among, Held, before, in_now, in_next, in_after, Keeps}
 use Rattle.cost_waves.specs.Wave.{IsSettled, IsSwept, ended}
 use Rattle.root2_cost.proofs.Decoding.{cost-rank}
+use Rattle.root2_cost.proofs.Differences.{rank-add_costs}
 use Rattle.cost_waves.proofs.Keeping.{few}
 use Rattle.grid_moves.proofs.Places.{free_on, on_inside}
-use Rattle.cost_waves.proofs.Walks.{rank-add_costs, rank-move, rank_high}
+use Rattle.cost_waves.proofs.Walks.{rank-move, rank_high}
 
 -- a cost of a small rank has few moves
 short_by_rank : (c : Cost) → rank_of c < 2 ^ 58 → HasShortParts c
@@ -175,7 +176,7 @@ module _ (g : GridData) (s : Cell) (whole : IsGrid g) (ranks firsts : List ℕ)
         next = way.next;
         ahead = way.ahead;
         cells = way.cells;
-        least = is_least t (way.next ∷ way.cells) i (k.stored t d i e) way.walk way.ranked;
+        least = is_least t (way.next ∷ way.cells) i (k.dirs_reached t d i e) way.walk way.ranked;
       }
 
   -- along a walk on which no rank is saved, directions are handed on

@@ -10,7 +10,7 @@ use Rattle.std.proofs.Math.Seq.{get_or-append_seam}
 use Rattle.grid_moves.specs.declared.Cell.{Cell}
 use Rattle.grid_moves.specs.declared.Dir.{Dir}
 use Rattle.grid_moves.specs.Move.{dir_number}
-use Rattle.grid_moves.proofs.Bits.{bit_in_either}
+use Rattle.grid_moves.proofs.Bits.{set_or}
 use Rattle.cost_waves.specs.Rank.{rank_limit}
 use Rattle.cost_waves.specs.Stored.{has_dir}
 use Rattle.cost_waves.specs.Wave.{Among, known_count, is_known}
@@ -88,4 +88,4 @@ count_low xs = count_by-le-length is_known xs
 
 -- the directions of both bytes
 pub bit_or-dir : (a b : ℕ) (d : Dir) → has_dir (bit_or a b) d ≡ (has_dir a d || has_dir b d)
-bit_or-dir a b d = bit_in_either a b (dir_number d)
+bit_or-dir a b d = set_or a b (dir_number d)

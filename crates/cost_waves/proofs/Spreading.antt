@@ -11,9 +11,9 @@ use Rattle.grid_moves.proofs.Places.{free_below}
 use Rattle.cost_waves.specs.Shape.{Fits}
 
 pub fits_ahead : (g : GridData) → IsGrid g → (c v : Cell) (d : Dir) (b : Bool)
-    → if_open b v ≡ legal_ahead g c d → (w ranked begun : ℕ) → w ≡ g.width → ranked ≡ g.height * g.width
-    → begun ≡ g.height * g.width → b ≡ true → Fits w v ranked begun
-fits_ahead g whole c v d b is w ranked begun wide r s e =
+    → if_open b v ≡ legal_ahead g c d → (w ranked bytes : ℕ) → w ≡ g.width → ranked ≡ g.height * g.width
+    → bytes ≡ g.height * g.width → b ≡ true → Fits w v ranked bytes
+fits_ahead g whole c v d b is w ranked bytes wide r s e =
     let free = ahead_free g c v d b is e in
     let i = free_inside g v free in
     let below = free_below g v free in

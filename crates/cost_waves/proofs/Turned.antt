@@ -24,7 +24,7 @@ least_back g s t cost l =
       priced = b.priced ∙ l.priced;
     }
 
--- what is stored of the way there is right of the way back
+-- the cost from s to t, or that there is none, is right from t to s too
 pub cost_back : (g : GridData) (s t : Cell) (o : Option Cost) → IsCostTo g s t o → IsCostTo g t s o
 cost_back g s t None none = λ cells w. let a = walk_back g t s cells w in none a.back a.walk
 cost_back g s t (Some cost) l = least_back g s t cost l

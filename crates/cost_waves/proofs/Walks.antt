@@ -6,6 +6,7 @@ use Rattle.root2_cost.specs.declared.Cost.{Cost}
 use Rattle.root2_cost.specs.Rank.{rank_of, straight_rank, diagonal_rank}
 use Rattle.root2_cost.specs.Sums.{add_costs}
 use Rattle.root2_cost.proofs.Sums.{add_costs-no_cost_right}
+use Rattle.root2_cost.proofs.Differences.{rank-add_costs}
 use Rattle.grid_moves.specs.declared.Cell.{Cell}
 use Rattle.grid_moves.specs.declared.Dir.{Dir}
 use Rattle.grid_moves.specs.Grid.{GridData, is_free}
@@ -17,9 +18,6 @@ use Rattle.grid_moves.proofs.Walks.{one_more}
 use Rattle.grid_moves.proofs.Costs.{cost_there}
 use Rattle.cost_waves.specs.Front.{dir_rank}
 use Rattle.cost_waves.specs.Wave.{Way, WayBy}
-
-pub rank-add_costs : (p q : Cost) → rank_of (add_costs p q) ≡ rank_of p + rank_of q
-rank-add_costs p q = omega arith
 
 -- a move in a direction counts what its cost does
 pub rank-move : (g : GridData) (u v : Cell) (d : Dir) → legal_ahead g u d ≡ Some v

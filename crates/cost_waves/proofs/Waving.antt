@@ -105,13 +105,13 @@ pub turn_ready : (g : GridData) (s : Cell) (floor : ℕ) (now : List Cell) (f : 
 turn_ready g s floor now f small m = record {
   keeps = record {
     ranked = k.ranked;
-    begun = k.begun;
+    bytes = k.bytes;
     home = k.home;
     start = k.start;
     quiet = k.quiet;
     ways = k.ways;
     begins = k.begins;
-    stored = k.stored;
+    dirs_reached = k.dirs_reached;
     held = λ c i h. held_next c (rank_at g f.ranks c) (k.held c i h);
     bounded = k.bounded;
     wait_now = k.wait_next;

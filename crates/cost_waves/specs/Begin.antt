@@ -13,12 +13,12 @@ pub record IsLeastCost (g : GridData) (s t : Cell) (cost : Cost) : Type 0 where
   pub least : IsLeastWalk g s t cells
   pub priced : cost_of (s ∷ cells) ≡ cost
 
--- what is stored of a cell: what a least walk from s to it costs, or nothing, where no walk leads there
+-- the cost from s to t: what a least walk costs, or nothing where no walk leads there
 abbrev pub IsCostTo : GridData → Cell → Cell → Option Cost → Type 0
 IsCostTo g s t None = NoWalk g s t
 IsCostTo g s t (Some cost) = IsLeastCost g s t cost
 
--- what is stored of the way there is right of the way back
+-- the cost from s to t, or that there is none, is right from t to s too
 abbrev pub CostsTurnRound : Type 0
 CostsTurnRound = (g : GridData) (s t : Cell) (o : Option Cost) → IsCostTo g s t o → IsCostTo g t s o
 

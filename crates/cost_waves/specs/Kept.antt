@@ -6,4 +6,4 @@ use Rattle.grid_moves.specs.Grid.{AreSides}
 pub record IsKept (width height : ℕ) (ranks firsts : List ℕ) : Type 0 where
   pub sides : AreSides width height
   pub ranked : length ranks ≡ height * width
-  pub begun : length firsts ≡ height * width
+  pub bytes : length firsts ≡ height * width

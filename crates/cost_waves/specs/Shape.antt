@@ -16,8 +16,8 @@ front_of ranks firsts ahead = record {
 }
 
 -- the cell has a place among so many ranks and so many bytes
-pub record Fits (width : ℕ) (to : Cell) (ranked begun : ℕ) : Type 0 where
+pub record Fits (width : ℕ) (to : Cell) (ranked bytes : ℕ) : Type 0 where
   pub column : to.x < width
   pub row : to.y < 4096
   pub rank : cell_number width to < ranked
-  pub first : cell_number width to < begun
+  pub first : cell_number width to < bytes

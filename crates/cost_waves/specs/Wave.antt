@@ -72,7 +72,7 @@ pub data Held (floor : ℕ) (now next after : List Cell) (c : Cell) (rank : ℕ)
 -- direction that of a walk of this rank, and each known cell is settled or waits.
 pub record Keeps (g : GridData) (s : Cell) (floor : ℕ) (now : List Cell) (f : Front) : Type 0 where
   pub ranked : length f.ranks ≡ g.height * g.width
-  pub begun : length f.firsts ≡ g.height * g.width
+  pub bytes : length f.firsts ≡ g.height * g.width
   pub home : is_free g s ≡ true
   pub start : rank_at g f.ranks s ≡ 0
   pub quiet : dirs_at g f.firsts s ≡ 0
@@ -80,7 +80,7 @@ pub record Keeps (g : GridData) (s : Cell) (floor : ℕ) (now : List Cell) (f : 
       → Way g s c (rank_at g f.ranks c)
   pub begins : (c : Cell) (d : Dir) → is_inside g c ≡ true → has_dir (dirs_at g f.firsts c) d ≡ true
       → WayBy g s c d (rank_at g f.ranks c)
-  pub stored : (c : Cell) (d : Dir) → is_inside g c ≡ true → has_dir (dirs_at g f.firsts c) d ≡ true
+  pub dirs_reached : (c : Cell) (d : Dir) → is_inside g c ≡ true → has_dir (dirs_at g f.firsts c) d ≡ true
       → rank_at g f.ranks c < rank_limit
   pub held : (c : Cell) → is_inside g c ≡ true → rank_at g f.ranks c < rank_limit
       → Held floor now f.next f.after c (rank_at g f.ranks c)

@@ -104,7 +104,7 @@ fn enter(
 ) -> Result<(), NoMemory>
     requires limit { limit < 2 ^ 63 }
     requires ranked { at < length ranks.old }
-    requires begun { at < length firsts.old }
+    requires bytes { at < length firsts.old }
     ensures { OnOk result (front_of ranks.new firsts.new ahead.new
         ≡ entered at limit to rank first (front_of ranks.old firsts.old ahead.old)) }
 {
@@ -165,7 +165,7 @@ pub(crate) fn spread<T: Terrain>(
     requires limit { limit < 2 ^ 63 }
     requires rank { from.rank < 2 ^ 63 }
     requires ranked { length ranks.old ≡ (T.grid t.now).height * (T.grid t.now).width }
-    requires begun { length firsts.old ≡ (T.grid t.now).height * (T.grid t.now).width }
+    requires bytes { length firsts.old ≡ (T.grid t.now).height * (T.grid t.now).width }
     ensures { OnOk result (front_of ranks.new firsts.new ahead.new
         ≡ spec.spread (T.grid t.now) limit from all_dirs (front_of ranks.old firsts.old ahead.old)) }
 {

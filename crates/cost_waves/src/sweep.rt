@@ -77,7 +77,7 @@ fn settle<T: Terrain>(
     requires floor { floor < 2 ^ 61 }
     requires rank { rank_at (T.grid t.now) ranks.old c < 2 ^ 63 }
     requires ranked { length ranks.old ≡ (T.grid t.now).height * (T.grid t.now).width }
-    requires begun { length firsts.old ≡ (T.grid t.now).height * (T.grid t.now).width }
+    requires bytes { length firsts.old ≡ (T.grid t.now).height * (T.grid t.now).width }
     ensures { OnOk result (front_of ranks.new firsts.new ahead.new
         ≡ settled (T.grid t.now) floor c (front_of ranks.old firsts.old ahead.old)) }
 {
@@ -161,7 +161,7 @@ fn begin<T: Terrain>(
 ) -> Result<(), NoMemory>
     requires from { is_free (T.grid t.now) from ≡ true }
     requires ranked { length ranks.old ≡ (T.grid t.now).height * (T.grid t.now).width }
-    requires begun { length firsts.old ≡ (T.grid t.now).height * (T.grid t.now).width }
+    requires bytes { length firsts.old ≡ (T.grid t.now).height * (T.grid t.now).width }
     requires far { (k : ℕ) → slice_index_or ranks.old k far ≡ far }
     requires none { (k : ℕ) → slice_index_or firsts.old k 0 ≡ 0 }
     ensures ready { OnOk result (IsReady (T.grid t.now) from 3166815962 lists.new.wave.items
@@ -199,7 +199,7 @@ pub(crate) fn pass_from<T: Terrain>(
 ) -> Result<(), NoMemory>
     requires from { is_free (T.grid t.now) from ≡ true }
     requires ranked { length ranks.old ≡ (T.grid t.now).height * (T.grid t.now).width }
-    requires begun { length firsts.old ≡ (T.grid t.now).height * (T.grid t.now).width }
+    requires bytes { length firsts.old ≡ (T.grid t.now).height * (T.grid t.now).width }
     requires far { (k : ℕ) → slice_index_or ranks.old k far ≡ far }
     requires none { (k : ℕ) → slice_index_or firsts.old k 0 ≡ 0 }
     ensures swept { OnOk result (IsSwept (T.grid t.now) from ranks.new firsts.new) }

@@ -118,7 +118,7 @@ impl CostWaves {
     ///
     /// A cell is settled by the wave of its least cost, and reads its neighbours' entries then; all entries
     /// are reset in one run over them. The lists of cells that wait grow as they need, and keep their room.
-    /// After want of memory nothing is stored of any cell.
+    /// After want of memory nothing is stored for any cell.
     pub fn pass<T: Terrain>(&mut self, t: &T, from: Cell) -> Result<(), NoMemory>
         requires from { is_free (T.grid t.now) from ≡ true }
         requires width { self.old.width ≡ (T.grid t.now).width }
@@ -145,7 +145,7 @@ impl CostWaves {
         }
     }
 
-    /// The least cost that is stored of a cell, `None` where none is.
+    /// The least cost that is stored for a cell, `None` where none is.
     pub fn cost(&self, c: Cell) -> Option<Cost>
         requires column { c.x < self.now.width }
         requires row { c.y < self.now.height }
@@ -154,7 +154,7 @@ impl CostWaves {
         cost_known(self.ranks[number_of(self.width, c) as usize])
     }
 
-    /// Whether the direction is stored of a cell: some least walk to it begins with a move in this direction.
+    /// Whether the direction is stored for a cell: a least walk to it begins with a move in this direction.
     pub fn begins(&self, c: Cell, d: Dir) -> bool
         requires column { c.x < self.now.width }
         requires row { c.y < self.now.height }
@@ -163,7 +163,7 @@ impl CostWaves {
         has_dir(self.first_dirs(c), d)
     }
 
-    /// All directions that are stored of a cell: the bit of a direction's number, from the lowest, is set
+    /// All directions that are stored for a cell: the bit of a direction's number, from the lowest, is set
     /// where some least walk begins with it.
     pub fn first_dirs(&self, c: Cell) -> u8
         requires column { c.x < self.now.width }
@@ -173,7 +173,7 @@ impl CostWaves {
         self.firsts[number_of(self.width, c) as usize]
     }
 
-    /// The costs that are stored of the cells, in the order of their numbers, row by row from the upper left.
+    /// The costs stored for the cells, in the order of their numbers, row by row from the upper left.
     pub fn all_costs(&self, alloc: Global) -> Result<Vec<Option<Cost>>, NoMemory>
         ensures costs { IfOk result (λ costs. costs.items ≡ map spec.cost_known self.now.ranks) }
         ensures whole { IfOk result (λ costs. length costs.items ≡ self.now.height * self.now.width) }
@@ -181,7 +181,7 @@ impl CostWaves {
         costs_known(alloc, self.ranks.as_slice())
     }
 
-    /// The directions that are stored of the cells, a byte for each cell in the order of their numbers.
+    /// The directions that are stored for the cells, a byte for each cell in the order of their numbers.
     pub fn all_first_dirs(&self) -> &[u8]
         ensures dirs { result.now ≡ self.now.firsts }
         ensures whole { length result.now ≡ self.now.height * self.now.width }

@@ -3,8 +3,7 @@ use Rattle.std.proofs.Common.{◌≡◌, ◌≢◌, refl, true, false, ℕ, ◌+
 use denote.Enum.Bare.{sameb}
 use Rattle.std.specs.Prelude.{if◌then◌else◌}
 use Rattle.best_first.specs.Space.{SpaceData}
-use Rattle.std.proofs.lemmas.Bool.Decides.{nat_tests}
-use Rattle.bit_grid.specs.Bits.{AreBitsOf, BitData, IsOnMap}
+use Rattle.bit_grid.specs.Bits.{AreBitsOf, BitData}
 use Rattle.grid_moves.specs.contracts.Ground.{the_type}
 use Rattle.grid_moves.specs.declared.Cell.{Cell}
 use Rattle.grid_moves.specs.declared.Ground.{Ground}
@@ -31,14 +30,6 @@ stands_for p = record { engine = engine_of p.kept; layers = as_layers p.grids }
 -- a cell of the map lies inside both grids
 pub on_water : (ls : Layers) (c : Cell) → AreLayers ls → is_on_map ls c ≡ true → is_inside ls.water c ≡ true
 on_water ls c layers inside = rw (layers.width, layers.height) inside
-
--- and on a grid's bits
-pub on_bits : (bits : BitData) (g : GridData) (c : Cell) → AreBitsOf bits g → is_inside g c ≡ true
-    → IsOnMap bits c
-on_bits bits g c are inside =
-    let wide = are.wide in
-    let high = are.high in
-    grind (arith, nat_tests)
 
 -- where jumps are found by bits, these are the grids'
 pub found_by_bits : (grids : Both GridData) (kept : Kept) (finder : Finder) (bits : Both BitData)

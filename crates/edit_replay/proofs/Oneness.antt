@@ -1,18 +1,16 @@
--- A reply that is right and the run of the session's engine is the one that is told: so two are one.
-use Rattle.std.proofs.Common.{◌≡◌, ℕ, refl, ap, sym, subst, ◌∙◌, Bool, true, false, List, []}
-use Rattle.std.specs.Prelude.{IfOk, MatchBool, Ok, Err, Option}
+-- A reply that is right and the run of the session's engine is the one that the function gives.
+use Rattle.std.proofs.Common.{◌≡◌, ℕ, refl, ap, Bool, true, false, List, []}
+use Rattle.std.specs.Prelude.{IfOk, MatchBool, Ok, Err}
 use Rattle.std.specs.Prelude as option
 use Rattle.std.specs.declared.result.Result.{Result}
 use Rattle.grid_moves.specs.declared.Cell.{Cell}
-use Rattle.grid_moves.specs.Layers.{AreLayers, Layers, in_one_layer, query_grid}
+use Rattle.grid_moves.specs.Layers.{AreLayers, in_one_layer, query_grid}
 use Rattle.grid_moves.specs.Reply.{IsRight}
 use Rattle.best_first.specs.declared.found.Found.{Found}
-use Rattle.best_first.specs.declared.state.Layout.{Layout}
 use Rattle.edit_replay.specs.Found.{reply_with}
-use Rattle.edit_replay.specs.Kept.{states_of}
 use Rattle.edit_replay.specs.Replies.{answer_of, Exhausts, IsRunReply}
 use Rattle.edit_replay.specs.Session.{SessionData}
-use Rattle.edit_replay.specs.ReplyOf.{IsReplyOf, found_with, reply_as, reply_by, reply_of}
+use Rattle.edit_replay.specs.ReplyOf.{IsReplyOf, found_with, reply_finding, reply_of, reply_of_ends, states_of}
 use Rattle.edit_replay.specs.declared.reply.Reply.{Reply}
 use Rattle.edit_replay.specs.declared.reply.Reply.TheVariants.{Walk, None, Outside, Blocked}
 use Rattle.edit_replay.proofs.Grounds.{ends_free, ends_on}
@@ -30,12 +28,12 @@ module _ (d : SessionData) (are : AreLayers d.layers) (s t : Cell) where
 
   by_layer : (ms : List ℕ) (one : Bool)
       → MatchBool one (Exhausts d.engine (query_grid d.layers s) s t ms) (ms ≡ [])
-      → None ms ≡ reply_as true true one found
+      → None ms ≡ reply_of_ends true true one found
   by_layer ms true is = searched (record { walk = option.None; taken = ms }) is
   by_layer ms false is = ap (λ (ns : List ℕ). None ns) is
 
   pub only : (reply : Reply) → IsReplyOf d s t reply → reply ≡ reply_of d.engine d.layers s t
-  unfolding reply_by
+  unfolding reply_finding
   only (Walk ps c ms) p =
       let free = ends_free d.layers are s t p.right.0 in
       rw (ends_on d.layers are s t free, free, p.right.0)
@@ -50,13 +48,3 @@ module _ (d : SessionData) (are : AreLayers d.layers) (s t : Cell) where
       → IfOk result (λ reply. reply ≡ reply_of d.engine d.layers s t)
   result_known (Ok reply) right run = only reply (record { right = right; run = run })
   result_known (Err fault) right run = tt
-
--- the replies of two sessions with the same layers, whose engines both jump with the same states or are both plain
-pub one_run_reply : (d e : SessionData) (s t : Cell) (one other : Reply) → d.layers ≡ e.layers
-    → AreLayers d.layers
-    → states_of d.engine ≡ states_of e.engine → IsReplyOf d s t one → IsReplyOf e s t other → one ≡ other
-one_run_reply d e s t one other same are alike p q =
-    only d are s t one p
-    ∙ ap (λ (states : Option Layout). reply_by states d.layers s t) alike
-    ∙ ap (λ (ls : Layers). reply_by (states_of e.engine) ls s t) same
-    ∙ sym (only e (subst (λ (ls : Layers). AreLayers ls) same are) s t other q)

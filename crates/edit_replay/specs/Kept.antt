@@ -1,5 +1,5 @@
 -- What a session keeps for its searches.
-use Rattle.std.specs.Prelude.{⊤, Bool, if◌then◌else◌, Option, Some, None}
+use Rattle.std.specs.Prelude.{⊤, Bool, if◌then◌else◌}
 use Rattle.best_first.specs.declared.state.Layout.{Layout}
 use Rattle.grid_moves.specs.Grid.{GridData}
 use Rattle.grid_moves.specs.Layers.{AreLayers, Layers}
@@ -26,13 +26,6 @@ engine_with (finder.Tables tables) layout = Plus layout
 abbrev pub engine_of : Kept → Engine
 engine_of (kept.Plain places) = Plain
 engine_of (kept.Jumps finder space) = engine_with finder space.layout
-
--- the states that an engine's searches have, where it jumps
-abbrev pub states_of : Engine → Option Layout
-states_of Plain = None
-states_of (Jps layout) = Some layout
-states_of (Block layout) = Some layout
-states_of (Plus layout) = Some layout
 
 -- two grids as layers
 abbrev pub as_layers : Both GridData → Layers

@@ -186,7 +186,7 @@ impl Session {
             (answer_of reply)) }
         ensures run { IfOk result
             (IsRunReply self.old (record { x = sx; y = sy }) (record { x = gx; y = gy })) }
-        ensures known { IfOk result (λ reply. reply
+        ensures function { IfOk result (λ reply. reply
             ≡ reply_of self.old.engine self.old.layers (record { x = sx; y = sy }) (record { x = gx; y = gy })) }
         ensures short { IfOk result (λ reply. IsShort (answer_of reply)) }
         ensures unchanged { self.new ≡ self.old }

@@ -1,46 +1,26 @@
 -- A pass from the goal tells the first moves to it.
-use Rattle.std.proofs.Common.{◌≡◌, ◌+◌, ◌*◌, ◌<◌, ◌≤◌, arith, refl, ap, sym, ◌∙◌, subst, true, List, ◌∷◌}
+use Rattle.std.proofs.Common.{◌≡◌, ◌+◌, ◌*◌, ◌<◌, ◌≤◌, arith, refl, ap, sym, ◌∙◌, subst, true}
 use Rattle.std.proofs.Common.{mul-le-mul}
 use Rattle.std.specs.Prelude.{Option, Some, None}
-use Rattle.std.proofs.lemmas.Bool.Decides.{nat_tests}
 use Rattle.root2_cost.specs.declared.Cost.{Cost}
-use Rattle.root2_cost.specs.Order.{IsAtMost}
-use Rattle.root2_cost.specs.Sums.{add_costs}
-use Rattle.root2_cost.proofs.AtMost.{IsAtMost-antisymmetric, IsAtMost-refl}
-use Rattle.root2_cost.proofs.Less.{same_cost as same_parts}
-use Rattle.root2_cost.proofs.Sums.{add_costs-comm}
 use Rattle.grid_moves.specs.declared.Cell.{Cell}
 use Rattle.grid_moves.specs.declared.Dir.{Dir}
 use Rattle.grid_moves.specs.Grid.{GridData, AreSides, is_inside}
 use Rattle.grid_moves.specs.Move.{all_dirs, legal_ahead, move_cost}
-use Rattle.grid_moves.specs.Walk.{IsLeastWalk, cost_of}
 use Rattle.grid_moves.proofs.Ahead.{legal_ahead-is}
 use Rattle.grid_moves.proofs.Legal.{and_both, free_inside, legal_is}
-use Rattle.grid_moves.proofs.Short.{least_rest, least_steps}
+use Rattle.grid_moves.proofs.Short.{least_steps}
 use Rattle.grid_moves.proofs.Walks.{steps-cost_of}
 use Rattle.cost_waves.specs.Begin.{Begins, IsCostTo, IsLeastCost}
 use Rattle.cost_waves.specs.Stored.{WaveData, cost_at}
-use Rattle.cost_waves.proofs.Falling.{least_by_move}
 use Rattle.std.specs.List.{find}
+use Rattle.plain_search.proofs.LeastCosts.{begins_falls, falls_begins}
 use Rattle.first_moves.specs.First.{IsFirstMove}
 use Rattle.first_moves.specs.Follow.{IsNext}
-use Rattle.first_moves.specs.Inward.{IsPassFrom, is_same_cost, is_saved, leads, leads_to}
+use Rattle.first_moves.specs.Inward.{IsPassFrom, leads, leads_to}
 use Rattle.first_moves.proofs.Following.{next_some}
 use Rattle.first_moves.proofs.Picking.{first_is}
 use Rattle.cost_waves.proofs.Turned.{cost_back}
-
-same_cost : (p q : Cost) → is_same_cost p q ≡ true → p ≡ q
-same_cost p q h = same_parts p q (grind (arith, nat_tests)) (grind (arith, nat_tests))
-
-cost_itself : (p q : Cost) → p ≡ q → is_same_cost p q ≡ true
-cost_itself p q e = subst (λ (c : Cost). is_same_cost p c ≡ true) e (grind (arith, nat_tests))
-
--- a least walk costs what is stored
-one_cost : (g : GridData) (s t : Cell) (cost : Cost) (cells : List Cell) → IsLeastCost g s t cost
-    → IsLeastWalk g s t cells → cost_of (s ∷ cells) ≡ cost
-one_cost g s t cost cells l w =
-    IsAtMost-antisymmetric (cost_of (s ∷ cells)) (cost_of (s ∷ l.cells)) (w.least l.cells l.least.walk)
-    (l.least.least cells w.walk) ∙ l.priced
 
 pub inside_ahead : (g : GridData) (c v : Cell) (d : Dir) → legal_ahead g c d ≡ Some v → is_inside g v ≡ true
 inside_ahead g c v d e = (and_both (is_inside g v) _ (legal_is g c v (legal_ahead-is g c v d e)).target).0
@@ -52,7 +32,7 @@ pub few_cells : (g : GridData) → AreSides g.width g.height → g.height * g.wi
 few_cells g s = let p : g.height * g.width ≤ 4096 * 4096 = mul-le-mul s.low s.narrow in omega arith
 
 module _ (g : GridData) (goal : Cell) (w : WaveData) (p : IsPassFrom g goal w) where
-  -- what is stored of a cell is what the goal costs from there
+  -- the cost that is stored for a cell is what the goal costs from there
   cost_from : (c : Cell) → is_inside g c ≡ true → IsCostTo g c goal (cost_at w c)
   cost_from c i = cost_back g goal c (cost_at w c) (p.tells.costs c i)
 
@@ -71,48 +51,18 @@ module _ (g : GridData) (goal : Cell) (w : WaveData) (p : IsPassFrom g goal w) w
   begins_leads : (c : Cell) (d : Dir) → is_inside g c ≡ true → Begins g c goal d → leads g w c d ≡ true
   begins_leads c d i b =
       ap (λ (o : Option Cell). leads_to w c o) b.ahead
-      ∙ by_costs (cost_at w c) (cost_at w b.next) (cost_from c i)
-      (cost_from b.next (inside_ahead g c b.next d b.ahead))
-    where
-      rest : IsLeastWalk g b.next goal b.cells
-      rest = least_rest g c goal b.next b.cells b.least
-
-      by_costs : (here there : Option Cost) → IsCostTo g c goal here → IsCostTo g b.next goal there
-          → is_saved here there (move_cost c b.next) ≡ true
-      by_costs None there none m = absurd (none (b.next ∷ b.cells) b.least.walk)
-      by_costs (Some h) None l none = absurd (none b.cells rest.walk)
-      by_costs (Some h) (Some k) l m =
-          cost_itself (add_costs k (move_cost c b.next)) h
-          (add_costs-comm k (move_cost c b.next)
-          ∙ ap (λ (x : Cost). add_costs (move_cost c b.next) x)
-          (sym (one_cost g b.next goal k b.cells m rest))
-          ∙ one_cost g c goal h (b.next ∷ b.cells) l b.least)
+      ∙ begins_falls g c b.next goal d b.ahead (move_cost c b.next) refl (cost_at w c) (cost_at w b.next)
+      (cost_from c i) (cost_from b.next (inside_ahead g c b.next d b.ahead)) b
 
   -- and one that saves it begins one
   leads_begins : (c : Cell) (d : Dir) → is_inside g c ≡ true → leads g w c d ≡ true → Begins g c goal d
   leads_begins c d i h = by_ahead (legal_ahead g c d) refl h
     where
-      by_costs : (v : Cell) → legal_ahead g c d ≡ Some v → (here there : Option Cost) → IsCostTo g c goal here
-          → IsCostTo g v goal there → is_saved here there (move_cost c v) ≡ true → Begins g c goal d
-      by_costs v e None there l m s = absurd (cc)
-      by_costs v e (Some a) None l m s = absurd (cc)
-      by_costs v e (Some a) (Some k) l m s =
-          let total : cost_of (c ∷ v ∷ m.cells) ≡ cost_of (c ∷ l.cells) =
-          ap (λ (x : Cost). add_costs (move_cost c v) x) m.priced ∙ add_costs-comm (move_cost c v) k
-          ∙ same_cost (add_costs k (move_cost c v)) a s ∙ sym l.priced in
-          record {
-            next = v;
-            ahead = e;
-            cells = m.cells;
-            least = least_by_move g c v goal d l.cells m.cells e l.least m.least.walk
-                (subst (λ (x : Cost). IsAtMost x (cost_of (c ∷ l.cells))) (sym total)
-                (IsAtMost-refl (cost_of (c ∷ l.cells))));
-          }
-
       by_ahead : (o : Option Cell) → legal_ahead g c d ≡ o → leads_to w c o ≡ true → Begins g c goal d
       by_ahead None e s = absurd (cc)
       by_ahead (Some v) e s =
-          by_costs v e (cost_at w c) (cost_at w v) (cost_from c i) (cost_from v (inside_ahead g c v d e)) s
+          falls_begins g c v goal d e (move_cost c v) refl (cost_at w c) (cost_at w v) (cost_from c i)
+          (cost_from v (inside_ahead g c v d e)) s
 
   -- so the first of these directions is the first move
   pub first_inward : (c : Cell) → is_inside g c ≡ true

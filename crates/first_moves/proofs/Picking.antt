@@ -90,10 +90,10 @@ same_size {k = k} {m = m} {n = n} {h = h} {w = w} p q e = e ∙ ap (λ (j : ℕ)
     ∙ ap (λ (j : ℕ). h * j) q
 
 -- what a pass tells is the row of its start
-pub row_of : (g : GridData) (s : Cell) (w : WaveData) (runs : List Run) → w.width ≡ g.width
+pub waves_row : (g : GridData) (s : Cell) (w : WaveData) (runs : List Run) → w.width ≡ g.width
     → length w.firsts ≡ g.height * g.width → Tells g s w → runs ≡ runs_of (map first_in w.firsts)
     → IsRow g s runs
-row_of g s w runs wide whole tells cut = record {
+waves_row g s w runs wide whole tells cut = record {
   members = map first_in w.firsts;
   whole = length-map w.firsts first_in ∙ whole;
   moves = moves;

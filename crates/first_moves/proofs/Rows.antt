@@ -50,7 +50,7 @@ pub if_without_moves : {E : Type 0} (g : GridData) (s : Cell) (o : Result (List 
 if_without_moves g s (Ok row) i b e = subst (λ (l : List Run). IsRow g s l) (sym e) (without_moves g s i b)
 if_without_moves g s (Err fault) i b e = tt
 
--- what is stored of a pass from a cell is its row
+-- the row that a pass from a cell leaves is the cell's row
 pub if_row : {E : Type 0} (g : GridData) (s : Cell) (w : WaveData) (o : Result (List Run) E)
     → w.width ≡ g.width
     → w.height ≡ g.height → Tells g s w

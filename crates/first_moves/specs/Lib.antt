@@ -6,4 +6,3 @@ pub mod Span
 pub mod Kept
 pub mod Follow
 pub mod Inward
-pub mod Existence

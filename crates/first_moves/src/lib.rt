@@ -9,6 +9,7 @@
 
 mod follow;
 mod guide;
+pub mod laws;
 mod moves;
 mod row;
 

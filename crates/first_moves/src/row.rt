@@ -23,7 +23,7 @@ use std::marker::Model;
 // How far a search looks at first, in runs.
 const FIRST_REACH: usize = 8;
 
-// The parts of a row's runs in which the place of a run is told.
+// The place of a run is counted in these parts of a row's runs.
 const PARTS: usize = 65536;
 
 /// A run of equal first moves. It takes four bytes.
@@ -136,7 +136,7 @@ fn reach_back(runs: &[Run], number: u32, near: usize) -> (usize, usize)
     (0, high)
 }
 
-// Two runs between which that of the number stands, looked for from a run on, if one is told.
+// Two runs between which that of the number stands, looked for from a run on, if one is given.
 fn span_near(runs: &[Run], number: u32, near: Option<usize>) -> (usize, usize)
     requires { 0 < length runs.now }
     ensures { IsSpan runs.now number result.0 result.1 }
@@ -317,7 +317,7 @@ impl Row {
         self.find(number, None).0
     }
 
-    // The same, looked for from a run on, if one is told, and the run in which it is found.
+    // The same, looked for from a run on, if one is given, and the run in which it is found.
     #[inline(always)]
     fn find(&self, number: u32, near: Option<usize>) -> (Option<Dir>, usize)
         ensures first { FindsFirst self.now number result.0 }

@@ -14,9 +14,9 @@ use Rattle.grid_moves.proofs.Places.{inside_from}
 use Rattle.cost_waves.specs.Begin.{Begins}
 use Rattle.cost_waves.specs.Stored.{WaveData, begins_with, Tells}
 use Rattle.goal_boxes.specs.declared.area.Area.{Area}
-use Rattle.goal_boxes.specs.Box.{holds, IsLeastArea, IsAreaOf, IsBox, box_in}
-use Rattle.goal_boxes.specs.Wide.{with_cell, widened, Scanned, IsBegun, Met, NoneBegun, IsFirstBegun}
-use Rattle.goal_boxes.specs.Wide.{IsLastBegun}
+use Rattle.goal_boxes.specs.Box.{IsAreaOf, IsBox, IsLeastArea, box_in, holds, widened, with_cell}
+use Rattle.goal_boxes.specs.Wide.{Scanned, IsReached, Met, NoneReached, IsFirstReached}
+use Rattle.goal_boxes.specs.Wide.{IsLastReached}
 
 -- what it is to lie in a rectangle
 pub record LiesIn (a : Area) (c : Cell) : Type 0 where
@@ -179,27 +179,28 @@ module _ (width : ℕ) (P : Cell → Type 0) where
   none_scanned c s = elim s.before [ inl h ↦ omega arith | inr h ↦ (let l = h.1 in omega arith) ]
 
 module _ (w : WaveData) (d : Dir) where
-  begun_at : (y : ℕ) (c : Cell) → c.y ≡ y → IsBegun w d c → begins_with w (record { x = c.x; y = y }) d ≡ true
-  begun_at y c e t = ap (λ (n : ℕ). begins_with w (record { x = c.x; y = n }) d) (sym e) ∙ t
+  reached_at : (y : ℕ) (c : Cell) → c.y ≡ y → IsReached w d c
+      → begins_with w (record { x = c.x; y = y }) d ≡ true
+  reached_at y c e t = ap (λ (n : ℕ). begins_with w (record { x = c.x; y = n }) d) (sym e) ∙ t
 
-  -- a row of which the direction is not stored adds nothing
-  pub row_unbegun : (y : ℕ) → NoneBegun w d y 0 w.width → (found : Option Area) → IsAreaOf (Met w d y 0) found
-      → IsAreaOf (Met w d (y + 1) 0) found
-  row_unbegun y none = same_area (Met w d y 0) (Met w d (y + 1) 0) (next_row w.width (IsBegun w d) y 0)
+  -- a row in which no cell is reached adds nothing
+  pub row_unreached : (y : ℕ) → NoneReached w d y 0 w.width → (found : Option Area)
+      → IsAreaOf (Met w d y 0) found → IsAreaOf (Met w d (y + 1) 0) found
+  row_unreached y none = same_area (Met w d y 0) (Met w d (y + 1) 0) (next_row w.width (IsReached w d) y 0)
       (λ c s. record {
         column = s.column;
         kind = s.kind;
-        before = elim (met_or_in_row w.width (IsBegun w d) y c s) [
+        before = elim (met_or_in_row w.width (IsReached w d) y c s) [
           | inl less ↦ inl less
           | inr same ↦ absurd (
-              let begun = begun_at y c same s.kind in
-              let unbegun = none c.x (omega arith) s.column in
+              let reached = reached_at y c same s.kind in
+              let unreached = none c.x (omega arith) s.column in
               cc)
         ];
       })
 
   -- of another one its first cell and its last cell are enough
-  module _ (y first last : ℕ) (f : IsFirstBegun w d y first) (l : IsLastBegun w d y first last) where
+  module _ (y first last : ℕ) (f : IsFirstReached w d y first) (l : IsLastReached w d y first last) where
     abbrev at_first : Cell
     at_first = record { x = first; y = y }
 
@@ -214,18 +215,18 @@ module _ (w : WaveData) (d : Dir) where
     WithBoth c = With c ⊎ (c ≡ at_last)
 
     first_seen : Met w d (y + 1) 0 at_first
-    first_seen = record { column = f.within; kind = f.begun; before = inl (omega arith) }
+    first_seen = record { column = f.within; kind = f.reached; before = inl (omega arith) }
 
     last_seen : Met w d (y + 1) 0 at_last
-    last_seen = record { column = l.within; kind = l.begun; before = inl (omega arith) }
+    last_seen = record { column = l.within; kind = l.reached; before = inl (omega arith) }
 
     -- the cells of the row lie between the two
-    between : (c : Cell) → c.y ≡ y → c.x < w.width → IsBegun w d c → (first ≤ c.x) × (c.x ≤ last)
-    between c h1 h2 h3 = grind (arith, nat_tests, cases_lt, begun_at)
+    between : (c : Cell) → c.y ≡ y → c.x < w.width → IsReached w d c → (first ≤ c.x) × (c.x ≤ last)
+    between c h1 h2 h3 = grind (arith, nat_tests, cases_lt, reached_at)
 
-    pub row_begun : (found : Option Area) → IsAreaOf (Met w d y 0) found
+    pub row_reached : (found : Option Area) → IsAreaOf (Met w d y 0) found
         → IsAreaOf (Met w d (y + 1) 0) (Some (with_cell (widened found at_first) at_last))
-    row_begun found area =
+    row_reached found area =
         let one = grown (Met w d y 0) With (λ c s. inl s) at_first (inr refl) (λ c h. h) found area in
         let a : Area = with_cell (widened found at_first) at_last in
         let two : IsLeastArea WithBoth a =
@@ -234,13 +235,13 @@ module _ (w : WaveData) (d : Dir) where
         record {
           some = at_last;
           is_one = last_seen;
-          all = λ c s. elim (met_or_in_row w.width (IsBegun w d) y c s) [
+          all = λ c s. elim (met_or_in_row w.width (IsReached w d) y c s) [
             | inl less ↦ two.all c (inl
                 (inl (record { column = s.column; kind = s.kind; before = inl less })))
             | inr same ↦ in_row a two c s same
           ];
           least = λ b held. two.least b (λ c h. elim h [
-            | inl (inl s) ↦ held c (next_row w.width (IsBegun w d) y 0 c s)
+            | inl (inl s) ↦ held c (next_row w.width (IsReached w d) y 0 c s)
             | inl (inr e) ↦ subst (λ (k : Cell). holds b k ≡ true) (sym e) (held at_first first_seen)
             | inr e ↦ subst (λ (k : Cell). holds b k ≡ true) (sym e) (held at_last last_seen)
           ]);

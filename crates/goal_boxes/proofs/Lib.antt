@@ -5,4 +5,5 @@ mod Offering
 mod Right
 mod Concluding
 pub mod Existing
+mod Unique
 pub mod Answering

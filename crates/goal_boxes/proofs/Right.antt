@@ -21,7 +21,8 @@ use Rattle.search_run.proofs.Leastness.{run_is_least, run_finds_all}
 use Rattle.best_first.specs.declared.found.Found.{Found}
 use Rattle.best_first.specs.declared.state.State.{State}
 use Rattle.best_first.specs.State.{start_at}
-use Rattle.plain_search.proofs.Answering.{has_answer}
+use Rattle.plain_search.specs.Costs.{IsCostTo, least_cost}
+use Rattle.plain_search.proofs.LeastCosts.{cost_is}
 use Rattle.plain_search.proofs.Right.{least_way, stands}
 use Rattle.goal_boxes.specs.declared.area.Area.{Area}
 use Rattle.goal_boxes.specs.Answer.{IsFound, IsExhausted, IsRunBy}
@@ -50,18 +51,6 @@ least_chain g b t boxes u (v ∷ cells) w =
     goes_on (start_at u) (start_at v) (start_at (last_of v cells)) (move_cost u v) (cost_of (v ∷ cells))
     (λ p. held_link g b t u d.0 v d.1 held) (least_chain g b t boxes v cells (least_rest g u t v cells w))
 
--- least costs of walks are no matter of the run: where a walk leads, a least one does
-pub data HasLeastWalk (g : GridData) (s t : Cell) : Type 0 where
-  by_walk : (cells : List Cell) → IsLeastWalk g s t cells → HasLeastWalk g s t
-  by_none : NoWalk g s t → HasLeastWalk g s t
-
-pub least_or_none : (g : GridData) (s t : Cell) → is_free g s ≡ true → HasLeastWalk g s t
-least_or_none g s t free = let a = has_answer g s t free in by_answer a.answer.walk a.least
-  where
-    by_answer : (o : Option Walk) → IsLeastOrNone g s t o → HasLeastWalk g s t
-    by_answer (Some w) l = by_walk l.cells l.least
-    by_answer None l = by_none l
-
 module _ (g : GridData) (b : BoxTeller) (t : Cell) where
   -- the cost at which the goal is taken is at most that of each walk to it
   at_most_walks : TellsBoxes g b → (s : Cell) (x : Taken State) (earlier : List (Taken State))
@@ -69,32 +58,31 @@ module _ (g : GridData) (b : BoxTeller) (t : Cell) where
       → IsRun (boxed_rule g b t) (start_at s) (x ∷ earlier) → is_same x.state.cell t ≡ true
       → (others : List Cell)
       → IsWalk g s t others → IsAtMost x.cost (cost_of (s ∷ others))
-  at_most_walks boxes s x earlier f is at_goal others o = by_least (least_or_none g s t f)
+  at_most_walks boxes s x earlier f is at_goal others o = by_cost (least_cost g s t) (cost_is g s t f)
     where
-      by_least : HasLeastWalk g s t → IsAtMost x.cost (cost_of (s ∷ others))
-      by_least (by_none none) = absurd (none others o)
-      by_least (by_walk cells w) =
-          let at_t : is_same (last_of s cells) t ≡ true =
-          ap (λ (c : Cell). is_same c t) w.walk.ends ∙ is_same-itself t in
-          IsAtMost-trans x.cost (cost_of (s ∷ cells)) (cost_of (s ∷ others))
-          (run_is_least (boxed_rule g b t) (boxed_consistent g b t) (start_at s) (start_at (last_of s cells))
-          x earlier
-          (cost_of (s ∷ cells)) is at_goal (least_chain g b t boxes s cells w) at_t).is (w.least others o)
+      by_cost : (cost : Option Cost) → IsCostTo g s t cost → IsAtMost x.cost (cost_of (s ∷ others))
+      by_cost None none = absurd (none others o)
+      by_cost (Some cost) l =
+          let at_t : is_same (last_of s l.cells) t ≡ true =
+          ap (λ (c : Cell). is_same c t) l.least.walk.ends ∙ is_same-itself t in
+          IsAtMost-trans x.cost (cost_of (s ∷ l.cells)) (cost_of (s ∷ others))
+          (run_is_least (boxed_rule g b t) (boxed_consistent g b t) (start_at s)
+          (start_at (last_of s l.cells)) x earlier (cost_of (s ∷ l.cells)) is at_goal
+          (least_chain g b t boxes s l.cells l.least) at_t).is (l.least.least others o)
 
   -- where the run ends without the goal no walk leads there
   pub exhausted_none : TellsBoxes g b → (s : Cell) → is_free g s ≡ true → (taken : List ℕ)
       → IsExhausted g b s t taken → NoWalk g s t
-  exhausted_none boxes s f taken x = by_least (least_or_none g s t f)
+  exhausted_none boxes s f taken x = by_cost (least_cost g s t) (cost_is g s t f)
     where
-      by_least : HasLeastWalk g s t → NoWalk g s t
-      by_least (by_none none) = none
-      by_least (by_walk cells w) =
-          let at_t : is_same (last_of s cells) t ≡ true =
-          ap (λ (c : Cell). is_same c t) w.walk.ends ∙ is_same-itself t in
+      by_cost : (cost : Option Cost) → IsCostTo g s t cost → NoWalk g s t
+      by_cost None none = none
+      by_cost (Some cost) l =
+          let at_t : is_same (last_of s l.cells) t ≡ true =
+          ap (λ (c : Cell). is_same c t) l.least.walk.ends ∙ is_same-itself t in
           absurd (run_finds_all (boxed_rule g b t) (boxed_consistent g b t) (start_at s)
-          (start_at (last_of s cells))
-          x.run (cost_of (s ∷ cells)) x.is_run x.none_waits x.no_goal (least_chain g b t boxes s cells w)
-          at_t)
+          (start_at (last_of s l.cells)) x.run (cost_of (s ∷ l.cells)) x.is_run x.none_waits x.no_goal
+          (least_chain g b t boxes s l.cells l.least) at_t)
 
   -- what the run found stands for a least walk
   pub found_least : TellsBoxes g b → (s : Cell) (points : List Cell) (cost : Cost) (taken : List ℕ)

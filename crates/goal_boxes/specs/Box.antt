@@ -1,6 +1,6 @@
 -- The box of a cell and a direction. Geometric containers after Wagner and Willhalm (2003).
-use Rattle.std.specs.Prelude.{◌≡◌, ◌≤◌, Bool, true, false, nat_le, ◌&&◌, Option, Some, None, refl}
-use Rattle.std.specs.Prelude.{slice_index_or}
+use Rattle.std.specs.Prelude.{◌≡◌, ◌≤◌, Bool, true, false, nat_le, nat_lt, ◌&&◌, Option, Some, None, refl}
+use Rattle.std.specs.Prelude.{if◌then◌else◌, slice_index_or}
 use Rattle.grid_moves.specs.declared.Cell.{Cell}
 use Rattle.grid_moves.specs.declared.Dir.{Dir}
 use Rattle.grid_moves.specs.Grid.{GridData, is_free}
@@ -12,6 +12,20 @@ use Rattle.goal_boxes.specs.declared.around.CellBoxes.{CellBoxes}
 -- the cell lies in the rectangle; columns and rows of both corners belong to it
 abbrev pub holds : Area → Cell → Bool
 holds a c = nat_le a.x0 c.x && nat_le c.x a.x1 && nat_le a.y0 c.y && nat_le c.y a.y1
+
+-- the least rectangle that holds a rectangle and a cell
+abbrev pub with_cell : Area → Cell → Area
+with_cell a c = record {
+  x0 = if nat_lt c.x a.x0 then c.x else a.x0;
+  y0 = if nat_lt c.y a.y0 then c.y else a.y0;
+  x1 = if nat_lt a.x1 c.x then c.x else a.x1;
+  y1 = if nat_lt a.y1 c.y then c.y else a.y1;
+}
+
+-- the same where there may be none yet
+abbrev pub widened : Option Area → Cell → Area
+widened None c = record { x0 = c.x; y0 = c.y; x1 = c.x; y1 = c.y }
+widened (Some a) c = with_cell a c
 
 -- one rectangle lies within another
 pub record IsWithin (a b : Area) : Type 0 where

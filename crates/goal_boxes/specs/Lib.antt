@@ -3,5 +3,6 @@ pub mod Wide
 pub mod Stored
 pub mod Rule
 pub mod Answer
+pub mod Made
 pub mod Offers
 pub mod Progress

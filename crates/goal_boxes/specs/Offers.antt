@@ -20,7 +20,7 @@ use Rattle.goal_boxes.specs.declared.around.CellBoxes.{CellBoxes}
 use Rattle.goal_boxes.specs.Box.{BoxTeller, box_in}
 use Rattle.goal_boxes.specs.Rule.{is_toward}
 
--- the eight boxes are those that are stored of the cell
+-- the eight boxes are those of the cell
 abbrev pub Agree : CellBoxes → BoxTeller → Cell → Type 0
 Agree boxes box c = (d : Dir) → box_in boxes d ≡ box c d
 
@@ -28,7 +28,7 @@ Agree boxes box c = (d : Dir) → box_in boxes d ≡ box c d
 abbrev pub toward_by : GridData → Option Area → Cell → Cell → Dir → Option Cell
 toward_by g area t c d = if is_toward t area then legal_ahead g c d else None
 
--- the same by the box that is told
+-- the same by the box of the move
 abbrev pub toward : GridData → BoxTeller → Cell → Cell → Dir → Option Cell
 toward g box t c d = toward_by g (box c d) t c d
 

@@ -1,8 +1,7 @@
 //! Rectangles of cells.
 
 ghost use Rattle.std.specs.Prelude.{◌≡◌, Some};
-ghost use Rattle.goal_boxes.specs.Box.{holds};
-ghost use Rattle.goal_boxes.specs.Wide as spec;
+ghost use Rattle.goal_boxes.specs.Box as spec;
 
 use grid_moves::Cell;
 
@@ -19,7 +18,7 @@ impl Area {
     /// Whether the cell lies in the rectangle.
     #[inline(always)]
     pub fn holds(self, c: Cell) -> bool
-        ensures { result ≡ holds self c }
+        ensures { result ≡ spec.holds self c }
     {
         self.x0 <= c.x && c.x <= self.x1 && self.y0 <= c.y && c.y <= self.y1
     }

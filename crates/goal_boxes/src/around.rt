@@ -5,7 +5,7 @@ ghost use Rattle.grid_moves.specs.declared.Cell.{Cell};
 ghost use Rattle.grid_moves.specs.Grid.{GridData, is_free};
 ghost use Rattle.cost_waves.specs.Stored.{Tells, IsBlank, begins_with};
 ghost use Rattle.goal_boxes.specs.Box.{IsAreaOf, AreBoxes, box_in};
-ghost use Rattle.goal_boxes.specs.Wide.{Met, NoneBegun, IsFirstBegun, IsLastBegun};
+ghost use Rattle.goal_boxes.specs.Wide.{Met, NoneReached, IsFirstReached, IsLastReached};
 
 use crate::area::widened;
 use crate::{Area, NoMemory};
@@ -41,9 +41,10 @@ fn belongs(waves: &CostWaves, c: Cell, d: Dir) -> bool
 
 // The first column of a row that belongs in the box.
 #[inline(always)]
-fn first_begun(waves: &CostWaves, d: Dir, y: u16) -> Option<u16>
+fn first_reached(waves: &CostWaves, d: Dir, y: u16) -> Option<u16>
     requires row { y < waves.now.height }
-    ensures { MatchOption result (NoneBegun waves.now d y 0 waves.now.width) (IsFirstBegun waves.now d y) }
+    ensures { MatchOption result (NoneReached waves.now d y 0 waves.now.width)
+        (IsFirstReached waves.now d y) }
 {
     for x in 0..waves.width() {
         if belongs(waves, Cell { x, y }, d) {
@@ -55,10 +56,10 @@ fn first_begun(waves: &CostWaves, d: Dir, y: u16) -> Option<u16>
 
 // The last column of the row that does, given the first one.
 #[inline(always)]
-fn last_begun(waves: &CostWaves, d: Dir, y: u16, first: u16) -> u16
+fn last_reached(waves: &CostWaves, d: Dir, y: u16, first: u16) -> u16
     requires row { y < waves.now.height }
-    requires first { IsFirstBegun waves.now d y first }
-    ensures { IsLastBegun waves.now d y first result }
+    requires first { IsFirstReached waves.now d y first }
+    ensures { IsLastReached waves.now d y first result }
 {
     let mut last = waves.width() - 1;
     while last != first && !belongs(waves, Cell { x: last, y }, d) {
@@ -73,16 +74,16 @@ fn over_row(waves: &CostWaves, d: Dir, y: u16, before: Option<Area>) -> Option<A
     requires row { y < waves.now.height }
     ensures { IsAreaOf (Met waves.now d y 0) before → IsAreaOf (Met waves.now d (y + 1) 0) result }
 {
-    match first_begun(waves, d, y) {
+    match first_reached(waves, d, y) {
         None => before,
         Some(first) => {
-            let last = last_begun(waves, d, y, first);
+            let last = last_reached(waves, d, y, first);
             widened(widened(before, Cell { x: first, y }), Cell { x: last, y })
         }
     }
 }
 
-// The least rectangle that holds each cell of which the direction is stored.
+// The least rectangle that holds each cell for which the direction is stored.
 fn box_toward(waves: &CostWaves, d: Dir) -> Option<Area>
     ensures { IsAreaOf (Met waves.now d waves.now.height 0) result }
 {

@@ -10,6 +10,7 @@ mod area;
 mod around;
 mod boxed;
 mod boxes;
+pub mod laws;
 mod offers;
 mod source;
 

@@ -1,15 +1,21 @@
 -- What is printed of one cell.
-use Rattle.std.proofs.Common.{◌≡◌, ◌≤◌, ◌*◌, ◌∙◌, refl, ap, sym, subst, ℕ, List, Bool, true, false}
-use Rattle.std.specs.Prelude.{if◌then◌else◌, IfOk, Result, Ok, Err}
+use Rattle.std.proofs.Common.{◌≡◌, ◌≤◌, ◌*◌, ◌∙◌, refl, ap, sym, subst, ℕ, List, [], ◌∷◌, ◌++◌, Bool, true, false, ◌||◌}
+use Rattle.std.specs.Prelude.{if◌then◌else◌, IfOk, Result, Ok, Err, Option, codes}
 use Rattle.std.specs.Global.{Vec}
 use Rattle.first_moves.specs.declared.row.Run.{Run}
-use Rattle.first_moves.specs.Row.{IsRow}
+use Rattle.first_moves.specs.Row.{IsRow, row_of}
+use Rattle.first_moves.proofs.Rowed.{row_only}
+use Rattle.goal_boxes.specs.declared.area.Area.{Area}
 use Rattle.goal_boxes.specs.declared.around.CellBoxes.{CellBoxes}
-use Rattle.goal_boxes.specs.Box.{AreBoxes}
+use Rattle.goal_boxes.specs.Box.{AreBoxes, box_in}
+use Rattle.goal_boxes.specs.Made.{box_of}
+use Rattle.goal_boxes.proofs.Existing.{boxes_are}
 use Rattle.grid_moves.specs.declared.Cell.{Cell}
 use Rattle.grid_moves.specs.Grid.{GridData, is_free}
 use Rattle.grid_moves.specs.Layers.{Layers, is_free_ground, query_grid}
-use Rattle.grid_answers.specs.BoxLines.{IsBoxText, boxes_text}
+use Rattle.grid_moves.specs.Move.{all_dirs}
+use Rattle.cell_lines.specs.Cells.{dir_text, texts_of}
+use Rattle.grid_answers.specs.BoxLines.{IsBoxText, area_text, box_line, boxes_text}
 use Rattle.grid_answers.specs.OfCell.{answered}
 use Rattle.grid_answers.specs.RunLines.{IsRunText, runs_text}
 
@@ -25,13 +31,39 @@ pub if_same : {E : Type 0} (result : Result (Vec ℕ) E) (Right : Cell → List 
 if_same (Ok t) Right c s e r = subst (λ (k : Cell). Right k t.items) e r
 if_same (Err f) Right c s e r = tt
 
+-- a free cell is free on the grid of its queries
+pub free-on : (ls : Layers) (s : Cell) (g : GridData) → g ≡ query_grid ls s → is_free_ground ls s ≡ true
+    → is_free g s ≡ true
+free-on ls s g same free =
+    subst (λ (k : GridData). is_free k s ≡ true) (sym same) (by_water (is_free ls.water s) refl free)
+  where
+    by_water : (b : Bool) → is_free ls.water s ≡ b → (is_free ls.land s || b) ≡ true
+        → is_free (if b then ls.water else ls.land) s ≡ true
+    by_water true water some = water
+    by_water false other some = by_land (is_free ls.land s) refl some
+      where
+        by_land : (b : Bool) → is_free ls.land s ≡ b → (b || false) ≡ true → is_free ls.land s ≡ true
+        by_land true land some = land
+        by_land false other some = absurd (cc)
+
+-- texts of each member are those of the list
+texts-same : {X : Type 0} (p q : X → List ℕ) (xs : List X) → ((x : X) → p x ≡ q x)
+    → texts_of p xs ≡ texts_of q xs
+texts-same p q [] same = refl
+texts-same p q (x ∷ xs) same =
+    ap (λ (l : List ℕ). l ++ texts_of p xs) (same x) ∙ ap (λ (l : List ℕ). q x ++ l) (texts-same p q xs same)
+
 -- the lines of the boxes and of the runs of a free cell
 pub printed-boxes : {E : Type 0} (result : Result (Vec ℕ) E) (ls : Layers) (s : Cell) (g : GridData)
     (b : CellBoxes)
     → g ≡ query_grid ls s → is_free_ground ls s ≡ true → AreBoxes g s b
-    → IfOk result (λ t. t.items ≡ boxes_text b) → IfOk result (λ t. IsBoxText ls s t.items)
-printed-boxes result ls s g b same free are is = if_line result (IsBoxText ls s) (boxes_text b) is
-    (answered (boxes_text b) free (b, subst (λ (k : GridData). AreBoxes k s b) same are, refl))
+    → IfOk result (λ t. t.items ≡ boxes_text (box_in b)) → IfOk result (λ t. IsBoxText ls s t.items)
+printed-boxes result ls s g b same free are is = if_line result (IsBoxText ls s) (boxes_text (box_in b)) is
+    (answered (boxes_text (box_in b)) free (
+    texts-same (box_line (box_in b)) (box_line (box_of g s)) all_dirs (λ d.
+    ap (λ (a : Option Area). codes "box " ++ dir_text d ++ codes " " ++ area_text a ++ codes "\n")
+    ((boxes_are g s d (free-on ls s g same free)).only (box_in b d) (are d)))
+    ∙ ap (λ (k : GridData). boxes_text (box_of k s)) same))
 
 pub printed-runs : {E : Type 0} (result : Result (Vec ℕ) E) (ls : Layers) (s : Cell) (g : GridData)
     (row : List Run)
@@ -40,10 +72,9 @@ pub printed-runs : {E : Type 0} (result : Result (Vec ℕ) E) (ls : Layers) (s :
 printed-runs result ls s g row width same free is w e =
     if_line result (IsRunText ls s) (runs_text width row) e
     (answered (runs_text width row) free (
-      row,
-      subst (λ (k : GridData). IsRow k s row) same is,
-      ap (λ (n : ℕ). runs_text n row) (w ∙ ap (λ (k : GridData). k.width) same),
-    ))
+    ap (λ (n : ℕ). runs_text n row) w
+    ∙ ap (λ (r : List Run). runs_text g.width r) (row_only g s row (free-on ls s g same free) is)
+    ∙ ap (λ (k : GridData). runs_text k.width (row_of k s)) same))
 
 -- the grid of a cell is small where both grids are
 pub few-cells : (ls : Layers) (s : Cell) (g : GridData) → g ≡ query_grid ls s

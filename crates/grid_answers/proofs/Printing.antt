@@ -1,15 +1,18 @@
 -- What `prove` and `check` print.
-use Rattle.std.proofs.Common.{◌≡◌, ◌≤◌, ap, sym, ◌∙◌, subst, ℕ, List, arith}
+use Rattle.std.proofs.Common.{◌≡◌, ◌≤◌, ap, sym, ◌∙◌, subst, refl, ℕ, List, arith}
 use Rattle.std.specs.Prelude.{IfOk, Result, Ok, Err}
 use Rattle.grid_moves.specs.declared.Cell.{Cell}
 use Rattle.grid_moves.specs.Grid.{GridData}
 use Rattle.grid_moves.specs.Layers.{Layers}
-use Rattle.potential_check.specs.Accepted.{Holds, IsAccepted, Refuses, claimed}
+use Rattle.potential_check.specs.Accepted.{Holds, IsAccepted}
+use Rattle.potential_check.specs.Answers.{IsCertificateAnswer, certificate_answer}
+use Rattle.potential_check.specs.Text.{plain}
+use Rattle.potential_check.proofs.Judging.{Tells, answer_tells, certificates_are_answered}
 use Rattle.potential_check.specs.declared.certificate.Certificate.{Certificate}
 use Rattle.potential_check.specs.declared.verdict.Proof.{Proof}
 use Rattle.potential_check.specs.declared.verdict.Reject.{Reject}
-use Rattle.grid_answers.specs.Certificates.{IsProof, IsVerdict, outside, blocked, apart, certified, accepted}
-use Rattle.grid_answers.specs.Certificates.{refused, proof_line, reject_line}
+use Rattle.grid_answers.specs.Certificates.{IsProof, IsVerdict, outside, blocked, apart, certified}
+use Rattle.grid_answers.specs.Certificates.{verdict_line, verdict_status}
 use Rattle.line_work.specs.declared.printed.Printed.{Printed}
 
 -- a line with status 1
@@ -30,25 +33,31 @@ small_proof ls s t _ _ (certified text e c a) = omega arith
 
 pub small_verdict : (g : GridData) (c : Certificate) (text : List ℕ) (status : ℕ) → IsVerdict g c text status
     → status ≤ 1
-small_verdict g c _ _ (accepted a h) = omega arith
-small_verdict g c _ _ (refused why r) = omega arith
+small_verdict g c text status v = by_answer (certificate_answer g (plain c)) v.status_is
+  where
+    by_answer : (answer : Result Proof Reject) → status ≡ verdict_status answer → status ≤ 1
+    by_answer (Ok proof) e = omega arith
+    by_answer (Err why) e = omega arith
 
-abbrev proved : Proof → Result Proof Reject
-proved p = Ok p
+-- what a certificate comes to is right
+comes_to : (g : GridData) (c : Certificate)
+    → IsCertificateAnswer g c (certificate_answer g (plain c))
+comes_to g c = (certificates_are_answered g c (certificate_answer g (plain c))).1 refl
 
-some_proof : (p q : Proof) → proved p ≡ proved q → p ≡ q
-some_proof p q e = ap (λ (r : Result Proof Reject). elim r as (λ _. Proof) [ Ok v ↦ v | Err f ↦ p ]) e
-
--- an accepted certificate and its line
-pub is_accepted : (g : GridData) (c : Certificate) (proof : Proof) (line : List ℕ) → IsAccepted g c
-    → Holds g c.start c.goal proof → proved proof ≡ proved (claimed c.claim) → line ≡ proof_line proof
-    → IsVerdict g c line 0
-is_accepted g c proof line a h e l =
-    let same = some_proof proof (claimed c.claim) e in
-    subst (λ (t : List ℕ). IsVerdict g c t 0) (sym (l ∙ ap proof_line same))
-    (accepted a (subst (λ (p : Proof). Holds g c.start c.goal p) same h))
-
--- and a refused one
-pub is_refused : (g : GridData) (c : Certificate) (why : Reject) (line : List ℕ) → Refuses g c why
-    → line ≡ reject_line why → IsVerdict g c line 1
-is_refused g c why line r l = subst (λ (t : List ℕ). IsVerdict g c t 1) (sym l) (refused why r)
+-- so each certificate has a verdict
+pub verdict_of : (g : GridData) (c : Certificate) (answer : Result Proof Reject)
+    → answer ≡ certificate_answer g (plain c) → (line : List ℕ) (status : ℕ)
+    → line ≡ verdict_line answer → status ≡ verdict_status answer → IsVerdict g c line status
+verdict_of g c answer e line status l s =
+    let says = answer_tells g c (certificate_answer g (plain c)) (comes_to g c) in
+    record {
+      line_is = l ∙ ap verdict_line e;
+      status_is = s ∙ ap verdict_status e;
+      accepted = both (certificate_answer g (plain c)) says;
+      refused = says.err;
+    }
+  where
+    both : (answer : Result Proof Reject) → Tells g c answer
+        → IfOk answer (λ proof. IsAccepted g c × Holds g c.start c.goal proof)
+    both (Ok proof) says = (says.ok, says.holds)
+    both (Err why) says = tt

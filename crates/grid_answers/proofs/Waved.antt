@@ -1,21 +1,23 @@
 -- The lines of costs.
-use Rattle.std.proofs.Common.{◌≡◌, ◌≤◌, ◌<◌, ◌+◌, zero, suc, refl, sym, ap, ◌∙◌, subst, List, [], ◌∷◌, ◌++◌}
+use Rattle.std.proofs.Common.{◌≡◌, ◌≤◌, ◌<◌, ◌+◌, ◌-◌, zero, suc, refl, sym, ap, ◌∙◌, subst, List, [], ◌∷◌, ◌++◌}
 use Rattle.std.proofs.Common.{ℕ, Bool, true, false, inl, inr, map, append-nil, append_assoc, arith}
 use Rattle.std.specs.Prelude.{◌≢◌, ◌&&◌, nat_lt, if◌then◌else◌, codes, OnOk, Option, None, Result, Ok, Err}
 use Rattle.std.specs.Global.{Vec}
 use Rattle.std.proofs.lemmas.Bool.Decides.{nat_tests}
 use Rattle.std.proofs.lemmas.List.{map-append}
 use Rattle.root2_cost.specs.declared.Cost.{Cost}
-use Rattle.cost_waves.specs.Begin.{IsCostTo}
 use Rattle.cost_waves.specs.Stored.{Tells, WaveData, cost_at}
 use Rattle.grid_moves.specs.declared.Cell.{Cell}
-use Rattle.grid_moves.specs.Grid.{GridData}
+use Rattle.grid_moves.specs.Grid.{GridData, is_free}
+use Rattle.grid_moves.proofs.Legal.{free_inside}
 use Rattle.grid_moves.specs.Layers.{Layers, is_free_ground, query_grid}
-use Rattle.grid_answers.specs.Distances.{AreCostLines, AreCosts, IsCostLine, cost_field, costs_line}
-use Rattle.grid_answers.specs.Distances.{fields_to, more, none}
+use Rattle.grid_answers.specs.Distances.{AreCosts, cost_field, row_line, cost_lines, line_of_costs, fields_to}
+use Rattle.grid_answers.specs.Distances.{numbers_below}
+use Rattle.plain_search.specs.Costs.{least_cost}
+use Rattle.plain_search.proofs.LeastCosts.{costs_are}
 use Rattle.grid_answers.specs.OfCell.{answered}
-use Rattle.grid_answers.specs.Telling.{ArePrinted, HavePrinted, TellCosts, numbers_below, row_costs}
-use Rattle.grid_answers.specs.Telling.{printed_line}
+use Rattle.grid_answers.specs.Printing.{ArePrinted, HavePrinted, TellCosts, printed_line, row_costs}
+use Rattle.grid_answers.proofs.Cells.{free-on}
 use Rattle.line_work.specs.Working.{Adds, CanComplete, IsLeft}
 use Rattle.grid_answers.specs.declared.costs.Distances.{Distances}
 use Rattle.grid_answers.specs.declared.costs.CostLines.TheVariants as written
@@ -97,28 +99,42 @@ both : (a b : Bool) → a ≡ true → b ≡ true → (a && b) ≡ true
 both true b e f = f
 both false b e f = e
 
-module _ (g : GridData) (s : Cell) (w : WaveData) (tells : Tells g s w) (wide : w.width ≡ g.width)
-    (high : w.height ≡ g.height) where
-  cost-line : (y : ℕ) → y < g.height → IsCostLine g s y (printed_line w y)
-  cost-line y low = record {
-    costs = row_costs w y;
-    right = λ x near.
-        let c : Cell = record { x = x; y = y } in
-        subst (λ (o : Option Cost). IsCostTo g s c o)
-        (sym (within (nat_lt x w.width) (nat_lt y w.height) (cost_at w c)
-        (below_test x w.width (omega (arith, near, wide)))
-        (below_test y w.height (omega (arith, low, high)))))
-        (tells.costs c (both (nat_lt x g.width) (nat_lt y g.height) (below_test x g.width near)
-        (below_test y g.height low)));
-    is = ap (λ (k : ℕ). costs_line k (row_costs w y)) wide;
-  }
+-- fields of the same costs are the same
+fields-same : (p q : ℕ → Option Cost) (n : ℕ) → ((x : ℕ) → x ≤ n → p x ≡ q x) → fields_to p n ≡ fields_to q n
+fields-same p q zero same = ap (λ (c : Option Cost). cost_field c) (same 0 (omega arith))
+fields-same p q (suc n) same =
+    ap (λ (f : List ℕ). f ++ codes " " ++ cost_field (p (suc n)))
+    (fields-same p q n (λ x below. same x (omega arith)))
+    ∙ ap (λ (c : Option Cost). fields_to q n ++ codes " " ++ cost_field c) (same (suc n) (omega arith))
 
-  pub cost-lines : (n : ℕ) → n ≤ g.height → AreCostLines g s n (map (printed_line w) (numbers_below n))
-  cost-lines zero low = none
-  cost-lines (suc n) low = subst (λ (l : List (List ℕ)). AreCostLines g s (suc n) l)
-      (sym (map-append (printed_line w) (numbers_below n) (n ∷ [])))
-      (more n (map (printed_line w) (numbers_below n)) (printed_line w n) (cost-lines n (omega arith))
-      (cost-line n (omega arith)))
+-- what a pass from a free cell stores are its least costs
+module _ (g : GridData) (s : Cell) (free : is_free g s ≡ true) (w : WaveData) (tells : Tells g s w)
+    (wide : w.width ≡ g.width) (high : w.height ≡ g.height) where
+  cost-is : (y x : ℕ) → y < g.height → x < g.width → row_costs w y x ≡ least_cost g s (record { x = x; y = y })
+  cost-is y x low near =
+      let c : Cell = record { x = x; y = y } in
+      within (nat_lt x w.width) (nat_lt y w.height) (cost_at w c)
+      (below_test x w.width (omega (arith, near, wide)))
+      (below_test y w.height (omega (arith, low, high)))
+      ∙ (costs_are g s c free).only (cost_at w c) (tells.costs c (both (nat_lt x g.width) (nat_lt y g.height)
+      (below_test x g.width near) (below_test y g.height low)))
+
+  line-is : (y : ℕ) → y < g.height → printed_line w y ≡ row_line g s y
+  line-is y low =
+      let some : s.x < g.width = (free_inside g s free).0 in
+      ap (λ (k : ℕ). line_of_costs k (row_costs w y)) wide
+      ∙ ap (λ (f : List ℕ). f ++ codes "\n") (fields-same (row_costs w y)
+      (λ x. least_cost g s (record { x = x; y = y })) (g.width - 1)
+      (λ x near. cost-is y x low (omega (arith, some, near))))
+
+  lines-are : (n : ℕ) → n ≤ g.height
+      → map (printed_line w) (numbers_below n) ≡ map (row_line g s) (numbers_below n)
+  lines-are zero low = refl
+  lines-are (suc n) low =
+      map-append (printed_line w) (numbers_below n) (n ∷ [])
+      ∙ ap (λ (l : List (List ℕ)). l ++ printed_line w n ∷ []) (lines-are n (omega arith))
+      ∙ ap (λ (l : List ℕ). map (row_line g s) (numbers_below n) ++ l ∷ []) (line-is n (omega arith))
+      ∙ sym (map-append (row_line g s) (numbers_below n) (n ∷ []))
 
 -- what one pass found is printed
 pub cost-rows : (ls : Layers) (s : Cell) (job : Distances) (rows : Vec ℕ) (g : GridData) (h : ℕ)
@@ -127,11 +143,10 @@ pub cost-rows : (ls : Layers) (s : Cell) (job : Distances) (rows : Vec ℕ) (g :
     → TellCosts ls s (written.Rows job rows)
 cost-rows ls s job rows g h is free tells wide high below is_h = λ lines status t. (
   t.good,
-  answered lines free (subst (λ (k : GridData). AreCostLines k s k.height lines) is
-      (subst (λ (l : List (List ℕ)). AreCostLines g s g.height l)
-      (sym (t.all ∙ ap (λ (l : List ℕ). map (printed_line job.waves) l)
-      (below ∙ ap numbers_below is_h)))
-      (cost-lines g s job.waves tells wide high g.height (omega arith)))),
+  answered lines free (
+      t.all ∙ ap (λ (l : List ℕ). map (printed_line job.waves) l) (below ∙ ap numbers_below is_h)
+      ∙ lines-are g s (free-on ls s g is free) job.waves tells wide high g.height (omega arith)
+      ∙ ap (λ (k : GridData). cost_lines k s) is),
 )
 
 -- a line alone is printed

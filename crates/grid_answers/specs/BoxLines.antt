@@ -1,8 +1,7 @@
 -- What `boxes` prints.
-use Rattle.std.specs.Prelude.{◌≡◌, ℕ, List, ◌∷◌, ◌++◌, codes, decimal, replicate, Option, Some, None, refl}
+use Rattle.std.specs.Prelude.{◌≡◌, ℕ, List, ◌++◌, codes, decimal, Option, Some, None, refl}
 use Rattle.goal_boxes.specs.declared.area.Area.{Area}
-use Rattle.goal_boxes.specs.declared.around.CellBoxes.{CellBoxes}
-use Rattle.goal_boxes.specs.Box.{AreBoxes, box_in}
+use Rattle.goal_boxes.specs.Made.{box_of}
 use Rattle.grid_moves.specs.declared.Cell.{Cell}
 use Rattle.grid_moves.specs.declared.Dir.{Dir}
 use Rattle.grid_moves.specs.declared.Dir.TheVariants.{SE, NW}
@@ -18,29 +17,27 @@ area_text (Some a) = decimal a.x0 ++ codes " " ++ decimal a.y0 ++ codes " " ++ d
     ++ decimal a.y1
 
 -- the line of the box in a direction
-abbrev pub box_line : CellBoxes → Dir → List ℕ
-box_line b d = codes "box " ++ dir_text d ++ codes " " ++ area_text (box_in b d) ++ codes "\n"
+abbrev pub box_line : (Dir → Option Area) → Dir → List ℕ
+box_line box d = codes "box " ++ dir_text d ++ codes " " ++ area_text (box d) ++ codes "\n"
 
 -- eight lines, in the order of the directions' numbers
-abbrev pub boxes_text : CellBoxes → List ℕ
-boxes_text b = texts_of (box_line b) all_dirs
+abbrev pub boxes_text : (Dir → Option Area) → List ℕ
+boxes_text box = texts_of (box_line box) all_dirs
 
 -- what is printed of the boxes of s: those on the grid of the cell, or why there are none
 abbrev pub IsBoxText : Layers → Cell → List ℕ → Type 0
-IsBoxText ls s text = IsAnsweredOf ls s (λ line. line)
-    (λ g printed. (b : CellBoxes) × AreBoxes g s b × (printed ≡ boxes_text b)) text
+IsBoxText ls s text = IsAnsweredOf ls s (λ line. line) (λ g printed. printed ≡ boxes_text (box_of g s)) text
 
 -- the box to the lower right of the upper left cell of an open map of three columns and three rows
-abbrev corner_boxes : CellBoxes
-corner_boxes = record {
-  areas = None ∷ None ∷ None ∷ Some (record { x0 = 1; y0 = 1; x1 = 2; y1 = 2 }) ∷ replicate 4 None;
-}
+abbrev corner_box : Dir → Option Area
+corner_box SE = Some (record { x0 = 1; y0 = 1; x1 = 2; y1 = 2 })
+corner_box d = None
 
-pub lower_right : box_line corner_boxes SE
+pub lower_right : box_line corner_box SE
     ≡ codes "box SE " ++ decimal 1 ++ codes " " ++ decimal 1 ++ codes " " ++ decimal 2 ++ codes " "
     ++ decimal 2
     ++ codes "\n"
 lower_right = refl
 
-pub no_box : box_line corner_boxes NW ≡ codes "box NW none\n"
+pub no_box : box_line corner_box NW ≡ codes "box NW none\n"
 no_box = refl

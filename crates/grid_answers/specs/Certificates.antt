@@ -1,11 +1,14 @@
 -- What `prove` and `check` print.
-use Rattle.std.specs.Prelude.{◌≡◌, ℕ, true, false, ◌&&◌, List, ◌++◌, codes, decimal}
+use Rattle.std.specs.Prelude.{◌≡◌, ℕ, true, false, ◌&&◌, List, ◌++◌, codes, decimal, Result, Ok, Err, IfOk}
+use Rattle.std.specs.Prelude.{IfErr}
 use Rattle.grid_moves.specs.declared.Cell.{Cell}
 use Rattle.grid_moves.specs.Grid.{GridData}
 use Rattle.grid_moves.specs.Layers.{Layers, in_one_layer, is_on_map, query_grid}
 use Rattle.grid_moves.specs.Reply.{are_free_ends}
 use Rattle.cell_lines.specs.Cells.{cell_text}
-use Rattle.potential_check.specs.Accepted.{Holds, IsAccepted, Refuses, claimed}
+use Rattle.potential_check.specs.Accepted.{Holds, IsAccepted, Refuses}
+use Rattle.potential_check.specs.Answers.{certificate_answer}
+use Rattle.potential_check.specs.Text.{plain}
 use Rattle.potential_check.specs.declared.certificate.Certificate.{Certificate}
 use Rattle.potential_check.specs.declared.verdict.Proof.{Proof}
 use Rattle.potential_check.specs.declared.verdict.Proof.TheVariants as proof
@@ -43,8 +46,20 @@ reject_line reject.Goal = codes "refused goal\n"
 reject_line (reject.Move u v) = codes "refused move " ++ move_text u v ++ codes "\n"
 reject_line (reject.Open u v) = codes "refused open " ++ move_text u v ++ codes "\n"
 
--- the line of a certificate on a grid, and the status; what an accepted one claims holds of all walks
-pub data IsVerdict (g : GridData) (c : Certificate) : List ℕ → ℕ → Type 0 where
-  accepted : IsAccepted g c → Holds g c.start c.goal (claimed c.claim)
-      → IsVerdict g c (proof_line (claimed c.claim)) 0
-  refused : (why : Reject) → Refuses g c why → IsVerdict g c (reject_line why) 1
+-- the line of what a certificate comes to
+abbrev pub verdict_line : Result Proof Reject → List ℕ
+verdict_line (Ok proof) = proof_line proof
+verdict_line (Err why) = reject_line why
+
+-- and the status
+abbrev pub verdict_status : Result Proof Reject → ℕ
+verdict_status (Ok proof) = 0
+verdict_status (Err why) = 1
+
+-- the line and the status of a certificate on a grid are those of what it comes to. An accepted one meets all
+-- clauses, and what it claims holds of all walks; a refused one fails the clause that is named, and none before it
+pub record IsVerdict (g : GridData) (c : Certificate) (line : List ℕ) (status : ℕ) : Type 0 where
+  pub line_is : line ≡ verdict_line (certificate_answer g (plain c))
+  pub status_is : status ≡ verdict_status (certificate_answer g (plain c))
+  pub accepted : IfOk (certificate_answer g (plain c)) (λ proof. IsAccepted g c × Holds g c.start c.goal proof)
+  pub refused : IfErr (certificate_answer g (plain c)) (Refuses g c)

@@ -2,6 +2,6 @@ pub mod OfCell
 pub mod BoxLines
 pub mod RunLines
 pub mod Distances
-pub mod Telling
+pub mod Printing
 pub mod Certificates
 pub mod Encoded

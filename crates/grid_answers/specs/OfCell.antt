@@ -9,10 +9,10 @@ pub data IsUnanswered (ls : Layers) (s : Cell) : List ℕ → Type 0 where
   outside : is_on_map ls s ≡ false → IsUnanswered ls s (codes "outside\n")
   blocked : is_on_map ls s ≡ true → is_free_ground ls s ≡ false → IsUnanswered ls s (codes "blocked\n")
 
--- this line alone, or what is printed of a free cell on its grid, as it is known to be
+-- the line that says why nothing is printed, alone; or, where the cell is free, something that is such on its grid
 pub data IsAnsweredOf {X : Type 0} (ls : Layers) (s : Cell) (alone : List ℕ → X)
-    (Known : GridData → X → Type 0)
+    (Such : GridData → X → Type 0)
     : X → Type 0 where
-  unanswered : (line : List ℕ) → IsUnanswered ls s line → IsAnsweredOf ls s alone Known (alone line)
-  answered : (what : X) → is_free_ground ls s ≡ true → Known (query_grid ls s) what
-      → IsAnsweredOf ls s alone Known what
+  unanswered : (line : List ℕ) → IsUnanswered ls s line → IsAnsweredOf ls s alone Such (alone line)
+  answered : (what : X) → is_free_ground ls s ≡ true → Such (query_grid ls s) what
+      → IsAnsweredOf ls s alone Such what

@@ -2,7 +2,7 @@
 use Rattle.std.specs.Prelude.{◌≡◌, ◌%◌, ◌/◌, ℕ, List, ◌++◌, codes, decimal, Option, Some, None}
 use Rattle.std.specs.Prelude.{refl}
 use Rattle.first_moves.specs.declared.row.Run.{Run}
-use Rattle.first_moves.specs.Row.{IsRow}
+use Rattle.first_moves.specs.Row.{row_of}
 use Rattle.grid_moves.specs.declared.Cell.{Cell}
 use Rattle.grid_moves.specs.declared.Dir.{Dir}
 use Rattle.grid_moves.specs.declared.Dir.TheVariants.{E}
@@ -29,7 +29,7 @@ runs_text width runs = texts_of (run_line width) runs
 -- none
 abbrev pub IsRunText : Layers → Cell → List ℕ → Type 0
 IsRunText ls s text = IsAnsweredOf ls s (λ line. line)
-    (λ g printed. (runs : List Run) × IsRow g s runs × (printed ≡ runs_text g.width runs)) text
+    (λ g printed. printed ≡ runs_text g.width (row_of g s)) text
 
 -- on a map of three columns, the runs that begin at the cells with the numbers 0 and 5
 pub nothing_leads : run_line 3 (record { start = 0; first = None })

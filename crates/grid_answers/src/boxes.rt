@@ -34,7 +34,7 @@ fn put_area(out: &mut Vec<u8>, area: Option<Area>) -> Result<(), NoMemory>
 
 // Appends the line of the box in a direction.
 fn put_box(out: &mut Vec<u8>, boxes: CellBoxes, d: Dir) -> Result<(), NoMemory>
-    ensures { OnOk result (out.new.items ≡ out.old.items ++ spec.box_line boxes d) }
+    ensures { OnOk result (out.new.items ≡ out.old.items ++ spec.box_line (box_in boxes) d) }
 {
     put(out, b"box ")?;
     put(out, dir_text(d))?;
@@ -45,7 +45,7 @@ fn put_box(out: &mut Vec<u8>, boxes: CellBoxes, d: Dir) -> Result<(), NoMemory>
 
 // Appends a line for each of these directions.
 fn put_boxes(out: &mut Vec<u8>, boxes: CellBoxes, dirs: &[Dir]) -> Result<(), NoMemory>
-    ensures { OnOk result (out.new.items ≡ out.old.items ++ texts_of (spec.box_line boxes) dirs.now) }
+    ensures { OnOk result (out.new.items ≡ out.old.items ++ texts_of (spec.box_line (box_in boxes)) dirs.now) }
 {
     for d in dirs {
         put_box(out, boxes, *d)?;
@@ -55,7 +55,7 @@ fn put_boxes(out: &mut Vec<u8>, boxes: CellBoxes, dirs: &[Dir]) -> Result<(), No
 
 // The lines of all eight boxes.
 fn lines_of(alloc: Global, boxes: CellBoxes) -> Result<Vec<u8>, NoMemory>
-    ensures { IfOk result (λ text. text.items ≡ spec.boxes_text boxes) }
+    ensures { IfOk result (λ text. text.items ≡ spec.boxes_text (box_in boxes)) }
 {
     let mut text = Vec::new(alloc);
     put_boxes(&mut text, boxes, &ALL_DIRS)?;

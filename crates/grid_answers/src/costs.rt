@@ -4,7 +4,7 @@ ghost use Rattle.std.specs.Prelude.{◌≡◌, ◌++◌, ◌-◌, true, IfOk, On
 ghost use Rattle.grid_moves.specs.Layers.{is_free_ground, is_on_map};
 ghost use Rattle.grid_answers.specs.Distances as spec;
 ghost use Rattle.line_work.specs.Sending.{SendsWhole};
-ghost use Rattle.grid_answers.specs.Telling as telling;
+ghost use Rattle.grid_answers.specs.Printing as printing;
 
 use crate::NoMemory;
 use crate::cell::free_cell;
@@ -35,7 +35,7 @@ pub enum CostLines {
 
 impl Job for Distances {
     ghost use Rattle.std.specs.Prelude.{⊤, false};
-    ghost use Rattle.grid_answers.specs.Telling.{ArePrinted, HavePrinted};
+    ghost use Rattle.grid_answers.specs.Printing.{ArePrinted, HavePrinted};
 
     type Item = u16;
 
@@ -66,9 +66,9 @@ impl Job for Distances {
     }
 }
 
-// The cost that is stored of a cell, where it lies inside.
+// The cost that is stored for a cell, where it lies inside.
 fn cost_within(waves: &CostWaves, c: Cell) -> Option<Cost>
-    ensures { result ≡ telling.cost_within waves.now c }
+    ensures { result ≡ printing.cost_within waves.now c }
 {
     if c.x < waves.width() && c.y < waves.height() {
         waves.cost(c)
@@ -94,7 +94,7 @@ fn put_field(out: &mut Vec<u8>, cost: Option<Cost>) -> Result<(), NoMemory>
 // Appends the fields of a row.
 fn put_fields(out: &mut Vec<u8>, waves: &CostWaves, y: u16) -> Result<(), NoMemory>
     ensures { OnOk result (out.new.items ≡
-        out.old.items ++ spec.fields_to (telling.row_costs waves.now y) (waves.now.width - 1)) }
+        out.old.items ++ spec.fields_to (printing.row_costs waves.now y) (waves.now.width - 1)) }
 {
     put_field(out, cost_within(waves, Cell { x: 0, y }))?;
     for x in 0..waves.width().saturating_sub(1) {
@@ -106,7 +106,7 @@ fn put_fields(out: &mut Vec<u8>, waves: &CostWaves, y: u16) -> Result<(), NoMemo
 
 // Appends the line of a row.
 fn put_costs(out: &mut Vec<u8>, waves: &CostWaves, y: u16) -> Result<(), NoMemory>
-    ensures { OnOk result (out.new.items ≡ out.old.items ++ telling.printed_line waves.now y) }
+    ensures { OnOk result (out.new.items ≡ out.old.items ++ printing.printed_line waves.now y) }
 {
     put_fields(out, waves, y)?;
     put(out, b"\n")
@@ -119,7 +119,7 @@ pub fn write_costs<O: Sink, L: Ledger>(
     out: &mut O,
     steps: &mut Steps<L>,
 ) -> Result<u8, Stop>
-    ensures { SendsWhole (telling.AreWritten lines.old) (O.outflow out.old) (O.outflow out.new) result }
+    ensures { SendsWhole (printing.AreWritten lines.old) (O.outflow out.old) (O.outflow out.new) result }
 {
     match lines {
         CostLines::Rows { job, rows } => work_items(alloc, job, rows.as_slice(), out, steps),
@@ -129,7 +129,7 @@ pub fn write_costs<O: Sink, L: Ledger>(
 
 // The numbers of so many rows.
 fn numbers_below(alloc: Global, height: u16) -> Result<Vec<u16>, NoMemory>
-    ensures { IfOk result (λ rows. rows.items ≡ telling.numbers_below height) }
+    ensures { IfOk result (λ rows. rows.items ≡ spec.numbers_below height) }
 {
     let mut rows = Vec::new(alloc);
     for y in 0..height {
@@ -141,7 +141,7 @@ fn numbers_below(alloc: Global, height: u16) -> Result<Vec<u16>, NoMemory>
 // One pass from a free cell.
 fn costs_from(alloc: Global, layers: &Layers, from: Cell) -> Result<CostLines, NoMemory>
     requires { is_free_ground layers.now from ≡ true }
-    ensures { IfOk result (telling.TellCosts layers.now from) }
+    ensures { IfOk result (printing.TellCosts layers.now from) }
 {
     let grid = layers.query_grid(from);
     let mut waves = CostWaves::new(alloc, grid.width(), grid.height())?;
@@ -153,7 +153,7 @@ fn costs_from(alloc: Global, layers: &Layers, from: Cell) -> Result<CostLines, N
 
 /// The costs from the cell of this column and row, by one pass over the grid of the cell.
 pub fn costs_at(alloc: Global, layers: &Layers, x: u32, y: u32) -> Result<CostLines, NoMemory>
-    ensures { IfOk result (telling.TellCosts layers.now (record { x = x; y = y })) }
+    ensures { IfOk result (printing.TellCosts layers.now (record { x = x; y = y })) }
 {
     match free_cell(layers, x, y) {
         Ok(from) => costs_from(alloc, layers, from),

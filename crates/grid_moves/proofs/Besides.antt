@@ -167,7 +167,7 @@ passes : (r : Corner) (a p b c y z : Bool) → p ≡ is_passable r b c → b ≡
     → (a && p) ≡ (a && is_passable r y z)
 passes r a p b c y z h k l = rw (h, k, l) refl
 
--- the moves that the cells around tell of, once read: which passages are open is told by the straight ones
+-- the moves that the cells around tell of, once read: which passages are open follows from the straight ones
 module _ (g : GridData) (c : Cell) (free : is_free g c ≡ true) (rule : Corner) (same : rule ≡ g.corner)
     (a : Around)
     (n : a.n ≡ is_open g c N) (e : a.e ≡ is_open g c E) (s : a.s ≡ is_open g c S) (w : a.w ≡ is_open g c W)

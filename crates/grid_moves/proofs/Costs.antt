@@ -1,4 +1,4 @@
--- What a move costs is told by its direction.
+-- What a move costs follows from its direction.
 use Rattle.std.proofs.Common.{◌≡◌, ℕ, zero, suc, ◌+◌, ◌⊎◌, inl, inr, arith, true, false, ◌||◌, refl, subst}
 use Rattle.std.specs.Prelude.{⊤, Option, Some, None, nat_eq}
 use Rattle.std.proofs.lemmas.Bool.Decides.{nat_tests}

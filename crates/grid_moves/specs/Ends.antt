@@ -23,6 +23,7 @@ IsUnplaced ls s unplaced.Blocked = (is_on_map ls s ≡ true) × (is_free_ground 
 pub record AreEnds (ls : Layers) (s t : Cell) (ends : Ends) : Type 0 where
   pub from : ends.from ≡ s
   pub to : ends.to ≡ t
+  pub on : (is_on_map ls s && is_on_map ls t) ≡ true
   pub free : are_free_ends ls s t ≡ true
   pub one : in_one_layer ls s t ≡ true
 
@@ -30,6 +31,7 @@ pub record AreEnds (ls : Layers) (s t : Cell) (ends : Ends) : Type 0 where
 pub record AreApart (ls : Layers) (s t : Cell) (ends : Ends) : Type 0 where
   pub from : ends.from ≡ s
   pub to : ends.to ≡ t
+  pub on : (is_on_map ls s && is_on_map ls t) ≡ true
   pub free : are_free_ends ls s t ≡ true
   pub two : in_one_layer ls s t ≡ false
 

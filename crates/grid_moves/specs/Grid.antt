@@ -1,9 +1,9 @@
 -- Maps and grids: which cells are free.
 -- Bytes after Sturtevant's benchmark format (movingai.com); what each of them stands for is this project's
 -- profile.
-use Rattle.std.specs.Prelude.{◌≡◌, ℕ, ◌+◌, ◌*◌, ◌≤◌, Bool, true, false, nat_lt, nat_eq, ◌&&◌, ◌||◌}
+use Rattle.std.specs.Prelude.{◌≡◌, ℕ, ◌+◌, ◌*◌, ◌/◌, ◌%◌, ◌≤◌, Bool, true, false, nat_lt}
 use Rattle.std.specs.Prelude.{if◌then◌else◌, refl, List, [], ◌∷◌, length, slice_index_or, slice_set, map}
-use Rattle.std.specs.Prelude.{codes}
+use Rattle.std.specs.Prelude.{codes, nat_eq, ◌&&◌, ◌||◌}
 use Rattle.grid_moves.specs.declared.Cell.{Cell}
 use Rattle.grid_moves.specs.declared.Corner.{Corner}
 use Rattle.grid_moves.specs.declared.Corner.TheVariants.{Never}
@@ -32,6 +32,10 @@ pub record IsGrid (g : GridData) : Type 0 where
 -- cells are numbered row by row from the upper left, from 0
 abbrev pub cell_number : ℕ → Cell → ℕ
 cell_number width c = c.y * width + c.x
+
+-- the cell with this number on a map of this width
+abbrev pub cell_numbered : ℕ → ℕ → Cell
+cell_numbered width number = record { x = number % width; y = number / width }
 
 -- the cell lies on the map
 abbrev pub is_inside : GridData → Cell → Bool

@@ -10,5 +10,6 @@ pub mod Ends
 pub mod Laws
 pub mod Ring
 pub mod Around
+pub mod Bits
 pub mod Padded
 pub mod Ruled

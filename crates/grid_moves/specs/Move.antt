@@ -1,9 +1,9 @@
 -- Legal moves: eight directions, and a corner rule.
 -- No corner is cut: Harabor and Grastien, SoCS 2012. One blocked cell may be passed: their AAAI 2011. Two may
 -- be: Godot's grid unless set otherwise.
-use Rattle.std.specs.Prelude.{◌≡◌, ℕ, zero, suc, ◌+◌, Option, Some, None, Bool, true, false, nat_le, nat_eq}
+use Rattle.std.specs.Prelude.{◌≡◌, ℕ, zero, suc, ◌+◌, ◌-◌, Option, Some, None, Bool, true, false, nat_le, nat_eq}
 use Rattle.std.specs.Prelude.{not, ◌&&◌, ◌||◌, refl, List, [], ◌∷◌, if◌then◌else◌, option_and_then, unwrap_or}
-use Rattle.std.specs.Prelude.{codes}
+use Rattle.std.specs.Prelude.{codes, slice_get}
 use Rattle.root2_cost.specs.declared.Cost.{Cost}
 use Rattle.grid_moves.specs.declared.Cell.{Cell}
 use Rattle.grid_moves.specs.declared.Dir.{Dir}
@@ -68,6 +68,10 @@ dir_number S = 4
 dir_number SW = 5
 dir_number W = 6
 dir_number NW = 7
+
+-- the direction of a number, if it has one
+abbrev pub dir_of_number : ℕ → Option Dir
+dir_of_number n = slice_get all_dirs n
 
 -- the directions are one
 abbrev pub is_dir : Dir → Dir → Bool
@@ -135,6 +139,31 @@ ahead d c = option_and_then (λ x. option_and_then (λ y. Some (record { x = x; 
 abbrev pub beyond : Dir → Cell → Cell
 beyond d c = record { x = unwrap_or (column_ahead d c.x) 65535; y = unwrap_or (row_ahead d c.y) 65535 }
 
+-- the column and the row after so many moves
+abbrev pub column_after : Dir → ℕ → ℕ → ℕ
+column_after N k x = x
+column_after NE k x = x + k
+column_after E k x = x + k
+column_after SE k x = x + k
+column_after S k x = x
+column_after SW k x = x - k
+column_after W k x = x - k
+column_after NW k x = x - k
+
+abbrev pub row_after : Dir → ℕ → ℕ → ℕ
+row_after N k y = y - k
+row_after NE k y = y - k
+row_after E k y = y
+row_after SE k y = y + k
+row_after S k y = y + k
+row_after SW k y = y + k
+row_after W k y = y
+row_after NW k y = y - k
+
+-- the cell after so many moves, where they do not lead off the map's upper or left side
+abbrev pub cell_after : Dir → ℕ → Cell → Cell
+cell_after d k c = record { x = column_after d k c.x; y = row_after d k c.y }
+
 -- the cell behind, from which a move in this direction comes, if there is one
 abbrev pub behind : Dir → Cell → Option Cell
 behind d c = ahead (opposite d) c
@@ -151,6 +180,13 @@ is_open g c d = is_free_cell g (ahead d c)
 -- the cell ahead, where the move to it is legal
 abbrev pub legal_ahead : GridData → Cell → Dir → Option Cell
 legal_ahead g c d = option_and_then (λ v. if is_legal g c v then Some v else None) (ahead d c)
+
+-- eight directions have numbers
+pub last_dir : dir_of_number 7 ≡ Some NW
+last_dir = refl
+
+pub no_dir : dir_of_number 8 ≡ None
+no_dir = refl
 
 -- a straight move along the pillar is legal under each rule
 pub along_the_pillar : is_legal (pillar Never) (record { x = 0; y = 0 }) (record { x = 1; y = 0 }) ≡ true

@@ -1,4 +1,4 @@
--- The cells around a cell, told by the direction to them, and the moves that they tell of.
+-- The cells around a cell, by the direction to them, and the moves that they tell of.
 use Rattle.std.specs.Prelude.{◌≡◌, Bool, true, false, not, ◌&&◌, refl}
 use Rattle.grid_moves.specs.declared.Corner.{Corner}
 use Rattle.grid_moves.specs.declared.Corner.TheVariants.{Never, One, Both}
@@ -7,7 +7,7 @@ use Rattle.grid_moves.specs.declared.Dir.TheVariants.{N, NE, E, SE, S, SW, W, NW
 use Rattle.grid_moves.specs.declared.ring.Ring.{Ring}
 use Rattle.grid_moves.specs.Move.{is_passable}
 
--- what is told of each direction
+-- what a function says of each direction
 abbrev pub ring_by : (Dir → Bool) → Ring
 ring_by free = record {
   n = free N;

@@ -84,41 +84,8 @@ fn is_open_past<T: Terrain>(t: &T, c: Cell, d: Dir, passes: bool) -> bool
     passes & t.open(c, d)
 }
 
-impl Around {
-    /// Reads the cells around a free cell. They are no `Ring` here: its eight flags would be packed into a
-    /// word, and a plain search would take a sixth more instructions.
-    #[inline(always)]
-    pub fn of<T: Terrain>(t: &T, c: Cell) -> Around
-        requires free { is_free (T.grid t.now) c ≡ true }
-        requires whole { IsGrid (T.grid t.now) }
-        ensures around { IsAround (T.grid t.now) c result }
-        ensures ends { (d : _) → end_of result c d ≡ moves.beyond d c }
-    {
-        let (left, right) = (before(c.x), c.x + 1);
-        let (up, down) = (before(c.y), c.y + 1);
-        let n = t.open(c, Dir::N);
-        let e = t.open(c, Dir::E);
-        let s = t.open(c, Dir::S);
-        let w = t.open(c, Dir::W);
-        let pass = Passages::between(t.corner(), n, e, s, w);
-        Around {
-            left,
-            right,
-            up,
-            down,
-            n,
-            ne: is_open_past(t, c, Dir::NE, pass.ne),
-            e,
-            se: is_open_past(t, c, Dir::SE, pass.se),
-            s,
-            sw: is_open_past(t, c, Dir::SW, pass.sw),
-            w,
-            nw: is_open_past(t, c, Dir::NW, pass.nw),
-        }
-    }
-}
-
-/// The legal moves from a free cell.
+/// The legal moves from a free cell, with the cells around it read once. These are no `Ring` here: its eight flags
+/// would be packed into a word, and a plain search would take a sixth more instructions.
 #[inline(always)]
 pub fn moves_around<T: Terrain>(t: &T, c: Cell) -> Around
     requires free { is_free (T.grid t.now) c ≡ true }
@@ -126,5 +93,25 @@ pub fn moves_around<T: Terrain>(t: &T, c: Cell) -> Around
     ensures around { IsAround (T.grid t.now) c result }
     ensures ends { (d : _) → end_of result c d ≡ moves.beyond d c }
 {
-    Around::of(t, c)
+    let (left, right) = (before(c.x), c.x + 1);
+    let (up, down) = (before(c.y), c.y + 1);
+    let n = t.open(c, Dir::N);
+    let e = t.open(c, Dir::E);
+    let s = t.open(c, Dir::S);
+    let w = t.open(c, Dir::W);
+    let pass = Passages::between(t.corner(), n, e, s, w);
+    Around {
+        left,
+        right,
+        up,
+        down,
+        n,
+        ne: is_open_past(t, c, Dir::NE, pass.ne),
+        e,
+        se: is_open_past(t, c, Dir::SE, pass.se),
+        s,
+        sw: is_open_past(t, c, Dir::SW, pass.sw),
+        w,
+        nw: is_open_past(t, c, Dir::NW, pass.nw),
+    }
 }

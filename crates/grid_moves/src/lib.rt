@@ -17,13 +17,15 @@ mod moves;
 mod ring;
 mod ruled;
 mod terrain;
+mod word_bits;
 
 pub use around::{Around, moves_around};
 pub use ends::{Ends, Unplaced, Unsearched, ends_between};
 pub use grid::{Grid, ground_of};
 pub use layers::{Layers, cell_at, ground_at, is_free_ground};
 pub use moves::{
-    before, beyond, cell_ahead, cell_behind, dir_number, estimate, move_cost, opposite,
+    before, beyond, cell_ahead, cell_behind, dir_number, dir_of_number, estimate, move_cost,
+    opposite,
 };
 pub use ring::Ring;
 pub use ruled::{Ruled, rule_of_number};
@@ -31,6 +33,7 @@ pub use std::alloc::AllocError as NoMemory;
 pub use terrain::{
     Terrain, is_inside, is_legal, is_passable, may_cut, may_slip, number_of, passable_bits, step,
 };
+pub use word_bits::is_set;
 
 /// A cell: its column `x`, counted to the right, and its row `y`, counted downwards, both from 0.
 #[derive(Clone, Copy, Debug, PartialEq, Eq)]

@@ -45,6 +45,24 @@ pub fn dir_number(d: Dir) -> u8
     }
 }
 
+/// The direction of a number in their order, if it has one.
+#[inline(always)]
+pub fn dir_of_number(number: usize) -> Option<Dir>
+    ensures { result ≡ spec.dir_of_number number }
+{
+    match number {
+        0 => Some(Dir::N),
+        1 => Some(Dir::NE),
+        2 => Some(Dir::E),
+        3 => Some(Dir::SE),
+        4 => Some(Dir::S),
+        5 => Some(Dir::SW),
+        6 => Some(Dir::W),
+        7 => Some(Dir::NW),
+        _ => None,
+    }
+}
+
 /// The direction back.
 pub fn opposite(d: Dir) -> Dir
     ensures { result ≡ spec.opposite d }

@@ -1,7 +1,7 @@
 //! What a search asks of a grid, and the legal moves on it.
 
-ghost use Rattle.std.specs.Prelude.{◌≡◌, ℕ, ◌+◌, ◌*◌, ◌<◌, ◌≤◌, Some, IfSome, false, true, length, nat_eq, slice_index_or};
-ghost use Rattle.std.specs.Int.{bit_at};
+ghost use Rattle.std.specs.Prelude.{◌≡◌, ℕ, ◌+◌, ◌*◌, ◌<◌, ◌≤◌, Some, IfSome, false, true, length, slice_index_or};
+ghost use Rattle.grid_moves.specs.Bits.{is_set};
 ghost use Rattle.grid_moves.specs.Grid as grids;
 ghost use Rattle.grid_moves.specs.Grid.{GridData, IsGrid, is_free, cell_number};
 ghost use Rattle.grid_moves.specs.Move as spec;
@@ -117,8 +117,7 @@ pub fn may_slip(rule: Corner) -> bool
 /// `is_passable` for each of the 64 bits of two words.
 #[inline(always)]
 pub fn passable_bits(rule: Corner, these: u64, those: u64) -> u64
-    ensures { (j : ℕ) → j < 64 → nat_eq (bit_at result j) 1
-        ≡ spec.is_passable rule (nat_eq (bit_at these j) 1) (nat_eq (bit_at those j) 1) }
+    ensures { (j : ℕ) → j < 64 → is_set result j ≡ spec.is_passable rule (is_set these j) (is_set those j) }
 {
     match rule {
         Corner::Never => these & those,

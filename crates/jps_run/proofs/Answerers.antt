@@ -7,7 +7,8 @@ use Rattle.grid_moves.specs.Grid.{GridData, is_free}
 use Rattle.grid_moves.specs.Layers.{Layers, in_one_layer, query_grid}
 use Rattle.grid_moves.specs.Reply.{IsRight}
 use Rattle.edit_replay.specs.Counting.{RoseByStates, RoseWithin}
-use Rattle.edit_replay.specs.Replies.{IsRunReply, answer_of}
+use Rattle.edit_replay.specs.ReplyOf.{reply_of}
+use Rattle.edit_replay.specs.Replies.{answer_of}
 use Rattle.edit_replay.specs.Session.{SessionData}
 use Rattle.edit_replay.specs.declared.reply.Reply.{Reply}
 use Rattle.jps_run.specs.Answerers.{who_of}
@@ -57,12 +58,12 @@ module _ {E : Type 0} (result : Result Reply E) (a b : Answerer) (is : a ≡ b) 
   most-as old new h = subst (λ (k : Answerer). IfOk result (RoseWithin (most_by (who_of k).by) old new))
       (sym is) h
 
--- a session's reply is right, and that of its run
+-- a session's reply is right, and the one to the query
 pub session-reply : {E : Type 0} (result : Result Reply E) (d : SessionData) (s t : Cell)
-    → IfOk result (λ reply. IsRight d.layers s t (answer_of reply)) → IfOk result (IsRunReply d s t)
-    → IfOk result (IsReplyBy (who_is d) s t)
-session-reply (Err error) d s t right run = tt
-session-reply (Ok reply) d s t right run = record { right = right; run = run }
+    → IfOk result (λ reply. IsRight d.layers s t (answer_of reply))
+    → IfOk result (λ reply. reply ≡ reply_of d.engine d.layers s t) → IfOk result (IsReplyBy (who_is d) s t)
+session-reply (Err error) d s t right is = tt
+session-reply (Ok reply) d s t right is = record { right = right; is = is }
 
 -- boxes and first moves promise no fewest and tell no most
 pub counts-none : {E : Type 0} (result : Result Reply E) (old new : ℕ) → OnOk result (old ≤ new)

@@ -27,7 +27,8 @@ use Rattle.jps_run.specs.declared.replies.findings.Finding.{Finding}
 use Rattle.jps_run.specs.declared.replies.findings.Finding.TheVariants as finding
 use Rattle.jps_run.specs.declared.replies.findings.Summary.{Summary}
 use Rattle.jps_run.proofs.Rising.{rose-more}
-use Rattle.jps_run.proofs.SessionReply.{reply_exists}
+use Rattle.jps_run.proofs.Existing.{reply_exists}
+use Rattle.jps_run.specs.Who.{who_is}
 use Rattle.jps_run.proofs.Solving.{nothing_edited, session-more}
 use Rattle.line_work.proofs.Turns.{turns-more, turns-all}
 
@@ -161,7 +162,7 @@ finding_exists d edits (Free x y) =
 finding_exists d edits (Flood x y) =
     (finding_of_edit (reply_to_edit (session_after d edits) (edit_at x y Water)), refl)
 finding_exists d edits (Query sx sy gx gy) =
-    let r = reply_exists (session_after d edits) (record { x = sx; y = sy }) (record { x = gx; y = gy }) in
+    let r = reply_exists (who_is (session_after d edits)) (record { x = sx; y = sy }) (record { x = gx; y = gy }) in
     (finding_of r.0, record { reply = r.0; is_reply = r.1; is = refl })
 
 -- so the line of the sums can follow

@@ -16,7 +16,7 @@ use Rattle.jps_run.specs.Calls.{MayHear, files_of, reads_input}
 use Rattle.jps_run.specs.Outcome.{Spell, IsOutput, answered, bad_line, bad_word, bad_text, done}
 use Rattle.line_work.specs.Sending.{IsAll, IsPart, AreLines, Wrote}
 use Rattle.line_work.proofs.Pieces.{nothing}
-use Rattle.jps_run.proofs.Opening.{as_known}
+use Rattle.jps_run.proofs.Opening.{as_live}
 
 module _ (words : List (List ℕ)) (holds : List ℕ → Held) (input : Option (List ℕ))
     (out out_now err err_now : Outflow)
@@ -36,8 +36,8 @@ module _ (words : List (List ℕ)) (holds : List ℕ → Held) (input : Option (
 
     heard-by : (call : Call) {refusal : Option (List ℕ)}
         → (h : WroteHeard call holds out out_now input refusal)
-        → AreHeard call holds input h.known.lines refusal
-    heard-by call h = as_known h h.known.stand
+        → AreHeard call holds input h.such.lines refusal
+    heard-by call h = as_live h h.such.stand
 
     -- the call was done
     call-comes : (call : Call) (status : ℕ) → Spell words call
@@ -52,10 +52,10 @@ module _ (words : List (List ℕ)) (holds : List ℕ → Held) (input : Option (
       printed = printed;
     }
     call-comes call status spelled (inr h) printed = record {
-      outcome = record { status = 0; out = h.1.known.lines; line = [] };
-      is = answered call h.1.known.lines spelled (heard-by call h.1);
+      outcome = record { status = 0; out = h.1.such.lines; line = [] };
+      is = answered call h.1.such.lines spelled (heard-by call h.1);
       same_status = sym h.0;
-      wrote = h.1.known.wrote;
+      wrote = h.1.such.wrote;
       printed = printed;
     }
 
@@ -72,10 +72,10 @@ module _ (words : List (List ℕ)) (holds : List ℕ → Held) (input : Option (
       printed = subst (λ (l : List ℕ). Gets err err_now l) e printed;
     }
     text-comes call line bytes spelled (inr h) e printed = record {
-      outcome = record { status = 3; out = h.known.lines; line = line };
-      is = bad_line call h.known.lines line spelled (heard-by call h);
+      outcome = record { status = 3; out = h.such.lines; line = line };
+      is = bad_line call h.such.lines line spelled (heard-by call h);
       same_status = refl;
-      wrote = h.known.wrote;
+      wrote = h.such.wrote;
       printed = subst (λ (l : List ℕ). Gets err err_now l) e printed;
     }
 

@@ -1,111 +1,36 @@
--- For every query there is a right reply, by whoever answers.
-use Rattle.std.proofs.Common.{◌≡◌, Bool, true, false, refl, ◌&&◌, []}
-use Rattle.std.specs.Prelude.{if◌then◌else◌}
+-- For every query there is a right reply, whoever answers.
+use Rattle.std.proofs.Common.{◌≡◌, true, refl}
 use Rattle.std.proofs.lemmas.Bool.{and_parts}
 use Rattle.grid_moves.specs.declared.Cell.{Cell}
-use Rattle.grid_moves.specs.declared.ends.Unsearched.{Unsearched}
-use Rattle.grid_moves.specs.declared.ends.Unsearched.TheVariants as why
-use Rattle.grid_moves.specs.Ends.{IsUnsearched}
 use Rattle.grid_moves.specs.Grid.{GridData, is_free}
-use Rattle.grid_moves.specs.Layers.{Layers, in_one_layer, is_on_map, query_grid}
-use Rattle.grid_moves.specs.Reply.{are_free_ends}
-use Rattle.edit_replay.proofs.Answering.{found_right}
-use Rattle.edit_replay.specs.Found.{reply_with, reply_without}
-use Rattle.edit_replay.specs.Replies.{IsRightOn}
+use Rattle.grid_moves.specs.Layers.{query_grid}
+use Rattle.path_points.specs.Least.{IsLeastOrNone}
+use Rattle.edit_replay.proofs.Replying.{founds_are, right_where}
 use Rattle.edit_replay.specs.declared.reply.Reply.{Reply}
-use Rattle.edit_replay.specs.declared.reply.Reply.TheVariants.{None, Outside, Blocked}
-use Rattle.jps_run.proofs.SessionReply.{reply_exists}
+use Rattle.first_moves.proofs.Led.{led_is}
+use Rattle.first_moves.specs.Follow.{led_walk}
 use Rattle.goal_boxes.proofs.Answering as boxed
-use Rattle.first_moves.specs.Row.{AreMoves, MovesData}
-use Rattle.first_moves.proofs.Leading.{has_followed}
-use Rattle.jps_run.specs.Answerers.{CanAnswer, who_of}
-use Rattle.jps_run.specs.Who.{By, IsReplyBy, IsReplyOn, by_boxes, by_moves}
-use Rattle.jps_run.specs.declared.replies.answerer.Answerer.{Answerer}
-use Rattle.jps_run.specs.declared.replies.answerer.Answerer.TheVariants as answerer
-use Rattle.word_list.specs.declared.request.SmallEngine.TheVariants as by_engine
-use Rattle.jps_run.proofs.Replying.{followed_least, found_boxed, found_led, reply-on-map, unsearched-small}
+use Rattle.jps_run.specs.Who.{By, IsReplyBy, Who, by_boxes, by_moves, by_session, found_by, reply_to}
+use Rattle.jps_run.proofs.Replying.{followed_least}
 
--- a reply on one grid, between cells that are free on it
-record HasReplyOn (by : By) (g : GridData) (s t : Cell) : Type 0 where
-  reply : Reply
-  right : IsRightOn g s t reply
-  run : IsReplyOn by g s t reply
+-- what is found between free cells is a least walk, or none exactly where no walk leads there
+pub found_least : (by : By) (g : GridData) (s t : Cell) → is_free g s ≡ true → is_free g t ≡ true
+    → IsLeastOrNone g s t (found_by by g s t).walk
+found_least (by_session engine) g s t from to = (founds_are engine).least g s t from
+found_least by_boxes g s t from to = boxed.answers_are.least g s t from
+found_least by_moves g s t from to = followed_least g s t (led_walk g s t) (led_is g s t from)
 
-module _ (g : GridData) (s t : Cell) (free : (is_free g s && is_free g t) ≡ true) where
-  boxed_reply : HasReplyOn by_boxes g s t
-  boxed_reply =
-      let ends = and_parts (is_free g s) (is_free g t) free in
-      let h = boxed.has_answer g s t ends.0 in record {
-        reply = reply_with h.answer.walk h.answer.taken;
-        right = found_right g s t h.answer.walk h.answer.taken ends.0 ends.1 h.least;
-        run = found_boxed g s t h.answer.walk h.answer.taken ends.0 ends.1 h.run;
-      }
+-- so the reply to a query is right
+pub replies : (who : Who) (s t : Cell) → IsReplyBy who s t (reply_to who s t)
+replies who s t =
+    let ls = who.layers in
+    let g = query_grid ls s in
+    record {
+      right = right_where ls s t (found_by who.by g s t)
+          (λ one. let ends = and_parts (is_free g s) (is_free g t) one in
+          found_least who.by g s t ends.0 ends.1);
+      is = refl;
+    }
 
-  led_reply : (m : MovesData) → AreMoves g m → HasReplyOn by_moves g s t
-  led_reply m moves =
-      let ends = and_parts (is_free g s) (is_free g t) free in
-      let h = has_followed g m moves t ends.1 s ends.0 in record {
-        reply = reply_with h.answer [];
-        right = found_right g s t h.answer [] ends.0 ends.1 (followed_least g s t h.answer h.is);
-        run = found_led g s t h.answer h.is;
-      }
-
--- a reply on the map, where there is one between free cells of one grid
-module _ (ls : Layers) (by : By) (s t : Cell)
-    (apart : (reason : Unsearched) → IsUnsearched ls s t reason
-    → IsReplyBy (record { layers = ls; by = by }) s t (reply_without reason))
-    (search : in_one_layer ls s t ≡ true → HasReplyOn by (query_grid ls s) s t) where
-  abbrev Exists : Type 0
-  Exists = (reply : Reply) × IsReplyBy (record { layers = ls; by = by }) s t reply
-
-  by_layer : are_free_ends ls s t ≡ true → (b : Bool) → in_one_layer ls s t ≡ b → Exists
-  by_layer free true one =
-      let h = search one in (h.reply, reply-on-map ls by s t h.reply free h.right h.run)
-  by_layer free false two = (
-    None [],
-    apart (why.Apart (record { from = s; to = t }))
-        (record { from = refl; to = refl; free = free; two = two }),
-  )
-
-  by_ends : (is_on_map ls s && is_on_map ls t) ≡ true → (b : Bool) → are_free_ends ls s t ≡ b → Exists
-  by_ends on true free = by_layer free (in_one_layer ls s t) refl
-  by_ends on false free = (Blocked, apart why.Blocked (on, free))
-
-  by_map : (b : Bool) → (is_on_map ls s && is_on_map ls t) ≡ b → Exists
-  by_map true on = by_ends on (are_free_ends ls s t) refl
-  by_map false off = (Outside, apart why.Outside off)
-
-  exists : Exists
-  exists = by_map (is_on_map ls s && is_on_map ls t) refl
-
--- the first moves that are kept of the grid of a query
-moves_on : (ls : Layers) (land water : MovesData) → AreMoves ls.land land → AreMoves ls.water water
-    → (s : Cell)
-    → (m : MovesData) × AreMoves (query_grid ls s) m
-moves_on ls land water on off s = by_test (is_free ls.water s)
-  where
-    by_test : (w : Bool) → (m : MovesData) × AreMoves (if w then ls.water else ls.land) m
-    by_test true = (water, off)
-    by_test false = (land, on)
-
--- a query on the grids of a small map, by boxes and by first moves
-module _ (ls : Layers) (s t : Cell) where
-  pub boxed_exists : (reply : Reply) × IsReplyBy (record { layers = ls; by = by_boxes }) s t reply
-  boxed_exists =
-      exists ls by_boxes s t (unsearched-small by_engine.Boxes ls s t)
-      (λ one. boxed_reply (query_grid ls s) s t one)
-
-  pub led_exists : (m : MovesData) → AreMoves (query_grid ls s) m
-      → (reply : Reply) × IsReplyBy (record { layers = ls; by = by_moves }) s t reply
-  led_exists m moves =
-      exists ls by_moves s t (unsearched-small by_engine.Moves ls s t)
-      (λ one. led_reply (query_grid ls s) s t one m moves)
-
--- whoever is ready has a reply
-pub answer_exists : (a : Answerer) → CanAnswer a → (s t : Cell) → (reply : Reply)
-    × IsReplyBy (who_of a) s t reply
-answer_exists (answerer.Session d) ready s t = reply_exists d s t
-answer_exists (answerer.Boxes library) ready s t = boxed_exists library.layers s t
-answer_exists (answerer.Moves library) ready s t =
-    let m = moves_on library.layers library.land library.water ready.1 ready.2 s in
-    led_exists library.layers s t m.0 m.1
+pub reply_exists : (who : Who) (s t : Cell) → (reply : Reply) × IsReplyBy who s t reply
+reply_exists who s t = (reply_to who s t, replies who s t)

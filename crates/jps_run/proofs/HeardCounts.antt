@@ -10,7 +10,7 @@ use Rattle.script_text.specs.declared.fault.ScriptFault.TheVariants.{NoMemory}
 use Rattle.script_text.specs.declared.feeder.LineFeeder.{LineFeeder}
 use Rattle.script_text.specs.Fed.{HasTaken, HasFed, HasEnded}
 use Rattle.script_text.specs.Feeding.{commands_so_far, commands_of, fault_of, Appended}
-use Rattle.script_text.specs.Feeding as known
+use Rattle.script_text.specs.Feeding as feeding
 use Rattle.script_text.proofs.Feeding.{begun-known}
 use Rattle.jps_run.specs.Answering.{HaveCounted}
 use Rattle.jps_run.specs.Heard.{RoseHeard}
@@ -56,7 +56,7 @@ module _ (old new : Answers) (feeder feeder_now : LineFeeder) (before got slice 
       → RiseEnd old new feeder at now
   rise-end ended ok rise = λ first text start h t.
       let f = ended (not-starved answer ok) text h in (
-        subst (λ (a : Result (Unit {0}) ScriptFault). known.Answers a (fault_of text)) ok f.answer,
+        subst (λ (a : Result (Unit {0}) ScriptFault). feeding.Answers a (fault_of text)) ok f.answer,
         subst (λ (all : List ScriptCommand). HaveCounted first new all start now)
             (all-known (commands_so_far text) (commands_of text) before got slice empty same f.commands)
             (rise first (commands_so_far text) start t),

@@ -9,11 +9,11 @@ use Rattle.script_text.specs.declared.fault.ScriptFault.TheVariants.{NoMemory}
 use Rattle.script_text.specs.declared.feeder.LineFeeder.{LineFeeder}
 use Rattle.script_text.specs.Fed.{HasTaken, HasFed, HasEnded}
 use Rattle.script_text.specs.Feeding.{commands_so_far, commands_of, fault_so_far, fault_of, Appended}
-use Rattle.script_text.specs.Feeding as known
+use Rattle.script_text.specs.Feeding as feeding
 use Rattle.script_text.proofs.Feeding.{commands-grow, commands-end}
 use Rattle.jps_run.specs.Answering.{IsSolved}
 use Rattle.call_files.specs.FaultLines.{script_line}
-use Rattle.jps_run.specs.Hearing.{HasWritten, known_stops, AnswersKnown, AreKnown, Refuses, HasHeard}
+use Rattle.jps_run.specs.Hearing.{HasWritten, known_stops, AnswersKnown, AreKnownCommands, Refuses, HasHeard}
 use Rattle.jps_run.specs.Hearing.{HearsPiece}
 use Rattle.io_edge.specs.Known.{Outflow}
 use Rattle.jps_run.specs.Answers.{AreAnswers}
@@ -29,7 +29,7 @@ use Rattle.line_work.proofs.Stopping.{passed, ends-on, follow-same}
 -- the answers to commands that became known stop
 pub known-stopped : (first new : Answers) (answer : Result (Unit {0}) ScriptFault)
     (earlier more all : List ScriptCommand)
-    (f : Option ScriptFault) (before now : Outflow) → AreKnown answer earlier more all f
+    (f : Option ScriptFault) (before now : Outflow) → AreKnownCommands answer earlier more all f
     → {X : Type 0} (Done : X → Type 0) (result : Result X Stop) (stop : Stop)
     → IsErrAnd result (λ s. s ≡ stop)
     → ((others : List ScriptCommand)
@@ -50,7 +50,7 @@ known-stopped first new answer earlier more all f before now k Done result stop 
 -- the answers end, and a fault is known behind them or none
 module _ (first new : Answers) (answer : Result (Unit {0}) ScriptFault)
     (earlier more all : List ScriptCommand)
-    (f : Option ScriptFault) (before now : Outflow) (k : AreKnown answer earlier more all f)
+    (f : Option ScriptFault) (before now : Outflow) (k : AreKnownCommands answer earlier more all f)
     (w : HasWritten first new (earlier ++ more) before now) where
   exactly : answer ≢ Err NoMemory → HasWritten first new all before now
   exactly other =
@@ -77,14 +77,14 @@ module _ (first new : Answers) (answer : Result (Unit {0}) ScriptFault)
       (λ done ok.
       let other : answer ≢ Err NoMemory = λ no. (let e : Ok tt ≡ Err NoMemory = sym ok ∙ no in cc) in (
         ok,
-        subst (λ (a : Result (Unit {0}) ScriptFault). known.Answers a f) ok (k.exact other).1,
+        subst (λ (a : Result (Unit {0}) ScriptFault). feeding.Answers a f) ok (k.exact other).1,
         exactly other,
       ))
       (record {
         refused = λ line r.
             let other : answer ≢ Err NoMemory
             = λ no. (let e : Err r.0 ≡ Err NoMemory = sym r.1 ∙ no in r.2 cc) in
-            let named = subst (λ (a : Result (Unit {0}) ScriptFault). known.Answers a f) r.1
+            let named = subst (λ (a : Result (Unit {0}) ScriptFault). feeding.Answers a f) r.1
             (k.exact other).1 in (
               ap (option_map script_line) named.0 ∙ ap (λ (l : List ℕ). Some l) (sym r.3),
               exactly other,
@@ -97,9 +97,9 @@ module _ (first new : Answers) (answer : Result (Unit {0}) ScriptFault)
 -- what is known by an answer of the feeder
 known-by : (answer : Result (Unit {0}) ScriptFault) (earlier got all : List ScriptCommand)
     (f : Option ScriptFault)
-    → (answer ≢ Err NoMemory → Appended earlier all [] got × known.Answers answer f)
+    → (answer ≢ Err NoMemory → Appended earlier all [] got × feeding.Answers answer f)
     → (answer ≡ Err NoMemory → (got ≡ []) × ((k : List ScriptCommand) × (all ≡ earlier ++ k)))
-    → AreKnown answer earlier got all f
+    → AreKnownCommands answer earlier got all f
 known-by answer earlier got all f fed starved = grind (arith, append-nil)
 
 -- a piece was fed, or memory for it was refused
@@ -108,7 +108,7 @@ pub piece-known : (feeder now : LineFeeder) (text piece : List ℕ) (got : List 
     → (answer ≢ Err NoMemory → (text : List ℕ) → HasTaken feeder text
     → HasFed text (text ++ piece) now [] got answer)
     → (answer ≡ Err NoMemory → (now ≡ feeder) × (got ≡ []))
-    → AreKnown answer (commands_so_far text) got (commands_so_far (text ++ piece))
+    → AreKnownCommands answer (commands_so_far text) got (commands_so_far (text ++ piece))
     (fault_so_far (text ++ piece))
 piece-known feeder now text piece got answer h fed starved =
     known-by answer (commands_so_far text) got _ _
@@ -120,7 +120,7 @@ pub end-known : (feeder now : LineFeeder) (text : List ℕ) (got : List ScriptCo
     (answer : Result (Unit {0}) ScriptFault) → HasTaken feeder text
     → (answer ≢ Err NoMemory → (text : List ℕ) → HasTaken feeder text → HasEnded text now [] got answer)
     → (answer ≡ Err NoMemory → (now ≡ feeder) × (got ≡ []))
-    → AreKnown answer (commands_so_far text) got (commands_of text) (fault_of text)
+    → AreKnownCommands answer (commands_so_far text) got (commands_of text) (fault_of text)
 end-known feeder now text got answer h ended starved = grind (arith, known-by, commands-end)
 
 -- so a piece is heard
@@ -152,7 +152,7 @@ piece-heard old new feeder feeder_now piece before_got got slice answer at now r
     })
     (follow-same (known_stops first new all f before now))
     (known first (commands_so_far text) all f before h.written
-    (subst (λ (g : List ScriptCommand). AreKnown answer (commands_so_far text) g all f) (sym same) k))
+    (subst (λ (g : List ScriptCommand). AreKnownCommands answer (commands_so_far text) g all f) (sym same) k))
 
 -- and the end of a script
 module _ (old new : Answers) (feeder feeder_now : LineFeeder) (before_got got slice : List ScriptCommand)
@@ -171,6 +171,6 @@ module _ (old new : Answers) (feeder feeder_now : LineFeeder) (before_got got sl
       (λ other text h. subst (λ (b : List ScriptCommand). HasEnded text feeder_now b got answer) empty
       (ended other text h)) (λ is. ((starved is).0, (starved is).1 ∙ empty)) in
       known first (commands_so_far text) (commands_of text) (fault_of text) before h.written
-      (subst (λ (g : List ScriptCommand). AreKnown answer (commands_so_far text) g (commands_of text)
+      (subst (λ (g : List ScriptCommand). AreKnownCommands answer (commands_so_far text) g (commands_of text)
       (fault_of text))
       (sym same) k)

@@ -13,10 +13,10 @@ use Rattle.grid_moves.specs.Grid.{GridData}
 use Rattle.grid_moves.specs.Layers.{Layers, query_grid}
 use Rattle.grid_moves.specs.Reply.{are_free_ends}
 use Rattle.walk_judge.specs.declared.judging.Judged.{Judged}
-use Rattle.walk_judge.specs.Judgement.{IsJudgement}
-use Rattle.walk_judge.proofs.Existing.{judgement_exists}
+use Rattle.walk_judge.specs.Judgement.{IsJudgement, judgement_of}
+use Rattle.walk_judge.proofs.Judgements.{judgements_are_made}
 use Rattle.scen_text.specs.declared.entry.Entry.{Entry}
-use Rattle.walk_judge.specs.declared.telling.Claimed.{Claimed}
+use Rattle.walk_judge.specs.declared.claims.Claimed.{Claimed}
 use Rattle.call_files.specs.Reading.{AreFit}
 use Rattle.jps_run.specs.Judging.{IsReady, CanGoOn, HasJudged, IsJudged, counts_of, sum_text}
 use Rattle.jps_run.specs.Rows.{has_sides}
@@ -199,8 +199,10 @@ settled-ruled ls entry claimed settled.Scale sides = (ruling.Scale, scale sides 
 settled-ruled ls entry claimed settled.Outside is = (ruling.Outside, outside is.0 is.1 refl)
 settled-ruled ls entry claimed settled.Blocked is = (ruling.Blocked, blocked is.0 is.1 refl)
 settled-ruled ls entry claimed (settled.Searched from to least) is =
-    let j = judgement_exists (query_grid ls from) from to claimed least is.least in
-    (ruling.Judged j.0, ruled-searched ls entry claimed j.0 from to least (query_grid ls from) is refl j.1)
+    let g = query_grid ls from in
+    let how = judgement_of g from to claimed least in
+    let made = judgements_are_made g from to claimed least is.least how in
+    (ruling.Judged how, ruled-searched ls entry claimed how from to least g is refl (made.1 refl))
 
 ruling_exists : (ls : Layers) (s : Unit {0}) (both : Both) → (r : Ruling) × Stands ls s both r
 ruling_exists ls s both =

@@ -1,4 +1,3 @@
-pub mod SessionReply
 pub mod Replying
 pub mod Answerers
 pub mod Existing

@@ -22,17 +22,17 @@ use Rattle.jps_run.specs.declared.work.Work.{Work}
 use Rattle.jps_run.specs.Works.{CanPerform, IsWhole}
 
 -- what is printed of a map is right, where the text is
-module _ {Known : Map → List ℕ → ℕ → Type 0} (text : List ℕ) (m : Map) (read : map_of text ≡ Ok m) where
-  pub prints : (printed : List ℕ) (code : ℕ) → Known m printed code → (lines : List (List ℕ)) (status : ℕ)
-      → IsText printed code lines status → Prints (text ∷ []) lines status Known
-  prints printed code known lines status is = record {
+module _ {Such : Map → List ℕ → ℕ → Type 0} (text : List ℕ) (m : Map) (read : map_of text ≡ Ok m) where
+  pub prints : (printed : List ℕ) (code : ℕ) → Such m printed code → (lines : List (List ℕ)) (status : ℕ)
+      → IsText printed code lines status → Prints (text ∷ []) lines status Such
+  prints printed code such lines status is = record {
     text = text;
     map = m;
     is = refl;
     read = read;
     printed = printed;
     all = is.0;
-    known = subst (λ (n : ℕ). Known m printed n) (sym is.1) known;
+    such = subst (λ (n : ℕ). Such m printed n) (sym is.1) such;
   }
 
   -- so it is work of a call that searches nothing
@@ -40,10 +40,10 @@ module _ {Known : Map → List ℕ → ℕ → Type 0} (text : List ℕ) (m : Ma
       → searches call.request.command ≡ false → (job : Work) (printed : List ℕ) (code : ℕ)
       → CanPerform job → ((lines : List (List ℕ)) (status : ℕ) → IsWhole job lines status
       → IsText printed code lines status)
-      → ((lines : List (List ℕ)) (status : ℕ) → Prints (text ∷ []) lines status Known
+      → ((lines : List (List ℕ)) (status : ℕ) → Prints (text ∷ []) lines status Such
       → IsAnswered call (text ∷ []) lines status)
-      → Known m printed code → code ≤ 1 → IsWorkOn call holds job
-  prints-on call holds accepted none job printed code can whole answers known small = record {
+      → Such m printed code → code ≤ 1 → IsWorkOn call holds job
+  prints-on call holds accepted none job printed code can whole answers such small = record {
     texts = text ∷ [];
     accepted = accepted;
     is = record {
@@ -51,7 +51,7 @@ module _ {Known : Map → List ℕ → ℕ → Type 0} (text : List ℕ) (m : Ma
       right = λ lines status w.
           let is = whole lines status w in (
             subst (λ (n : ℕ). n ≤ 1) (sym is.1) small,
-            answers lines status (prints printed code known lines status is),
+            answers lines status (prints printed code such lines status is),
           );
       counted = λ old new rose. inl none;
     };
@@ -77,24 +77,24 @@ says-of call job text printed e none can whole answers = record {
   counted = λ old new rose. inl none;
 }
 
--- what is known of the last text, behind that of a map and the one of a table file
-pub on-last : {Known : Map → List ℕ → Type 0} (text : List ℕ) (m : Map) → map_of text ≡ Ok m
-    → (loaded : List (List ℕ)) (more : List ℕ) → Known m more
-    → OnMap (text ∷ (loaded ++ more ∷ [])) (λ m behind. OnLast behind (Known m))
-on-last text m read loaded more known = record {
+-- what holds of the last text, behind that of a map and the one of a table file
+pub on-last : {Such : Map → List ℕ → Type 0} (text : List ℕ) (m : Map) → map_of text ≡ Ok m
+    → (loaded : List (List ℕ)) (more : List ℕ) → Such m more
+    → OnMap (text ∷ (loaded ++ more ∷ [])) (λ m behind. OnLast behind (Such m))
+on-last text m read loaded more such = record {
   text = text;
   behind = loaded ++ more ∷ [];
   map = m;
   is = refl;
   read = read;
-  known = record { before = loaded; last = more; is = refl; known = known };
+  such = record { before = loaded; last = more; is = refl; such = such };
 }
 
--- what is known of the session that answers what comes in is known of the call
-pub as_known : {call : Call} {holds : List ℕ → Held} {K L : SessionData → Show → Type 0}
+-- what holds of the session that answers what comes in holds of the call
+pub as_live : {call : Call} {holds : List ℕ → Held} {K L : SessionData → Show → Type 0}
     (p : OnLive call holds K)
     → L p.session call.settings.show → OnLive call holds L
-as_known p known = record {
+as_live p such = record {
   is = p.is;
   text = p.text;
   behind = p.behind;
@@ -103,7 +103,7 @@ as_known p known = record {
   spelled = p.spelled;
   session = p.session;
   answers = p.answers;
-  known = known;
+  such = such;
 }
 
 -- what a command opens as its work is what the call is opened as

@@ -1,6 +1,6 @@
 -- What `draw` prints is right.
 use Rattle.std.proofs.Common.{◌≡◌, ◌≤◌, ◌*◌, refl, sym, subst, List, [], ◌∷◌, ℕ, false, ◌&&◌, arith}
-use Rattle.std.specs.Prelude.{OnOk, Result, Ok, Err, Option, None, Some}
+use Rattle.std.specs.Prelude.{IfOk, OnOk, Result, Ok, Err, Option, None, Some, codes}
 use Rattle.io_edge.specs.Known.{Outflow}
 use Rattle.grid_moves.specs.declared.Cell.{Cell}
 use Rattle.grid_moves.specs.Layers.{is_on_map}
@@ -13,11 +13,13 @@ use Rattle.edit_replay.specs.declared.reply.Reply.TheVariants as reply
 use Rattle.word_list.specs.declared.request.Show.{Show}
 use Rattle.jps_run.specs.Pictures.{IsDrawing, IsPictured, drawing_of, drawing_status}
 use Rattle.line_work.specs.Sending.{AreLines}
+use Rattle.line_work.specs.declared.printed.Printed.{Printed}
 use Rattle.jps_run.specs.Rising.{RoseForQuery}
 use Rattle.jps_run.specs.Session.{IsReply}
+use Rattle.edit_replay.specs.ReplyOf.{reply_finding}
 use Rattle.jps_run.specs.Who.{who_is}
 use Rattle.jps_run.specs.declared.replies.drawing.Canvas.{Canvas}
-use Rattle.jps_run.proofs.SessionReply.{reply_exists}
+use Rattle.jps_run.proofs.Existing.{reply_exists}
 use Rattle.line_work.proofs.Pieces.{nothing}
 
 -- the statuses are 0 and 1
@@ -35,7 +37,20 @@ small_drawing {d} {m} {s} {t} {show} {text} {status} is =
 -- an end outside is answered so, and nothing is counted
 pub outside_reply : (d : SessionData) (s t : Cell) → (is_on_map d.layers s && is_on_map d.layers t) ≡ false
     → IsReply d s t reply.Outside
-outside_reply d s t e = record { right = e; run = tt }
+unfolding reply_finding
+outside_reply d s t e = record { right = e; is = rw e refl }
+
+pub outside_drawn : {E : Type 0} (result : Result Printed E) (d : SessionData) (m : Map) (s t : Cell) (show : Show)
+    → (is_on_map d.layers s && is_on_map d.layers t) ≡ false
+    → IfOk result (λ p. p.text.items ≡ codes "outside\n") → IfOk result (λ p. p.status ≡ 1)
+    → IfOk result (λ p. IsDrawing d m s t show p.text.items p.status)
+outside_drawn (Err error) d m s t show off text status = tt
+outside_drawn (Ok p) d m s t show off text status = record {
+  reply = reply.Outside;
+  is_reply = outside_reply d s t off;
+  drawn = text;
+  same_status = status;
+}
 
 pub outside_counted : {T E : Type 0} (result : Result T E) (d : SessionData) (s t : Cell) (steps : ℕ)
     → (is_on_map d.layers s && is_on_map d.layers t) ≡ false
@@ -56,7 +71,7 @@ outside_counted (Ok done) d s t steps e = record {
 pub nothing_drawn : (canvas : Canvas) (s t : Cell) (show : Show) (out : Outflow)
     → AreLines (IsPictured canvas s t show) out out
 nothing_drawn canvas s t show out =
-    let r = reply_exists canvas.session s t in
+    let r = reply_exists (who_is canvas.session) s t in
     record {
       lines = drawing_of (plain canvas.map) s t show r.0 ∷ [];
       status = drawing_status r.0;

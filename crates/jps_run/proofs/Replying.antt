@@ -1,62 +1,70 @@
 -- Replies on one grid are replies on the map.
-use Rattle.std.proofs.Common.{◌≡◌, ◌<◌, ◌≤◌, ◌+◌, ◌*◌, ◌^◌, Bool, true, false, refl, sym, subst, ◌∙◌, ◌∷◌}
-use Rattle.std.proofs.Common.{arith, length, List, [], ℕ}
-use Rattle.std.specs.Prelude.{Result, Ok, Err, IfOk, MatchOption, Option, if◌then◌else◌}
+use Rattle.std.proofs.Common.{◌≡◌, ◌<◌, ◌≤◌, ◌+◌, ◌*◌, ◌^◌, Bool, true, false, refl, ap, sym, subst, ◌∙◌, ◌∷◌}
+use Rattle.std.proofs.Common.{ℕ, arith, length, List, []}
+use Rattle.std.specs.Prelude.{Result, Ok, Err, IfOk, Option, if◌then◌else◌, ◌&&◌}
 use Rattle.std.specs.Prelude as option
 use Rattle.std.proofs.lemmas.Bool.{and_parts}
 use Rattle.root2_cost.specs.declared.Cost.{Cost}
 use Rattle.grid_moves.specs.declared.Cell.{Cell}
 use Rattle.grid_moves.specs.declared.ends.Unsearched.{Unsearched}
 use Rattle.grid_moves.specs.declared.ends.Unsearched.TheVariants as why
-use Rattle.grid_moves.specs.Ends.{IsUnsearched}
+use Rattle.grid_moves.specs.declared.ends.Ends.{Ends}
+use Rattle.grid_moves.specs.Ends.{AreEnds, IsUnsearched}
 use Rattle.grid_moves.specs.Grid.{GridData, is_free}
-use Rattle.grid_moves.specs.Layers.{Layers, in_one_layer, query_grid}
+use Rattle.grid_moves.specs.Layers.{Layers, in_one_layer, is_on_map, query_grid}
 use Rattle.grid_moves.specs.Reply.{IsRight, are_free_ends}
-use Rattle.grid_moves.specs.Walk.{NoWalk, cost_of}
+use Rattle.grid_moves.specs.Walk.{cost_of}
 use Rattle.path_points.specs.declared.points.Walk as points
 use Rattle.path_points.specs.Least.{IsLeastOrNone}
+use Rattle.best_first.specs.declared.found.Found.{Found}
 use Rattle.edit_replay.specs.Found.{reply_with, reply_without}
+use Rattle.edit_replay.specs.ReplyOf.{reply_finding}
 use Rattle.edit_replay.specs.Replies.{IsRightOn, IsShort, answer_of}
 use Rattle.edit_replay.specs.declared.reply.Reply.{Reply}
 use Rattle.edit_replay.specs.declared.reply.Reply.TheVariants.{Walk, None, Outside, Blocked}
 use Rattle.edit_replay.proofs.Answering.{result_on_grid, unsearched_right}
 use Rattle.grid_moves.proofs.Short.{least_steps, steps-cost_of}
 use Rattle.goal_boxes.specs.Answer.{IsBoxedRunOn}
-use Rattle.first_moves.specs.Follow.{IsFollowed}
+use Rattle.goal_boxes.proofs.Answering as boxed
+use Rattle.first_moves.specs.Follow.{IsLedOrNone}
 use Rattle.first_moves.proofs.Following.{stands}
-use Rattle.jps_run.specs.Who.{by_small}
+use Rattle.first_moves.proofs.Led.{walks_are}
 use Rattle.call_files.specs.Reading.{AreSmall}
-use Rattle.jps_run.specs.Who.{By, IsBoxedReply, IsLedReply, IsReplyBy, IsReplyOn}
-use Rattle.word_list.specs.declared.request.SmallEngine.{SmallEngine}
-use Rattle.word_list.specs.declared.request.SmallEngine.TheVariants as by_engine
+use Rattle.jps_run.specs.Who.{By, IsFoundReply, IsReplyBy, Who, by_boxes, by_moves, found_by, reply_to}
 
--- a reply on the grid of the query is one on the map
-pub reply-on-map : (ls : Layers) (by : By) (s t : Cell) (reply : Reply) → are_free_ends ls s t ≡ true
-    → IsRightOn (query_grid ls s) s t reply → IsReplyOn by (query_grid ls s) s t reply
+-- between free cells of one grid the reply is that of what is found there
+searched : (ls : Layers) (by : By) (s t : Cell) → (is_on_map ls s && is_on_map ls t) ≡ true
+    → are_free_ends ls s t ≡ true → in_one_layer ls s t ≡ true
+    → reply_to (record { layers = ls; by = by }) s t
+    ≡ reply_with (found_by by (query_grid ls s) s t).walk (found_by by (query_grid ls s) s t).taken
+unfolding reply_finding
+searched ls by s t on free one = rw (on, free, one) refl
+
+-- so a reply on the grid of the query is one on the map
+reply-on-map : (ls : Layers) (by : By) (s t : Cell) (ends : Ends) (reply : Reply) → AreEnds ls s t ends
+    → IsRightOn (query_grid ls s) s t reply → IsFoundReply by (query_grid ls s) s t reply
     → IsReplyBy (record { layers = ls; by = by }) s t reply
-reply-on-map ls by s t reply free right run = record {
-  right = result_on_grid {E = Unit {0}} ls (query_grid ls s) s t (Ok reply) refl free right;
-  run = run;
+reply-on-map ls by s t ends reply are right found = record {
+  right = result_on_grid {E = Unit {0}} ls (query_grid ls s) s t (Ok reply) refl are.free right;
+  is = found.is ∙ sym (searched ls by s t are.on are.free are.one);
 }
 
 -- and so is that of a call on this grid, between the ends of the query
 pub result-on-map : {E : Type 0} (result : Result Reply E) (ls : Layers) (by : By) (g : GridData)
-    (s t from to : Cell)
-    → from ≡ s → to ≡ t → g ≡ query_grid ls from → are_free_ends ls s t ≡ true
-    → IfOk result (IsRightOn g from to) → IfOk result (IsReplyOn by g from to)
+    (s t : Cell) (ends : Ends)
+    → AreEnds ls s t ends → g ≡ query_grid ls ends.from
+    → IfOk result (IsRightOn g ends.from ends.to) → IfOk result (IsFoundReply by g ends.from ends.to)
     → IfOk result (IsReplyBy (record { layers = ls; by = by }) s t)
-result-on-map (Err error) ls by g s t from to e f same free right run = tt
-result-on-map (Ok reply) ls by g s t from to e f same free right run =
-    let at : g ≡ query_grid ls s = same ∙ on e in
-    reply-on-map ls by s t reply free
+result-on-map (Err error) ls by g s t ends are same right found = tt
+result-on-map (Ok reply) ls by g s t ends are same right found =
+    let at : g ≡ query_grid ls s = same ∙ ap (λ (c : Cell). query_grid ls c) are.from in
+    reply-on-map ls by s t ends reply are
     (subst (λ (k : GridData). IsRightOn k s t reply) at
-    (subst (λ (c : Cell). IsRightOn g s c reply) f (subst (λ (c : Cell). IsRightOn g c to reply) e right)))
-    (subst (λ (k : GridData). IsReplyOn by k s t reply) at
-    (subst (λ (c : Cell). IsReplyOn by g s c reply) f
-    (subst (λ (c : Cell). IsReplyOn by g c to reply) e run)))
-  where
-    on : from ≡ s → query_grid ls from ≡ query_grid ls s
-    on same_cell = subst (λ (c : Cell). query_grid ls from ≡ query_grid ls c) same_cell refl
+    (subst (λ (c : Cell). IsRightOn g s c reply) are.to
+    (subst (λ (c : Cell). IsRightOn g c ends.to reply) are.from right)))
+    (subst (λ (k : GridData). IsFoundReply by k s t reply) at
+    (subst (λ (c : Cell). IsFoundReply by g s c reply) are.to
+    (subst (λ (c : Cell). IsFoundReply by g c ends.to reply) are.from found)))
 
 -- both ends are free there
 pub goal-free : (ls : Layers) (g : GridData) (s t from to : Cell) → from ≡ s → to ≡ t → g ≡ query_grid ls from
@@ -67,40 +75,33 @@ goal-free ls g s t from to e f same one =
     (subst (λ (c : Cell). is_free (query_grid ls s) c ≡ true) (sym f)
     (and_parts (is_free (query_grid ls s) s) (is_free (query_grid ls s) t) one).1))
 
--- where nothing is searched, the reply is that of an engine for small maps
-unsearched-run : (engine : SmallEngine) (ls : Layers) (s t : Cell) (reason : Unsearched)
-    → IsUnsearched ls s t reason
-    → IsReplyOn (by_small engine) (query_grid ls s) s t (reply_without reason)
-unsearched-run by_engine.Boxes ls s t why.Outside is = tt
-unsearched-run by_engine.Boxes ls s t why.Blocked is = tt
-unsearched-run by_engine.Boxes ls s t (why.Apart ends) is = rw is.two refl
-unsearched-run by_engine.Moves ls s t why.Outside is = tt
-unsearched-run by_engine.Moves ls s t why.Blocked is = tt
-unsearched-run by_engine.Moves ls s t (why.Apart ends) is = refl
+-- where nothing is searched, the reply says why
+unsearched_is : (who : Who) (s t : Cell) (reason : Unsearched) → IsUnsearched who.layers s t reason
+    → reply_without reason ≡ reply_to who s t
+unfolding reply_finding
+unsearched_is who s t why.Outside is = rw is refl
+unsearched_is who s t why.Blocked is = rw (is.0, is.1) refl
+unsearched_is who s t (why.Apart ends) is = rw (is.on, is.free, is.two) refl
 
-pub unsearched-small : (engine : SmallEngine) (ls : Layers) (s t : Cell) (reason : Unsearched)
-    → IsUnsearched ls s t reason
-    → IsReplyBy (record { layers = ls; by = by_small engine }) s t (reply_without reason)
-unsearched-small engine ls s t reason is = record {
-  right = unsearched_right ls s t reason is;
-  run = unsearched-run engine ls s t reason is;
-}
+pub unsearched-reply : (who : Who) (s t : Cell) (reason : Unsearched) → IsUnsearched who.layers s t reason
+    → IsReplyBy who s t (reply_without reason)
+unsearched-reply who s t reason is =
+    record { right = unsearched_right who.layers s t reason is; is = unsearched_is who s t reason is }
 
--- the reply of what was found between free cells is come to in the same way
+-- what was found between free cells by the boxed run, or by first moves, is the function's
 module _ (g : GridData) (s t : Cell) where
-  pub found_boxed : (walk : Option points.Walk) (taken : List ℕ) → is_free g s ≡ true → is_free g t ≡ true
-      → IsBoxedRunOn g s t (record { walk = walk; taken = taken }) → IsBoxedReply g s t (reply_with walk taken)
-  found_boxed (option.Some w) taken from to run = run
-  found_boxed option.None taken from to run = rw (from, to) run
+  pub found_boxed : (f : Found) → IsBoxedRunOn g s t f → IsFoundReply by_boxes g s t (reply_with f.walk f.taken)
+  found_boxed f run =
+      record { is = ap (λ (h : Found). reply_with h.walk h.taken) (boxed.answers_are.only g s t f run) }
 
-  pub found_led : (walk : Option points.Walk)
-      → MatchOption walk (NoWalk g s t) (λ w. IsFollowed g s t w.points w.cost)
-      → IsLedReply g s t (reply_with walk [])
-  found_led (option.Some w) is = (is, refl)
-  found_led option.None none = refl
+  pub found_led : (walk : Option points.Walk) (taken : List ℕ) → is_free g s ≡ true → IsLedOrNone g s t walk
+      → taken ≡ [] → IsFoundReply by_moves g s t (reply_with walk taken)
+  found_led walk taken from is none = record {
+    is = ap (λ (ms : List ℕ). reply_with walk ms) none
+        ∙ ap (λ (o : Option points.Walk). reply_with o []) ((walks_are g s t from).only walk is);
+  }
 
-  pub followed_least : (walk : Option points.Walk)
-      → MatchOption walk (NoWalk g s t) (λ w. IsFollowed g s t w.points w.cost) → IsLeastOrNone g s t walk
+  pub followed_least : (walk : Option points.Walk) → IsLedOrNone g s t walk → IsLeastOrNone g s t walk
   followed_least (option.Some w) is = stands g s t w.points w.cost is
   followed_least option.None none = none
 

@@ -17,7 +17,7 @@ use Rattle.jps_run.specs.declared.replies.row.Row.{Row}
 use Rattle.jps_run.specs.declared.replies.row.Row.TheVariants as row
 use Rattle.jps_run.specs.declared.replies.row.Tally.{Tally}
 use Rattle.jps_run.specs.declared.replies.scenario.Scen.{Scen}
-use Rattle.jps_run.proofs.Existing.{answer_exists}
+use Rattle.jps_run.proofs.Existing.{reply_exists}
 use Rattle.line_work.proofs.Turns.{turns-more, turns-all}
 
 abbrev Stands : Who → Unit {0} → Entry → Row → Type 0
@@ -123,14 +123,13 @@ rows-all job status before after w s first entries lines h = record {
 }
 
 -- every entry has a row
-row_exists : (a : Answerer) → CanAnswer a → (s : Unit {0}) (entry : Entry)
-    → (r : Row) × Stands (who_of a) s entry r
-row_exists a ready s entry = by_sides (has_sides (who_of a).layers entry) refl
+row_exists : (a : Answerer) (s : Unit {0}) (entry : Entry) → (r : Row) × Stands (who_of a) s entry r
+row_exists a s entry = by_sides (has_sides (who_of a).layers entry) refl
   where
     by_sides : (b : Bool) → has_sides (who_of a).layers entry ≡ b → (r : Row) × IsRow (who_of a) entry r
     by_sides false e = (row.Scale, scale e refl)
     by_sides true e =
-        let p = answer_exists a ready (record { x = entry.sx; y = entry.sy })
+        let p = reply_exists (who_of a) (record { x = entry.sx; y = entry.sy })
         (record { x = entry.gx; y = entry.gy }) in
         (row_of entry.length p.0, replied p.0 e p.1 refl)
 
@@ -141,7 +140,7 @@ not-empty (l ∷ lines) line = λ e. (let never : l ∷ (lines ++ line ∷ []) �
 -- so the first rows can be completed
 pub rows-complete : CanComplete HasRows AreAllRows true
 rows-complete first now some others lines h =
-    let all = turns-all (Stands (who_of first.answerer)) stays (row_exists first.answerer h.ready) tt some
+    let all = turns-all (Stands (who_of first.answerer)) stays (row_exists first.answerer) tt some
     others h.rows
     h.are in
     let rows : List Row = h.rows ++ all.0 in

@@ -21,15 +21,15 @@ use Rattle.jps_run.specs.declared.replies.answers.Answers.{Answers}
 use Rattle.line_work.specs.declared.stop.Stop.{Stop}
 use Rattle.jps_run.specs.declared.work.Work.{Work}
 use Rattle.line_work.proofs.Pieces.{nothing}
-use Rattle.jps_run.proofs.Opening.{as_known}
+use Rattle.jps_run.proofs.Opening.{as_live}
 use Rattle.line_work.proofs.Stopping.{passed, ends-on}
 
--- what is known of the session is known of the call
+-- what holds of the session holds of the call
 pub on-live : (call : Call) (holds : List ℕ → Held) (job : Answers) → IsListener call holds job
-    → (Known : SessionData → Show → Type 0) → Known job.session job.show → OnLive call holds Known
-on-live call holds job l Known k =
-    as_known l.on (subst (λ (show : Show). Known l.on.session show) l.on.known.1
-    (subst (λ (d : SessionData). Known d job.show) l.on.known.0 k))
+    → (Such : SessionData → Show → Type 0) → Such job.session job.show → OnLive call holds Such
+on-live call holds job l Such k =
+    as_live l.on (subst (λ (show : Show). Such l.on.session show) l.on.such.1
+    (subst (λ (d : SessionData). Such d job.show) l.on.such.0 k))
 
 -- a session that answers what comes in was opened behind accepted files
 pub may-hear : (call : Call) (holds : List ℕ → Held) (job : Answers) → IsListener call holds job

@@ -19,7 +19,8 @@ use Rattle.jps_run.specs.Lines.{reply_line, edit_line}
 use Rattle.jps_run.specs.Session.{session_after, reply_to_edit, width_of}
 use Rattle.line_work.specs.Working.{Adds, CanComplete, IsLeft}
 use Rattle.jps_run.specs.declared.replies.answers.Answers.{Answers}
-use Rattle.jps_run.proofs.SessionReply.{reply_exists}
+use Rattle.jps_run.proofs.Existing.{reply_exists}
+use Rattle.jps_run.specs.Who.{who_is}
 use Rattle.line_work.proofs.Turns.{turns-more, turns-all, turns-left, fold-more}
 
 -- a query leaves the session as it is
@@ -89,7 +90,7 @@ line_exists d show edits (Free x y) =
 line_exists d show edits (Flood x y) =
     (edit_line (reply_to_edit (session_after d edits) (edit_at x y Water)), refl)
 line_exists d show edits (Query sx sy gx gy) =
-    let r = reply_exists (session_after d edits) (record { x = sx; y = sy }) (record { x = gx; y = gy }) in
+    let r = reply_exists (who_is (session_after d edits)) (record { x = sx; y = sy }) (record { x = gx; y = gy }) in
     let line : List ℕ = reply_line (width_of (session_after d edits)) show r.0 in
     (line, record { reply = r.0; is_reply = r.1; shown = refl })
 

@@ -3,10 +3,12 @@ use Rattle.std.proofs.Common.{◌≡◌, refl, Bool, true, false, ◌&&◌, List
 use Rattle.std.specs.Prelude.{Option, Some, None, option_map, if◌then◌else◌}
 use Rattle.grid_moves.specs.declared.Cell.{Cell}
 use Rattle.grid_moves.specs.Points.{are_lined, is_lined, segment, steps_between, unfolded_from, unfolding_of}
+use Rattle.grid_moves.specs.Layers.{Layers}
+use Rattle.grid_moves.specs.Reply.{IsRight}
+use Rattle.edit_replay.specs.Replies.{answer_of}
 use Rattle.edit_replay.specs.declared.reply.Reply.{Reply}
 use Rattle.edit_replay.specs.declared.reply.Reply.TheVariants as reply
 use Rattle.jps_run.specs.Lines.{Unfolds}
-use Rattle.jps_run.specs.Who.{Who, IsReplyBy}
 
 lined_from : (p : Cell) (points : List Cell) (cells : List Cell) → unfolded_from p points ≡ Some cells
     → is_lined (p ∷ points) ≡ true
@@ -37,9 +39,8 @@ lined (p ∷ points) cells h = by_rest (unfolded_from p points) refl h
     by_rest (Some cs) e h = lined_from p points cs e
 
 -- the points of a right reply unfold
-pub replied_unfolds : (who : Who) (s t : Cell) (r : Reply) → IsReplyBy who s t r → Unfolds r
-replied_unfolds who s t reply.Outside is = tt
-replied_unfolds who s t reply.Blocked is = tt
-replied_unfolds who s t (reply.None taken) is = tt
-replied_unfolds who s t (reply.Walk points cost taken) is =
-    lined points (s ∷ is.right.1.cells) is.right.1.unfolds
+pub replied_unfolds : (ls : Layers) (s t : Cell) (r : Reply) → IsRight ls s t (answer_of r) → Unfolds r
+replied_unfolds ls s t reply.Outside right = tt
+replied_unfolds ls s t reply.Blocked right = tt
+replied_unfolds ls s t (reply.None taken) right = tt
+replied_unfolds ls s t (reply.Walk points cost taken) right = lined points (s ∷ right.1.cells) right.1.unfolds

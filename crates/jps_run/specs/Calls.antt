@@ -48,7 +48,7 @@ call_with asked set = record { request = asked; settings = set }
 abbrev pub cell_at : List (List ℕ) → ℕ → Cell
 cell_at words place = record { x = number_at words place; y = number_at words (place + 1) }
 
--- what is told of a command with its words: its name, the files that it reads, in their order, and the lines
+-- what is said of a command with its words: its name, the files that it reads, in their order, and the lines
 -- and the status that are a right answer on their texts
 pub record Task : Type 1 where
   pub name : List ℕ

@@ -10,7 +10,7 @@ use Rattle.script_text.specs.declared.fault.ScriptFault.TheVariants.{NoMemory}
 use Rattle.script_text.specs.declared.feeder.LineFeeder.{LineFeeder}
 use Rattle.script_text.specs.Fed.{HasTaken}
 use Rattle.script_text.specs.Feeding.{commands_so_far, commands_of, fault_so_far, fault_of}
-use Rattle.script_text.specs.Feeding as known
+use Rattle.script_text.specs.Feeding as feeding
 use Rattle.jps_run.specs.Answering.{HasAnswered, IsSolved}
 use Rattle.jps_run.specs.Answers.{AreAnswers}
 use Rattle.call_files.specs.FaultLines.{script_line}
@@ -28,11 +28,11 @@ HasWritten first now commands before after = HaveWorked HasAnswered first now co
 
 -- all commands that are known now, with the fault that is known, by an answer and the commands that were
 -- appended
-pub record AreKnown (answer : Result (Unit {0}) ScriptFault) (earlier more all : List ScriptCommand)
+pub record AreKnownCommands (answer : Result (Unit {0}) ScriptFault) (earlier more all : List ScriptCommand)
     (fault : Option ScriptFault) : Type 0 where
   pub others : List ScriptCommand
   pub are : all ≡ earlier ++ (more ++ others)
-  pub exact : answer ≢ Err NoMemory → (others ≡ []) × known.Answers answer fault
+  pub exact : answer ≢ Err NoMemory → (others ≡ []) × feeding.Answers answer fault
 
 -- what is known where the answers to all these commands stop, behind which this fault is known
 abbrev pub known_stops : Answers → Answers → List ScriptCommand → Option ScriptFault → Outflow → Outflow
@@ -50,7 +50,7 @@ abbrev pub AnswersKnown : Answers → Answers → Result (Unit {0}) ScriptFault 
     → Result (Unit {0}) Stop → Type 0
 AnswersKnown old new answer more at now result =
     (first : Answers) (earlier all : List ScriptCommand) (fault : Option ScriptFault) (before : Outflow)
-    → HasWritten first old earlier before at → AreKnown answer earlier more all fault
+    → HasWritten first old earlier before at → AreKnownCommands answer earlier more all fault
     → EndsOrStops (λ done. (answer ≡ Ok tt) × (fault ≡ None) × HasWritten first new all before now)
     (known_stops first new all fault before now) result
 

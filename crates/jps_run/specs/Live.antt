@@ -13,8 +13,8 @@ use Rattle.jps_run.specs.Heard.{AnswerHeard, AnswerPending, AnswerTaken, WroteAl
 use Rattle.jps_run.specs.Session.{IsSessionOn}
 
 -- the call answers what comes in: each of its files is accepted, the map first, and of the session on it this
--- is known
-pub record OnLive (call : Call) (holds : List ℕ → Held) (Known : SessionData → Show → Type 0) : Type 0 where
+-- holds
+pub record OnLive (call : Call) (holds : List ℕ → Held) (Such : SessionData → Show → Type 0) : Type 0 where
   pub is : call.request.command ≡ Live
   pub text : List ℕ
   pub behind : List (List ℕ)
@@ -23,7 +23,7 @@ pub record OnLive (call : Call) (holds : List ℕ → Held) (Known : SessionData
   pub spelled : map_of text ≡ Ok read
   pub session : SessionData
   pub answers : IsSessionOn call.settings read session
-  pub known : Known session call.settings.show
+  pub such : Such session call.settings.show
 
 -- the lines are the output of a call that answers what comes in, and this is the line of its refusal, if it
 -- is refused

@@ -8,7 +8,7 @@ use Rattle.grid_moves.specs.Reply.{IsRight, are_free_ends}
 use Rattle.scen_text.specs.declared.entry.Entry.{Entry}
 use Rattle.walk_judge.specs.declared.judging.Judged.{Judged}
 use Rattle.walk_judge.specs.declared.judging.Judged.TheVariants.{Least, NoWalk, BadWalk, Longer, Exists}
-use Rattle.walk_judge.specs.declared.telling.Claimed.{Claimed}
+use Rattle.walk_judge.specs.declared.claims.Claimed.{Claimed}
 use Rattle.walk_judge.specs.Judgement.{IsJudgement}
 pub use Rattle.scen_maker.specs.Settling.{goal_of, start_of}
 use Rattle.jps_run.specs.Rows.{has_sides}

@@ -52,11 +52,11 @@ session_on set m =
 abbrev pub IsSessionOn : Settings → Map → SessionData → Type 0
 IsSessionOn set m d = d ≡ session_on set m
 
--- of the session on a map, as the settings ask, this is known
-pub record OnSession (set : Settings) (m : Map) (Known : SessionData → Type 0) : Type 0 where
+-- of the session on a map, as the settings ask, this holds
+pub record OnSession (set : Settings) (m : Map) (Such : SessionData → Type 0) : Type 0 where
   pub session : SessionData
   pub is : IsSessionOn set m session
-  pub known : Known session
+  pub such : Such session
 
 -- the session after edits
 abbrev pub session_after : SessionData → List Edit → SessionData

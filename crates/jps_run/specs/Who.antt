@@ -1,18 +1,19 @@
--- Who answers a query, and what an answer is: right, and come to as the one who answers does.
-use Rattle.std.specs.Prelude.{◌≡◌, ◌&&◌, ⊤, MatchBool, ℕ, List, [], Option}
-use Rattle.std.specs.Prelude as option
+-- Who answers a query, and which reply it has: a function of the grids, of how it is answered and of the ends.
+use Rattle.std.specs.Prelude.{◌≡◌, ℕ, [], Option, None}
 use Rattle.grid_moves.specs.declared.Cell.{Cell}
-use Rattle.grid_moves.specs.Grid.{GridData, is_free}
+use Rattle.grid_moves.specs.Grid.{GridData}
 use Rattle.grid_moves.specs.Layers.{Layers, query_grid}
 use Rattle.grid_moves.specs.Reply.{IsRight}
+use Rattle.best_first.specs.declared.found.Found.{Found}
 use Rattle.edit_replay.specs.Counting.{fewest_of, most_of}
-use Rattle.edit_replay.specs.Replies.{IsRunOn, answer_of}
+use Rattle.edit_replay.specs.Found.{reply_with}
+use Rattle.edit_replay.specs.ReplyOf.{found_with, reply_finding, states_of}
+use Rattle.edit_replay.specs.Replies.{answer_of}
 use Rattle.edit_replay.specs.Session.{SessionData}
 use Rattle.edit_replay.specs.declared.engine.Engine.{Engine}
 use Rattle.edit_replay.specs.declared.reply.Reply.{Reply}
-use Rattle.edit_replay.specs.declared.reply.Reply.TheVariants.{Walk, None, Outside, Blocked}
-use Rattle.goal_boxes.specs.Answer.{IsBoxedRunOn}
-use Rattle.first_moves.specs.Follow.{IsFollowed}
+use Rattle.goal_boxes.specs.Made.{boxed_found}
+use Rattle.first_moves.specs.Follow.{led_walk}
 use Rattle.word_list.specs.declared.request.SmallEngine.{SmallEngine}
 use Rattle.word_list.specs.declared.request.SmallEngine.TheVariants as small
 
@@ -37,38 +38,25 @@ pub record Who : Type 0 where
 abbrev pub who_is : SessionData → Who
 who_is d = record { layers = d.layers; by = by_session d.engine }
 
--- points, cost and taken states are those of the boxed run on this grid; where an end is not free on it
--- nothing is searched, and no state is taken
-abbrev pub IsBoxedReply : GridData → Cell → Cell → Reply → Type 0
-IsBoxedReply g s t (Walk points cost taken) =
-    IsBoxedRunOn g s t (record {
-      walk = option.Some (record { points = points; cost = cost });
-      taken = taken;
-    })
-IsBoxedReply g s t (None taken) = MatchBool (is_free g s && is_free g t)
-    (IsBoxedRunOn g s t (record { walk = option.None; taken = taken })) (taken ≡ [])
-IsBoxedReply g s t Outside = ⊤
-IsBoxedReply g s t Blocked = ⊤
+-- what is found on a grid: by the engine's run, by the run that goes by the boxes of the grid, or by following
+-- its first moves, where nothing is searched and no state is taken
+abbrev pub found_by : By → GridData → Cell → Cell → Found
+found_by (by_session engine) g s t = found_with (states_of engine) g s t
+found_by by_boxes g s t = boxed_found g s t
+found_by by_moves g s t = record { walk = led_walk g s t; taken = [] }
 
--- points and cost are those of the walk of first moves on this grid; nothing is searched, and no state is
--- taken
-abbrev pub IsLedReply : GridData → Cell → Cell → Reply → Type 0
-IsLedReply g s t (Walk points cost taken) = IsFollowed g s t points cost × (taken ≡ [])
-IsLedReply g s t (None taken) = taken ≡ []
-IsLedReply g s t Outside = ⊤
-IsLedReply g s t Blocked = ⊤
+-- the reply to a query from s to t
+abbrev pub reply_to : Who → Cell → Cell → Reply
+reply_to who s t = reply_finding who.layers s t (found_by who.by (query_grid who.layers s) s t)
 
--- the reply is come to so on this grid
-abbrev pub IsReplyOn : By → GridData → Cell → Cell → Reply → Type 0
-IsReplyOn (by_session engine) g s t reply = IsRunOn engine g s t reply
-IsReplyOn by_boxes g s t reply = IsBoxedReply g s t reply
-IsReplyOn by_moves g s t reply = IsLedReply g s t reply
-
--- the reply to a query from s to t is right, and it is come to on the grid of the query as the one who
--- answers does
+-- the reply is the one to this query, and it is right
 pub record IsReplyBy (who : Who) (s t : Cell) (reply : Reply) : Type 0 where
   pub right : IsRight who.layers s t (answer_of reply)
-  pub run : IsReplyOn who.by (query_grid who.layers s) s t reply
+  pub is : reply ≡ reply_to who s t
+
+-- the reply is that of what is found on this grid
+pub record IsFoundReply (by : By) (g : GridData) (s t : Cell) (reply : Reply) : Type 0 where
+  pub is : reply ≡ reply_with (found_by by g s t).walk (found_by by g s t).taken
 
 -- the fewest steps that are counted for a state that is taken away from the goal; boxes and first moves
 -- promise none
@@ -81,5 +69,5 @@ fewest_by by_moves = 0
 -- is not
 abbrev pub most_by : By → Option ℕ
 most_by (by_session engine) = most_of engine
-most_by by_boxes = option.None
-most_by by_moves = option.None
+most_by by_boxes = None
+most_by by_moves = None

@@ -5,7 +5,7 @@ use Rattle.call_files.specs.Reading.{AreKept}
 use Rattle.jps_run.specs.declared.work.Work.{Work}
 use Rattle.jps_run.specs.declared.work.Work.TheVariants as work
 use Rattle.grid_answers.specs.Encoded.{IsEncoded}
-use Rattle.grid_answers.specs.Telling.{AreWritten}
+use Rattle.grid_answers.specs.Printing.{AreWritten}
 use Rattle.line_work.specs.Sending.{HasHead, IsText}
 use Rattle.scen_lines.specs.Line.{version_line}
 use Rattle.scen_maker.specs.Listing.{AreListed}

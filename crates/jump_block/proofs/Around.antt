@@ -11,8 +11,9 @@ use Rattle.grid_moves.specs.declared.Dir.TheVariants.{N, NE, E, SE, S, SW, W, NW
 use Rattle.grid_moves.specs.Grid.{GridData, is_free}
 use Rattle.grid_moves.specs.Move.{is_passable}
 use Rattle.grid_moves.proofs.Besides.{passable-turned}
-use Rattle.bit_grid.specs.Bits.{is_set}
-use Rattle.bit_grid.proofs.Words.{set_and, set_raised, set_lowered}
+use Rattle.grid_moves.specs.Bits.{is_set}
+use Rattle.grid_moves.proofs.Bits.{set_and}
+use Rattle.bit_grid.proofs.Words.{set_raised, set_lowered}
 use Rattle.pruning.specs.Turns.{is_diagonal}
 use Rattle.pruning.specs.Allowed.{can_move}
 use Rattle.jump_block.specs.declared.word.Way.{Way}

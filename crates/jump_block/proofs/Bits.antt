@@ -12,8 +12,9 @@ use Rattle.std.proofs.lemmas.Nat.Bits.{bit_at_lowest, bit_at-trailing_zeros, bit
 use Rattle.std.proofs.lemmas.Nat.Bits.{bit_at-pow_same, bit_at-pow_other, ones_shr}
 use Rattle.std.proofs.Math.Nat.{pow-succ'}
 use Rattle.std.proofs.lemmas.Bool.{cases_lt}
-use Rattle.bit_grid.specs.Bits.{is_set}
-use Rattle.bit_grid.proofs.Words.{set_and, set_not}
+use Rattle.grid_moves.specs.Bits.{is_set}
+use Rattle.grid_moves.proofs.Bits.{set_and}
+use Rattle.bit_grid.proofs.Words.{set_not}
 
 -- the highest bit alone
 pub set_top : (a : ℕ) → a < 18446744073709551616 → is_set (a / 9223372036854775808) 0 ≡ is_set a 63

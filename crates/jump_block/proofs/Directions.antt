@@ -2,7 +2,7 @@
 use Rattle.std.proofs.lemmas.Grind.{common_steps}
 use Rattle.std.proofs.Common.{◌≡◌, ℕ, suc, ◌+◌, ◌<◌, ◌≤◌, arith, Bool, true, false, ◌||◌}
 use Rattle.std.proofs.Common.{refl, ap, sym, ◌∙◌, subst}
-use Rattle.std.specs.Prelude.{Option, Some, is_some, nat_eq, if◌then◌else◌}
+use Rattle.std.specs.Prelude.{Option, Some, nat_eq, if◌then◌else◌}
 use Rattle.std.proofs.lemmas.Bool.Decides.{nat_tests}
 use Rattle.grid_moves.specs.declared.Cell.{Cell}
 use Rattle.grid_moves.specs.declared.Corner.{Corner}
@@ -19,6 +19,7 @@ use Rattle.jump_plain.specs.declared.beside.Sides.{Sides}
 use Rattle.jump_plain.specs.Reach.{moves_to, reach_of, stop_of}
 use Rattle.jump_plain.proofs.Straight.{straight_stop}
 use Rattle.jump_block.proofs.Runs.{FindsStop, ray_finds}
+use Rattle.jump_block.proofs.Scans.{shown}
 use Rattle.jump_block.specs.declared.block.Halt.{Halt}
 use Rattle.jump_block.specs.declared.straight.Start.{Start}
 use Rattle.jump_block.specs.declared.straight.Axis.{Axis}
@@ -243,12 +244,8 @@ module _ (b : Bits) (g : GridData) (x : Cell) (are : AreItsBits b g) (free : is_
       let found : Option Halt = Some (record { passed = met.0; marked = marked }) in (
         block.stop_of rule found 0,
         stops goal 0 old new _ (sym off) (found, met.1, refl, met.2),
-        shown met.0 marked,
+        shown rule met.0 marked,
       )
-    where
-      shown : (passed : ℕ) (b : Bool)
-          → b ≡ is_some (block.stop_of rule (Some (record { passed = passed; marked = b })) 0)
-      shown passed b = grind (arith, nat_tests, common_steps)
 
 -- a goal in another row and another column is not ahead
 pub off_both : (axis : Axis) (way : Way) (u v : Cell) → (nat_eq u.x v.x || nat_eq u.y v.y) ≡ false

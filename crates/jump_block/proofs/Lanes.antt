@@ -8,10 +8,11 @@ use Rattle.std.specs.Int.{bit_at}
 use Rattle.std.specs.Simd.Lanes.{zip2, fold_l, Each1}
 use Rattle.std.proofs.lemmas.List.{get_or-map, length-map}
 use Rattle.std.proofs.lemmas.Nat.{le_or_l, le_or_r}
-use Rattle.std.proofs.lemmas.Nat.Bits.{bit_at-lt, bit_at-zero, bit_at_ones, bit_at_xor}
+use Rattle.std.proofs.lemmas.Nat.Bits.{bit_at-lt, bit_at-zero, bit_at_xor}
 use Rattle.std.proofs.lemmas.Simd.{get_or-zip2, length-zip2, get_or-replicate, length-replicate, get_or-chunk}
 use Rattle.std.proofs.lemmas.Simd.{length-chunk, Each1-get_or}
-use Rattle.bit_grid.specs.Bits.{is_set}
+use Rattle.grid_moves.specs.Bits.{is_set}
+use Rattle.grid_moves.proofs.Bits.{set_all}
 use Rattle.jump_block.specs.Eight.{HasNone, IsAllAs}
 
 -- eight lanes, each known by its number
@@ -84,9 +85,6 @@ alike_bit a b j set none is =
   where
     same : (m n : ℕ) → m < 2 → n < 2 → (m + n) % 2 ≡ 0 → nat_eq m 1 ≡ nat_eq n 1
     same m n h k e = grind (arith, nat_tests, common_steps)
-
-pub set_all : (j : ℕ) → j < 64 → is_set 18446744073709551615 j ≡ true
-set_all j h = ap (λ (n : ℕ). nat_eq n 1) (bit_at_ones 64 j h)
 
 pub all_alike : (set : Bool) (alike : ℕ) (side : List ℕ) → length side ≡ 8
     → ((j : ℕ) → j < 64 → is_set alike j ≡ set)

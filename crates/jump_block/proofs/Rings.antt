@@ -4,7 +4,6 @@ use Rattle.std.proofs.lemmas.Grind.{common_steps}
 use Rattle.std.proofs.Common.{◌≡◌, ℕ, zero, suc, ◌+◌, ◌*◌, ◌/◌, ◌%◌, ◌^◌, ◌<◌, arith, Bool, true, ◌&&◌, ap}
 use Rattle.std.proofs.Common.{refl, sym, ◌∙◌}
 use Rattle.std.specs.Prelude.{nat_eq}
-use Rattle.std.proofs.lemmas.Nat.{shr-shr}
 use Rattle.grid_moves.specs.declared.Cell.{Cell}
 use Rattle.grid_moves.specs.declared.Corner.{Corner}
 use Rattle.grid_moves.specs.declared.Dir.{Dir}
@@ -12,19 +11,16 @@ use Rattle.grid_moves.specs.declared.Dir.TheVariants.{N, NE, E, SE, S, SW, W, NW
 use Rattle.grid_moves.specs.Grid.{GridData, is_free}
 use Rattle.grid_moves.specs.Move.{is_open, is_passable}
 use Rattle.grid_moves.specs.Ring.{is_free_on}
-use Rattle.bit_grid.specs.Bits.{is_set}
+use Rattle.grid_moves.specs.Bits.{is_set}
 use Rattle.pruning.specs.declared.turns.Side.TheVariants.{Right, Left}
 use Rattle.pruning.specs.Turns.{turn, is_diagonal}
 use Rattle.pruning.specs.Allowed.{can_move}
-use Rattle.pruning.specs.Eight.{has_bit, ring_of}
+use Rattle.pruning.specs.Eight.{ring_of}
 use Rattle.pruning.proofs.Moves.{can_move-diagonal}
 use Rattle.jump_block.specs.Near.{AreThree}
 use Rattle.jump_block.specs.declared.straight.Axis.TheVariants.{Row}
 use Rattle.jump_block.specs.Source.{by_line}
 use Rattle.jump_block.proofs.Directions.{is_open_there}
-
-pub set_from : (word place j : ℕ) → is_set (word / 2 ^ place) j ≡ is_set word (place + j)
-set_from word place j = ap (λ (n : ℕ). nat_eq (n % 2) 1) (shr-shr word place j)
 
 pub three_of : (f : ℕ → Bool) (first word inner lowest : ℕ) (a b c : Bool)
     → a ≡ f first → b ≡ f (first + 1) → c ≡ f (first + 2)
@@ -55,7 +51,7 @@ three_at f line first line' first' word e h three = grind (arith, nat_tests, com
 module _ (above middle below eight : ℕ)
     (is : eight ≡ above % 8 + middle % 2 * 8 + middle / 4 % 2 * 16 + below % 8 * 32) where
   -- each of them is a bit of a word
-  bit : (word j place : ℕ) → eight / place % 2 ≡ word / 2 ^ j % 2 → has_bit eight place ≡ is_set word j
+  bit : (word j place : ℕ) → eight / 2 ^ place % 2 ≡ word / 2 ^ j % 2 → is_set eight place ≡ is_set word j
   bit word j place same = ap (λ (n : ℕ). nat_eq n 1) same
 
   -- the cells around a cell are the middle bit's neighbours
@@ -63,21 +59,21 @@ module _ (above middle below eight : ℕ)
       → AreThree (by_line g Row) x.y x.x above → AreThree (by_line g Row) (x.y + 1) x.x middle
       → AreThree (by_line g Row) (x.y + 2) x.x below
       → (d : Dir) → is_free_on (ring_of eight) d ≡ is_open g x d
-  eight_read g x a m b N = bit above 1 2 (omega (arith, is)) ∙ a 1 (omega arith)
+  eight_read g x a m b N = bit above 1 1 (omega (arith, is)) ∙ a 1 (omega arith)
       ∙ is_open_there g N x.x x.y _ _ (omega arith) (omega arith)
-  eight_read g x a m b NE = bit above 2 4 (omega (arith, is)) ∙ a 2 (omega arith)
+  eight_read g x a m b NE = bit above 2 2 (omega (arith, is)) ∙ a 2 (omega arith)
       ∙ is_open_there g NE x.x x.y _ _ (omega arith) (omega arith)
-  eight_read g x a m b E = bit middle 2 16 (omega (arith, is)) ∙ m 2 (omega arith)
+  eight_read g x a m b E = bit middle 2 4 (omega (arith, is)) ∙ m 2 (omega arith)
       ∙ is_open_there g E x.x x.y _ _ (omega arith) (omega arith)
-  eight_read g x a m b SE = bit below 2 128 (omega (arith, is)) ∙ b 2 (omega arith)
+  eight_read g x a m b SE = bit below 2 7 (omega (arith, is)) ∙ b 2 (omega arith)
       ∙ is_open_there g SE x.x x.y _ _ (omega arith) (omega arith)
-  eight_read g x a m b S = bit below 1 64 (omega (arith, is)) ∙ b 1 (omega arith)
+  eight_read g x a m b S = bit below 1 6 (omega (arith, is)) ∙ b 1 (omega arith)
       ∙ is_open_there g S x.x x.y _ _ (omega arith) (omega arith)
-  eight_read g x a m b SW = bit below 0 32 (omega (arith, is)) ∙ b 0 (omega arith)
+  eight_read g x a m b SW = bit below 0 5 (omega (arith, is)) ∙ b 0 (omega arith)
       ∙ is_open_there g SW x.x x.y _ _ (omega arith) (omega arith)
-  eight_read g x a m b W = bit middle 0 8 (omega (arith, is)) ∙ m 0 (omega arith)
+  eight_read g x a m b W = bit middle 0 3 (omega (arith, is)) ∙ m 0 (omega arith)
       ∙ is_open_there g W x.x x.y _ _ (omega arith) (omega arith)
-  eight_read g x a m b NW = bit above 0 1 (omega (arith, is)) ∙ a 0 (omega arith)
+  eight_read g x a m b NW = bit above 0 0 (omega (arith, is)) ∙ a 0 (omega arith)
       ∙ is_open_there g NW x.x x.y _ _ (omega arith) (omega arith)
 
 -- a diagonal move is known by three cells

@@ -2,7 +2,7 @@
 use Rattle.std.proofs.lemmas.Grind.{common_steps}
 use Rattle.std.proofs.Common.{◌≡◌, ℕ, suc, ◌+◌, ◌*◌, ◌-◌, ◌/◌, ◌<◌, ◌≤◌, ◌⊎◌, arith, Bool}
 use Rattle.std.proofs.Common.{true, false, ◌&&◌, inl, inr, ap, sym, ◌∙◌, subst}
-use Rattle.std.specs.Prelude.{nat_lt, nat_le, Option, Some, None}
+use Rattle.std.specs.Prelude.{nat_lt, nat_le, Option, Some, None, is_some}
 use Rattle.std.proofs.lemmas.Bool.{cases_lt}
 use Rattle.std.proofs.lemmas.Bool.Decides.{nat_tests}
 use Rattle.grid_moves.specs.declared.Corner.{Corner}
@@ -16,8 +16,8 @@ use Rattle.jump_block.specs.Word.{Meets, IsBlockOf, IsAhead, moves_before, nth_w
 use Rattle.jump_block.specs.Word.{HasNext, next_block}
 use Rattle.jump_block.specs.Seek.{HasPassed}
 use Rattle.jump_block.specs.declared.block.Halt.{Halt}
-use Rattle.jump_block.specs.Scan.{Finds, IsStart, most_lanes, nearer}
-use Rattle.jump_block.specs.Source.{HasFew}
+use Rattle.jump_block.specs.Scan.{Finds, IsStart, MeetsMark, looked, most_lanes, nearer}
+use Rattle.jump_block.specs.Source.{HasFew, StopsAt, stop_of}
 use Rattle.jump_block.proofs.Blocks.{own_later}
 
 -- how many blocks past the first, and how many are left
@@ -120,6 +120,21 @@ module _ {l : LineData} {free : ℕ → ℕ → Bool} {line from : ℕ} (start :
       → Finds rule (begun rule (trail_on free way line from)) to_goal found → HasFew found
   few_found way rule to_goal (Some h) is = few_passed way rule h.passed is.clear
   few_found way rule to_goal None is = tt
+
+-- where the goal is not ahead, a stop is a mark
+pub shown : (rule : Corner) (passed : ℕ) (b : Bool)
+    → b ≡ is_some (stop_of rule (Some (record { passed = passed; marked = b })) 0)
+shown rule passed b = grind (arith, nat_tests, common_steps)
+
+pub stop_met : (rule : Corner) (t : Trail) (old new : ℕ) (stop : Option ℕ) → StopsAt rule t 0 old new stop
+    → MeetsMark rule t old new (is_some stop)
+stop_met rule t old new stop its = by_found its.0 its.1 its.2 its.3
+  where
+    by_found : (found : Option Halt) → Finds rule t 0 found → stop ≡ stop_of rule found 0
+        → new ≤ old + most_lanes (looked 0 found) → MeetsMark rule t old new (is_some stop)
+    by_found (Some h) halts is most =
+        (h.passed, rw (is, sym (shown rule h.passed h.marked)) halts, most)
+    by_found None passes is most = absurd (let none = passes.0 in omega (arith, none))
 
 -- blocks meet at their edges
 pub edges_meet : (way : Way) (index : ℕ) → HasNext way index

@@ -4,8 +4,9 @@ use Rattle.std.proofs.Common.{◌≡◌, ℕ, zero, suc, ◌+◌, ◌*◌, ◌-�
 use Rattle.std.proofs.Common.{Bool, true, false, not, ◌&&◌, ◌||◌, refl, ap, sym, ◌∙◌, subst, bit_and, bit_or}
 use Rattle.std.proofs.lemmas.Nat.{or_lt}
 use Rattle.std.proofs.lemmas.Bool.{cases_lt, cond-true, cond-false}
-use Rattle.bit_grid.specs.Bits.{is_set}
-use Rattle.bit_grid.proofs.Words.{set_or, set_raised, set_raised-lowest, set_lowered, set_none}
+use Rattle.grid_moves.specs.Bits.{is_set}
+use Rattle.grid_moves.proofs.Bits.{set_or, set_none}
+use Rattle.bit_grid.proofs.Words.{set_raised, set_raised-lowest, set_lowered}
 use Rattle.jump_block.specs.declared.word.Way.{Way}
 use Rattle.jump_block.specs.declared.word.Way.TheVariants.{Forward, Back}
 use Rattle.bit_grid.specs.declared.lines.ThreeWords.{ThreeWords}

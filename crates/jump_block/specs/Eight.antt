@@ -1,6 +1,6 @@
 -- Eight words of a line.
 use Rattle.std.specs.Prelude.{◌≡◌, ℕ, ◌<◌, Bool, List, slice_index_or}
-use Rattle.bit_grid.specs.Bits.{is_set}
+use Rattle.grid_moves.specs.Bits.{is_set}
 use Rattle.jump_block.specs.declared.word.Way.{Way}
 use Rattle.jump_block.specs.declared.word.Way.TheVariants.{Forward, Back}
 

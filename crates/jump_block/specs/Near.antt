@@ -1,6 +1,7 @@
 -- The words around a cell.
 use Rattle.std.specs.Prelude.{◌≡◌, ℕ, ◌+◌, ◌-◌, ◌*◌, ◌/◌, ◌<◌, Bool}
-use Rattle.bit_grid.specs.Bits.{LineData, is_set}
+use Rattle.grid_moves.specs.Bits.{is_set}
+use Rattle.bit_grid.specs.Bits.{LineData}
 use Rattle.jump_block.specs.declared.word.Way.{Way}
 use Rattle.jump_block.specs.declared.word.Way.TheVariants.{Forward, Back}
 use Rattle.bit_grid.specs.declared.lines.ThreeWords.{ThreeWords}

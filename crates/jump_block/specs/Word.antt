@@ -1,7 +1,7 @@
 -- Words of a trail: 64 places of a line, and the places beside them.
 use Rattle.std.specs.Prelude.{◌≡◌, ℕ, suc, ◌+◌, ◌*◌, ◌-◌, ◌<◌, ◌≤◌, Bool, true, nat_lt, if◌then◌else◌}
 use Rattle.std.specs.Prelude.{length, slice_index_or}
-use Rattle.bit_grid.specs.Bits.{is_set}
+use Rattle.grid_moves.specs.Bits.{is_set}
 use Rattle.jump_block.specs.declared.word.Way.{Way}
 use Rattle.jump_block.specs.declared.word.Way.TheVariants.{Forward, Back}
 use Rattle.bit_grid.specs.declared.lines.ThreeWords.{ThreeWords}

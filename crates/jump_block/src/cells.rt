@@ -4,28 +4,20 @@ ghost use Rattle.std.specs.Prelude.{◌≡◌, ℕ, suc, ◌+◌, ◌*◌, ◌/�
 ghost use Rattle.grid_moves.specs.Move as moves;
 ghost use Rattle.grid_moves.specs.Ring.{is_free_on};
 ghost use Rattle.pruning.specs.Eight.{ring_of};
-ghost use Rattle.bit_grid.specs.Bits.{Shows, is_set};
+ghost use Rattle.grid_moves.specs.Bits.{is_set};
+ghost use Rattle.bit_grid.specs.Bits.{Shows};
 ghost use Rattle.jump_block.specs.Near.{AreThree, AreThreeBeside};
 ghost use Rattle.jump_block.specs.Source.{OnSome, OnEach};
 
 use crate::straight::Bits;
 use bit_grid::{Lines, ThreeWords};
-use grid_moves::Cell;
+use grid_moves::{Cell, is_set};
 use std::sync::ledger::Ledger;
 use steps::Steps;
 
-/// Whether a bit is set.
-#[inline(always)]
-pub(crate) fn is_set(word: u64, place: u32) -> bool
-    requires { place < 64 }
-    ensures { result ≡ is_set word place }
-{
-    word >> place & 1 == 1
-}
-
 // The word from this bit on.
 #[inline(always)]
-#[tactic(auto, using(crate::proofs::Rings::set_from))]
+#[tactic(auto, using(grid_moves::proofs::Bits::set_from))]
 fn from_bit(word: u64, place: u32) -> u64
     requires { place < 64 }
     ensures { (j : ℕ) → is_set result j ≡ is_set word (place + j) }

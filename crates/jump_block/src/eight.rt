@@ -6,7 +6,7 @@
 //! other block is searched word by word.
 
 ghost use Rattle.std.specs.Prelude.{◌≡◌, ℕ, ◌<◌, Bool, true, length, not, slice_index_or};
-ghost use Rattle.bit_grid.specs.Bits.{is_set};
+ghost use Rattle.grid_moves.specs.Bits.{is_set};
 ghost use Rattle.jump_block.specs.Eight.{HasNone, IsAllAs, last_bit};
 
 use crate::word::Way;

@@ -10,7 +10,7 @@ ghost use Rattle.jump_block.specs.Word as ways;
 ghost use Rattle.jump_block.specs.Word.{AreEight};
 
 use crate::block::{Block, Halt, halt_near, halt_next};
-use crate::scan::{scan, scan_rest, way_of};
+use crate::scan::{scan_rest, way_of};
 use crate::straight::stop_of;
 use crate::word::Way;
 use bit_grid::{Lines, ThreeWords};
@@ -29,32 +29,8 @@ fn is_mark(found: Option<Halt>) -> bool
     }
 }
 
-// Whether a scan halts at a mark. It is for the scans that leave the next words too.
-#[inline(never)]
-fn finds_far<const FORWARD: bool, const RULE: usize, L: Ledger>(
-    rule: Corner,
-    lines: &Lines,
-    line: u32,
-    place: u32,
-    steps: &mut Steps<L>,
-) -> bool
-    requires rule { rule ≡ ruled.rule_of_number RULE }
-    requires starts { (free : ℕ → ℕ → Bool) × IsStart lines.now free line place }
-    ensures finds { MeetsFrom lines.now rule (ways.way_of FORWARD) line place steps.old steps.new result }
-    ensures more { steps.old ≤ steps.new }
-{
-    is_mark(scan::<RULE, false, L>(
-        way_of(FORWARD),
-        rule_of_number(RULE),
-        lines,
-        line,
-        place,
-        0,
-        steps,
-    ))
-}
-
-// The same, where nothing halts the scan in the words around the cell: the next three are read before.
+// Whether a scan halts at a mark, where nothing halts it in the words around the cell: the next three are read
+// before all that is past them.
 #[inline(never)]
 fn finds_next<const FORWARD: bool, const RULE: usize, L: Ledger>(
     rule: Corner,
@@ -84,7 +60,17 @@ fn finds_next<const FORWARD: bool, const RULE: usize, L: Ledger>(
     if found.is_some() {
         return is_mark(found);
     }
-    finds_far::<FORWARD, RULE, L>(rule, lines, line, place, steps)
+    let block = Block::read(lines, line, place / 512, steps);
+    mark_past::<FORWARD, RULE, L>(
+        lines,
+        line,
+        place,
+        block.middle,
+        block.before,
+        block.after,
+        steps,
+    )
+    .is_some()
 }
 
 /// Whether a scan from a free cell halts at a mark, given the words around the cell.

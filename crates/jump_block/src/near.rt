@@ -2,19 +2,19 @@
 
 ghost use Rattle.std.specs.Prelude.{◌≡◌, ℕ, ◌+◌, ◌*◌, ◌/◌, ◌<◌, ◌≤◌, ◌&&◌, Bool, true, IfSome};
 ghost use Rattle.grid_moves.specs.Move as moves;
-ghost use Rattle.bit_grid.specs.Bits.{Shows, is_set};
+ghost use Rattle.grid_moves.specs.Bits.{is_set};
+ghost use Rattle.bit_grid.specs.Bits.{Shows};
 ghost use Rattle.jump_block.specs.Near as spec;
 ghost use Rattle.jump_block.specs.Near.{AreNear, AreNearStart, HasNextBit, HasNextWord};
 ghost use Rattle.jump_block.specs.Scan.{IsStart};
 ghost use Rattle.jump_block.specs.Source as source;
 ghost use Rattle.jump_block.specs.declared.straight.Axis.TheVariants.{Row, Column};
 
-use crate::cells::is_set;
 use crate::diagonal::way_on;
 use crate::straight::Axis;
 use crate::word::Way;
 use bit_grid::{Lines, ThreeWords};
-use grid_moves::{Corner, Dir, passable_bits};
+use grid_moves::{Corner, Dir, is_set, passable_bits};
 use std::sync::ledger::Ledger;
 use steps::Steps;
 

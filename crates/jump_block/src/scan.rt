@@ -163,10 +163,9 @@ pub(crate) fn scan_rest<const FORWARD: bool, const RULE: usize, L: Ledger>(
 /// Scans along a line from a free cell: finds where the scan halts, or `None` where the goal is met before. The
 /// goal lies so many moves on, or is not ahead, which is 0.
 ///
-/// Most scans halt in the block in which they start, so what is past it is looked at out of line. `AIMED`
-/// tells whether the goal may be ahead: where it is false, the goal is not ahead and is not looked for.
+/// Most scans halt in the block in which they start, so what is past it is looked at out of line.
 #[inline(always)]
-pub(crate) fn scan<const RULE: usize, const AIMED: bool, L: Ledger>(
+pub(crate) fn scan<const RULE: usize, L: Ledger>(
     way: Way,
     rule: Corner,
     lines: &Lines,
@@ -176,7 +175,6 @@ pub(crate) fn scan<const RULE: usize, const AIMED: bool, L: Ledger>(
     steps: &mut Steps<L>,
 ) -> Option<Halt>
     requires rule { rule ≡ ruled.rule_of_number RULE }
-    requires aside { AIMED ≡ false → to_goal ≡ 0 }
     requires starts { (free : ℕ → ℕ → Bool) × IsStart lines.now free line place }
     ensures finds { FindsFrom lines.now rule way to_goal line place result }
     ensures most { steps.new ≤ steps.old + most_lanes (looked to_goal result) }
@@ -187,10 +185,10 @@ pub(crate) fn scan<const RULE: usize, const AIMED: bool, L: Ledger>(
         Seek::Halted(halt) => Some(halt),
         Seek::Passed(words) => match way {
             Way::Forward => {
-                scan_on_by::<true, RULE, AIMED, L>(rule, lines, line, place, to_goal, words, steps)
+                scan_on_by::<true, RULE, true, L>(rule, lines, line, place, to_goal, words, steps)
             }
             Way::Back => {
-                scan_on_by::<false, RULE, AIMED, L>(rule, lines, line, place, to_goal, words, steps)
+                scan_on_by::<false, RULE, true, L>(rule, lines, line, place, to_goal, words, steps)
             }
         },
     }

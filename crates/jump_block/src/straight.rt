@@ -178,7 +178,7 @@ impl<'a> Bits<'a> {
     {
         let to_goal = moves_to(dir_on(axis, way), at, goal);
         let start = self.start(at, axis);
-        let found = scan::<RULE, true, L>(
+        let found = scan::<RULE, L>(
             way,
             self.corner,
             start.lines,

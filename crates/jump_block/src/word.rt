@@ -15,7 +15,7 @@
 
 ghost use Rattle.std.specs.Prelude.{◌≡◌, ℕ, ◌+◌, ◌-◌, ◌<◌, false, true, nat_eq, not};
 ghost use Rattle.grid_moves.specs.Move as moves;
-ghost use Rattle.bit_grid.specs.Bits.{is_set};
+ghost use Rattle.grid_moves.specs.Bits.{is_set};
 ghost use Rattle.jump_block.specs.Trail as trails;
 ghost use Rattle.jump_block.specs.Trail.{Trail, begun};
 ghost use Rattle.jump_block.specs.Word as spec;

@@ -1,4 +1,4 @@
--- Where a neighbour is forced, told by the cells beside two cells of a run.
+-- Where a neighbour is forced, by the cells beside two cells of a run.
 use Rattle.std.proofs.lemmas.Bool.Decides.{nat_tests}
 use Rattle.std.proofs.lemmas.Grind.{common_steps}
 use Rattle.std.proofs.Common.{◌≡◌, arith, Bool, true, false, not, ◌&&◌, ◌||◌, refl, ap, sym, ◌∙◌}
@@ -9,7 +9,7 @@ use Rattle.grid_moves.specs.declared.Dir.{Dir}
 use Rattle.grid_moves.specs.Grid.{GridData, is_free}
 use Rattle.grid_moves.specs.Move.{legal_ahead, is_open, is_passable, may_cut, may_slip}
 use Rattle.grid_moves.proofs.Legal.{and_both, legal_is, by_cut, passable-cut, passable-uncut}
-use Rattle.std.proofs.lemmas.Bool.{cond-true, cond-false}
+use Rattle.std.proofs.lemmas.Bool.{cond-true, cond-false, or_left, or_right}
 use Rattle.grid_moves.proofs.Besides.{passable-turned}
 use Rattle.pruning.specs.declared.turns.Side.{Side}
 use Rattle.pruning.specs.declared.turns.Side.TheVariants.{Right, Left}
@@ -47,12 +47,6 @@ module _ (r : Corner) (blocked can : Dir → Bool) (d : Dir) (s : Side) where
 -- a move between two cells, one of them free, passes where one may be cut
 passes : (r : Corner) (a b c : Bool) → may_cut r ≡ true → (b || c) ≡ true → (a && is_passable r b c) ≡ a
 passes r a b c e h = rw (passable-cut r e b c h) (grind arith)
-
-either : (b c : Bool) → b ≡ true → (b || c) ≡ true
-either b c h = grind arith
-
-either-right : (b c : Bool) → c ≡ true → (b || c) ≡ true
-either-right b c h = grind arith
 
 -- past a blocked cell ahead a move leads between two blocked cells
 slips : (r : Corner) (o b c : Bool) → b ≡ false
@@ -96,10 +90,10 @@ module _ (g : GridData) (u v : Cell) (d : Dir) (l : Leads g u v d) where
       → can_move g u (turn s d) ≡ is_open g u (turn s d)
   turns_aside r h Right =
       let beside : is_open g u (turn Left (turn Right d)) ≡ true = rw (turn_back Right d) open_ahead in
-      grind (arith, nat_tests, common_steps, can_move-diagonal, source, turn_parity, passes, either)
+      grind (arith, nat_tests, common_steps, can_move-diagonal, source, turn_parity, passes, or_left)
   turns_aside r h Left =
       let beside : is_open g u (turn Right (turn Left d)) ≡ true = rw (turn_back Left d) open_ahead in
-      grind (arith, nat_tests, common_steps, can_move-diagonal, source, turn_parity, passes, either-right)
+      grind (arith, nat_tests, common_steps, can_move-diagonal, source, turn_parity, passes, or_right)
 
   forced_here : may_cut g.corner ≡ true → is_diagonal d ≡ false → (s : Side)
       → is_forced_on g.corner (is_blocked g u) (can_move g u) d s

@@ -2,8 +2,7 @@
 use Rattle.std.proofs.Common.{◌≡◌, refl, sym, ap, subst, ℕ, ◌≤◌, Bool, true, false, List, [], ◌∷◌, ◌++◌}
 use Rattle.std.proofs.Common.{length, append-nil}
 use Rattle.std.specs.Prelude.{Option, Some, None, Result, Ok, Err, if◌then◌else◌}
-use Rattle.grid_moves.specs.declared.Cell.{Cell}
-use Rattle.grid_moves.specs.Layers.{Layers, query_grid}
+use Rattle.grid_moves.specs.Layers.{query_grid}
 use Rattle.io_edge.specs.Known.{Held, absent, holding, unknown}
 use Rattle.io_edge.specs.Whole.{IsWhole}
 use Rattle.map_text.specs.Map.{Map}
@@ -13,13 +12,8 @@ use Rattle.script_text.specs.Faults.{script_of}
 use Rattle.scen_text.specs.Faults.{scen_of}
 use Rattle.walk_judge.specs.Walks.{walks_of}
 use Rattle.potential_check.specs.Text.{certificate_of}
-use Rattle.edit_replay.specs.declared.reply.Reply.{Reply}
 use Rattle.word_list.specs.Kinds.{word_at}
 use Rattle.word_list.specs.Settings.{is_for_small_maps}
-use Rattle.word_list.specs.declared.request.Pick.{Pick}
-use Rattle.word_list.specs.declared.request.States.{States}
-use Rattle.word_list.specs.declared.request.Pick.TheVariants.{Session, Small}
-use Rattle.word_list.specs.declared.request.SmallEngine.TheVariants.{Boxes, Moves}
 use Rattle.word_list.specs.declared.request.Settings.{Settings}
 use Rattle.word_list.specs.declared.rows.Command.TheVariants.{Query, Solve, Scen, Judge, Check, Lengths}
 use Rattle.call_files.specs.FaultLines.{cert_line, map_line, scen_line, script_line, walks_line}
@@ -34,13 +28,10 @@ use Rattle.jps_run.specs.Lines.{reply_line}
 use Rattle.jps_run.specs.Parts.{OnLast, OnMap, Prints, Says}
 use Rattle.jps_run.specs.Rows.{scen_lines, scen_status}
 use Rattle.jps_run.specs.Rulings.{judge_lines, judge_status}
-use Rattle.jps_run.specs.Session.{by_of, engine_for, session_on, who_on}
-use Rattle.jps_run.specs.Who.{IsReplyBy}
-use Rattle.jps_run.proofs.Existing.{boxed_exists, led_exists}
-use Rattle.jps_run.proofs.SessionReply.{reply_exists}
-use Rattle.outcome_laws.proofs.Checked.{verdict_exists}
+use Rattle.jps_run.specs.Session.{session_on, who_on}
+use Rattle.jps_run.proofs.Existing.{reply_exists}
+use Rattle.outcome_laws.proofs.Verdicts.{verdict_exists}
 use Rattle.outcome_laws.proofs.Answered.{answers_exist, lengths_exist, rows_exist, rulings_exist}
-use Rattle.outcome_laws.proofs.Moved.{moves_exist}
 use Rattle.outcome_laws.proofs.Readable.{certificate_read}
 
 -- a text that is not refused is read
@@ -102,18 +93,6 @@ module _ (holds : List ℕ → Held) where
   nothing earlier [] p = refl
   nothing earlier (text ∷ texts) p = absurd p
 
--- whoever answers has a reply
-module _ (ls : Layers) (s t : Cell) where
-  reply_by : (states : States) (p : Pick)
-      → (reply : Reply) × IsReplyBy (record { layers = ls; by = by_of states p }) s t reply
-  reply_by states (Session engine) = reply_exists (record { engine = engine_for states engine; layers = ls }) s t
-  reply_by states (Small Boxes) = boxed_exists ls s t
-  reply_by states (Small Moves) = let m = moves_exist (query_grid ls s) in led_exists ls s t m.0 m.1
-
-who_replies : (set : Settings) (m : Map) (s t : Cell)
-    → (reply : Reply) × IsReplyBy (who_on set m) s t reply
-who_replies set m s t = reply_by (layers_on set m) s t set.states set.pick
-
 -- a task has an answer, on these texts
 abbrev pub HasAnswer : Task → List (List ℕ) → Type 0
 HasAnswer task texts = (lines : List (List ℕ)) × (status : ℕ) × task.IsRight texts lines status
@@ -146,10 +125,10 @@ module _ (holds : List ℕ → Held) (set : Settings) where
       record { text = one.0; map = m.0; is = one.1.0; read = m.1 }
 
   -- a text is printed of it
-  pub prints : {Known : Map → List ℕ → ℕ → Type 0} {texts : List (List ℕ)} → Alone texts
+  pub prints : {Such : Map → List ℕ → ℕ → Type 0} {texts : List (List ℕ)} → Alone texts
       → ((text : List ℕ) (m : Map) → map_of text ≡ Ok m
-      → (printed : List ℕ) × (status : ℕ) × Known m printed status)
-      → (lines : List (List ℕ)) × (status : ℕ) × Prints texts lines status Known
+      → (printed : List ℕ) × (status : ℕ) × Such m printed status)
+      → (lines : List (List ℕ)) × (status : ℕ) × Prints texts lines status Such
   prints one has =
       let all = has one.text one.map one.read in (
         all.0 ∷ [],
@@ -161,7 +140,7 @@ module _ (holds : List ℕ → Held) (set : Settings) where
           read = one.read;
           printed = all.0;
           all = refl;
-          known = all.2;
+          such = all.2;
         },
       )
 
@@ -172,22 +151,22 @@ module _ (holds : List ℕ → Held) (set : Settings) where
       has_map holds set map tables [] texts (subst (λ (fs : List File). AreAccepted holds [] fs texts)
       (sym (append-nil (map_files set map tables))) p)
 
-  -- what is known of the last file, behind a map and a table file
-  on_last : {Known : Map → List ℕ → Type 0} (file : File) (texts : List (List ℕ))
+  -- what holds of the last file, behind a map and a table file
+  on_last : {Such : Map → List ℕ → Type 0} (file : File) (texts : List (List ℕ))
       (h : HasMap holds (file ∷ []) texts) (one : (second : List ℕ) × ((h.more ≡ second ∷ [])
-      × (refusal_of file.kind (h.text ∷ h.loaded) second ≡ None))) → Known h.map one.0
-      → OnMap texts (λ m behind. OnLast behind (Known m))
-  on_last file texts h one known = record {
+      × (refusal_of file.kind (h.text ∷ h.loaded) second ≡ None))) → Such h.map one.0
+      → OnMap texts (λ m behind. OnLast behind (Such m))
+  on_last file texts h one such = record {
     text = h.text;
     behind = h.loaded ++ h.more;
     map = h.map;
     is = h.is;
     read = h.read;
-    known = record {
+    such = record {
       before = h.loaded;
       last = one.0;
       is = ap (λ (more : List (List ℕ)). h.loaded ++ more) one.1.0;
-      known = known;
+      such = such;
     };
   }
 
@@ -203,7 +182,7 @@ module _ (holds : List ℕ → Held) (set : Settings) (words : List (List ℕ)) 
       → HasAnswer (task set Query words tables) texts
   query_has texts p =
       let h = with_tables holds set (word_at words 0) tables texts p in
-      let r = who_replies set h.map (cell_at words 1) (cell_at words 3) in
+      let r = reply_exists (who_on set h.map) (cell_at words 1) (cell_at words 3) in
       let line = reply_line (who_on set h.map).layers.land.width set.show r.0 in (
         line ∷ [],
         0,
@@ -214,10 +193,10 @@ module _ (holds : List ℕ → Held) (set : Settings) (words : List (List ℕ)) 
             map = h.map;
             is = h.is;
             read = h.read;
-            known = record {
+            such = record {
               one = line;
               is = refl;
-              known = record { reply = r.0; is_reply = r.1; shown = refl };
+              such = record { reply = r.0; is_reply = r.1; shown = refl };
             };
           },
           refl,
@@ -238,7 +217,7 @@ module _ (holds : List ℕ → Held) (set : Settings) (words : List (List ℕ)) 
           on_last holds set file texts h one (record {
             value = commands.0;
             is = commands.1;
-            known = record { session = session_on set h.map; is = refl; known = all.1 };
+            such = record { session = session_on set h.map; is = refl; such = all.1 };
           }),
           refl,
         ),
@@ -251,13 +230,13 @@ module _ (holds : List ℕ → Held) (set : Settings) (words : List (List ℕ)) 
       let h = has_map holds set (word_at words 0) tables (file ∷ []) texts p in
       let one = single holds (h.text ∷ h.loaded) file h.more h.accepted in
       let entries = read_of scen_line (scen_of one.0) one.1.1 in
-      let all = rows_exist (who_on set h.map) (who_replies set h.map) entries.0 in (
+      let all = rows_exist (who_on set h.map) entries.0 in (
         scen_lines set.show all.0,
         scen_status all.0,
         on_last holds set file texts h one (record {
           value = entries.0;
           is = entries.1;
-          known = record { from = all.0; all = refl; code = refl; known = all.1 };
+          such = record { from = all.0; all = refl; code = refl; such = all.1 };
         }),
       )
 
@@ -282,17 +261,17 @@ module _ (holds : List ℕ → Held) (set : Settings) (words : List (List ℕ)) 
           map = m.0;
           is = refl;
           read = m.1;
-          known = (
+          such = (
             second,
             third,
             refl,
             record {
               value = entries.0;
               is = entries.1;
-              known = record {
+              such = record {
                 value = claimed.0;
                 is = claimed.1;
-                known = record { from = all.0; all = refl; code = refl; known = all.1 };
+                such = record { from = all.0; all = refl; code = refl; such = all.1 };
               };
             },
           );
@@ -316,10 +295,10 @@ module _ (holds : List ℕ → Held) (set : Settings) (words : List (List ℕ)) 
           map = m.0;
           is = refl;
           read = m.1;
-          known = record {
+          such = record {
             one = second;
             is = refl;
-            known = record { value = entries.0; is = entries.1; known = all.2 };
+            such = record { value = entries.0; is = entries.1; such = all.2 };
           };
         },
       )
@@ -343,10 +322,10 @@ module _ (holds : List ℕ → Held) (set : Settings) (words : List (List ℕ)) 
           map = m.0;
           is = refl;
           read = m.1;
-          known = record {
+          such = record {
             one = second;
             is = refl;
-            known = (c.0, c.1, record { one = all.0; is = refl; known = all.2 });
+            such = (c.0, c.1, record { one = all.0; is = refl; such = all.2 });
           };
         },
       )

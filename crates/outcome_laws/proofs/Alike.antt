@@ -16,8 +16,7 @@ use Rattle.jps_run.specs.Parts.{MadeOf, OnLast, OnMap, One, Prints, Reads, Says}
 use Rattle.jps_run.specs.Rulings.{AreRulings, judge_lines, judge_status}
 use Rattle.outcome_laws.specs.Outcomes.{AsksForCosts}
 use Rattle.outcome_laws.proofs.Kept.{are_layers-text}
-use Rattle.outcome_laws.proofs.OnMap.{alike_rows_on}
-use Rattle.outcome_laws.proofs.Printed.{one_drill}
+use Rattle.outcome_laws.proofs.OnMap.{alike_rows_on, one_drill}
 use Rattle.outcome_laws.proofs.Rulings as rulings
 
 -- the parts of a list of texts
@@ -64,26 +63,26 @@ on_map {R} {K} {L} p q f =
     let e : p.text ∷ p.behind ≡ q.text ∷ q.behind = sym p.is ∙ q.is in
     let map : p.map ≡ q.map = ok_same p.map q.map (map_of p.text) p.read
     (ap map_of (same_first p.text q.text p.behind q.behind e) ∙ q.read) in
-    f p.text p.map p.behind p.read p.known (subst (λ (m : Map). L m p.behind) (sym map)
+    f p.text p.map p.behind p.read p.such (subst (λ (m : Map). L m p.behind) (sym map)
     (subst (λ (texts : List (List ℕ)). L q.map texts) (sym (same_others p.text q.text p.behind q.behind e))
-    q.known))
+    q.such))
 
 pub on_last : {R : Type 0} {K L : List ℕ → Type 0} {texts : List (List ℕ)} (p : OnLast texts K)
     (q : OnLast texts L)
     → ((last : List ℕ) → K last → L last → R) → R
-on_last {R} {K} {L} p q f = f p.last p.known (subst L (sym (sym (last_append [] p.before p.last)
+on_last {R} {K} {L} p q f = f p.last p.such (subst L (sym (sym (last_append [] p.before p.last)
     ∙ ap (λ (texts : List (List ℕ)). last [] texts) (sym p.is ∙ q.is) ∙ last_append [] q.before q.last))
-    q.known)
+    q.such)
 
 pub on_one : {R : Type 0} {K L : List ℕ → Type 0} {texts : List (List ℕ)} (p : One texts K) (q : One texts L)
     → ((one : List ℕ) → K one → L one → R) → R
 on_one {R} {K} {L} p q f =
-    f p.one p.known (subst L (sym (same_first p.one q.one [] [] (sym p.is ∙ q.is))) q.known)
+    f p.one p.such (subst L (sym (same_first p.one q.one [] [] (sym p.is ∙ q.is))) q.such)
 
 pub on_value : {R V F : Type 0} {K L : V → Type 0} {read : Result V F} (p : Reads read K) (q : Reads read L)
     → ((value : V) → K value → L value → R) → R
 on_value {R} {V} {F} {K} {L} {read} p q f =
-    f p.value p.known (subst L (sym (ok_same p.value q.value read p.is q.is)) q.known)
+    f p.value p.such (subst L (sym (ok_same p.value q.value read p.is q.is)) q.such)
 
 -- lines that are one line, a text of the program's own, what is made of one thing, and what is printed of a
 -- map are the same where that is
@@ -108,8 +107,8 @@ pub prints_one : {K L : Map → List ℕ → ℕ → Type 0} {texts lines same :
 prints_one {K} {L} {texts} {lines} {same} {status} {code} p q one =
     let map : p.map ≡ q.map = ok_same p.map q.map (map_of p.text) p.read
     (ap map_of (same_first p.text q.text [] [] (sym p.is ∙ q.is)) ∙ q.read) in
-    let e = one p.text p.map p.read p.printed q.printed p.known
-    (subst (λ (m : Map). L m q.printed code) (sym map) q.known) in
+    let e = one p.text p.map p.read p.printed q.printed p.such
+    (subst (λ (m : Map). L m q.printed code) (sym map) q.such) in
     (p.all ∙ ap (λ (text : List ℕ). text ∷ []) e.0 ∙ sym q.all, e.1)
 
 -- settings that pick the engine of others, and how many states of a cell its search has
@@ -132,8 +131,8 @@ module _ (set like : Settings) (words : List (List ℕ)) (tables : Option (List 
       rw (second, third) b.3 in
       on_value a.3 also (λ entries c d. on_value c d (λ claimed k l. made_one k l
       (rulings.one_list (layers_on set m) entries claimed k.from l.from
-      (are_layers-text set text m read) k.known
-      l.known))))
+      (are_layers-text set text m read) k.such
+      l.such))))
 
   -- where costs alone are asked for, whatever the engines
   pub one_cost_answer : (command : Command) (texts lines same : List (List ℕ)) (status code : ℕ)
@@ -141,10 +140,10 @@ module _ (set like : Settings) (words : List (List ℕ)) (tables : Option (List 
       → (task other command words tables).IsRight texts same code → (lines ≡ same) × (status ≡ code)
   one_cost_answer Scen texts lines same status code costs p q =
       on_map p q (λ text m behind read a b. on_last a b (λ second c d. on_value c d (λ entries k l.
-      let rows = alike_rows_on set other m refl (are_layers-text set text m read) entries k.from l.from
-      k.known l.known in
+      let rows = alike_rows_on set other m refl entries k.from l.from
+      k.such l.such in
       (k.all ∙ rows.lines set.show costs ∙ sym l.all, k.code ∙ rows.status ∙ sym l.code))))
   one_cost_answer Drill texts lines same status code costs p q =
       made_one p.1 q.1
-      (one_drill set other (seed_at words 0) p.1.from q.1.from refl p.1.known q.1.known)
+      (one_drill set other (seed_at words 0) p.1.from q.1.from refl p.1.such q.1.such)
   one_cost_answer command texts lines same status code costs p q = absurd (costs)

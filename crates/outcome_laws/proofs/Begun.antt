@@ -72,15 +72,14 @@ module _ (before now : Outflow) where
 
 -- what a call was answered that reads the input begins all that it is answered
 module _ (holds : List ℕ → Held) (script : List ℕ) (call : Call) (known : AreKnown holds (files_of call))
-    {Known : SessionData → Show → Type 0} (p : OnLive call holds Known) (left : Option (List ℕ))
+    {Such : SessionData → Show → Type 0} (p : OnLive call holds Such) (left : Option (List ℕ))
     (lines : List (List ℕ)) (taken : AnswerTaken p.session call.settings.show (Some script) left lines) where
   heard_begins : (refusal : Option (List ℕ)) (all : List (List ℕ))
       → AreHeard call holds (Some script) all refusal
       → BeginWith all lines
   heard_begins refusal all q =
-      let o = on_one_map holds script call call (itself call) known p q in
-      one_start_on call.settings call.settings p.read refl o.are refl p.session q.session p.answers o.is
-      call.settings.show script left refusal lines all taken q.known
+      one_start_on call.settings call.settings p.read refl refl p.session q.session p.answers
+      (on_one_map holds script call call (itself call) known p q) call.settings.show script left refusal lines all taken q.such
 
   call_begins : (outcome : Outcome) → CallComes call holds (Some script) outcome → BeginWith outcome.out lines
   call_begins _ (refused line r) =
@@ -101,8 +100,8 @@ module _ (words : List (List ℕ)) (holds : List ℕ → Held) (input input_now 
       (outcomes_one words holds script (record { status = status; out = lines; line = [] })
       outcome known (done call lines status spelled right) is)
 
-  taken_begins : {Known : SessionData → Show → Type 0} (call : Call) → Spell words call
-      → (p : OnLive call holds Known) → (lines : List (List ℕ))
+  taken_begins : {Such : SessionData → Show → Type 0} (call : Call) → Spell words call
+      → (p : OnLive call holds Such) → (lines : List (List ℕ))
       → AnswerTaken p.session call.settings.show input.left input_now.left lines
       → BeginWith outcome.out lines
   taken_begins call spelled p lines taken =
@@ -117,8 +116,8 @@ module _ (words : List (List ℕ)) (holds : List ℕ → Held) (input input_now 
       subst (λ (lines : List (List ℕ)). AppendsSome out.written out_now.written (concat lines))
       (output_one call spelled p.lines p.status p.whole) p.wrote
   part_begins (of_taken call spelled p) =
-      part-begun out out_now outcome.out p.known.lines
-      (taken_begins call spelled p p.known.lines p.known.stand) p.known.wrote
+      part-begun out out_now outcome.out p.such.lines
+      (taken_begins call spelled p p.such.lines p.such.stand) p.such.wrote
 
   lines_begin : HasLines words holds input input_now out out_now → Begun out out_now outcome.out
   unfolding Begun
@@ -130,10 +129,10 @@ module _ (words : List (List ℕ)) (holds : List ℕ → Held) (input input_now 
     p.wrote,
   )
   lines_begin (first call spelled p) = (
-    take p.known.count p.known.lines,
-    begin-then outcome.out p.known.lines (take p.known.count p.known.lines)
-        (taken_begins call spelled p p.known.lines p.known.stand) (begin-by p.known.count p.known.lines),
-    p.known.wrote,
+    take p.such.count p.such.lines,
+    begin-then outcome.out p.such.lines (take p.such.count p.such.lines)
+        (taken_begins call spelled p p.such.lines p.such.stand) (begin-by p.such.count p.such.lines),
+    p.such.wrote,
   )
 
 -- so do the lines of a call of which a read failed
@@ -144,13 +143,13 @@ module _ (words : List (List ℕ)) (disk disk_now : Disk) (input input_now : Inf
   unfolding Begun
   failed_begins (of_file rose h) = ([], (outcome.out, refl), h)
   failed_begins (of_input rose p) = (
-    p.known.lines,
+    p.such.lines,
     taken_begins words disk.holds input input_now out out_now script outcome known comes_in is rose.call
         rose.spelled p
-        p.known.lines
-        (pending_taken p.session rose.call.settings.show input.left input_now.left p.known.lines
-        p.known.stand),
-    p.known.wrote,
+        p.such.lines
+        (pending_taken p.session rose.call.settings.show input.left input_now.left p.such.lines
+        p.such.stand),
+    p.such.wrote,
   )
 
   first_lines : HasFailed words disk disk_now input input_now out out_now

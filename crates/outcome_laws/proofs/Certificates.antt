@@ -18,7 +18,7 @@ use Rattle.potential_make.specs.Certified.{IsCertificate}
 use Rattle.potential_make.specs.Written.{certificate_text, claim_of}
 use Rattle.outcome_laws.proofs.Ascending.{one_list}
 
--- the points and the cost of a walk, if one is told
+-- the points and the cost of a walk, if there is one
 abbrev points_in : Option Walk → List Cell
 points_in (Some w) = w.points
 points_in None = []

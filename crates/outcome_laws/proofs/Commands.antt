@@ -12,11 +12,8 @@ use Rattle.jps_run.specs.Calls.{cell_at, reads_input, task}
 use Rattle.jps_run.specs.Session.{by_of, session_on}
 use Rattle.outcome_laws.specs.Alike.{way_of}
 use Rattle.outcome_laws.proofs.Kept.{are_layers-text}
-use Rattle.outcome_laws.proofs.OnMap.{one_answers_on, one_drawing_on, one_line_on, one_rows_on}
-use Rattle.outcome_laws.proofs.Printed.{one_drill}
-use Rattle.outcome_laws.proofs.Costs as costs
-use Rattle.outcome_laws.proofs.Boxes as boxes
-use Rattle.outcome_laws.proofs.Runs as runs
+use Rattle.outcome_laws.proofs.OnMap.{one_answers_on, one_drawing_on, one_drill, one_line_on, one_rows_on}
+use Rattle.outcome_laws.proofs.Texts.{boxes_exist, costs_exist, one_boxes, one_costs, one_runs, runs_exist}
 use Rattle.outcome_laws.proofs.Proving.{one_proof}
 use Rattle.outcome_laws.proofs.Verdicts as verdicts
 use Rattle.outcome_laws.proofs.Measured as measured
@@ -32,9 +29,9 @@ use Rattle.jps_run.specs.Drill.{drill_line}
 use Rattle.jps_run.specs.Pictures.{drawing_of, drawing_status}
 use Rattle.jps_run.specs.Tabled.{tables_text}
 use Rattle.jps_run.specs.Texts.{help_text, version_text}
-use Rattle.jps_run.proofs.SessionReply.{reply_exists}
-use Rattle.outcome_laws.proofs.Answered.{boxes_exist, costs_exist, findings_exist}
-use Rattle.outcome_laws.proofs.Moved.{runs_exist}
+use Rattle.jps_run.proofs.Existing.{reply_exists}
+use Rattle.jps_run.specs.Who.{who_is}
+use Rattle.outcome_laws.proofs.Answered.{findings_exist}
 use Rattle.outcome_laws.proofs.Posing.{problems_exist}
 use Rattle.outcome_laws.proofs.Proved.{proof_exists}
 use Rattle.outcome_laws.proofs.Accepted.{HasAnswer, alone, alone_small, check_has, judge_has, lengths_has}
@@ -73,8 +70,7 @@ answers set command.Version words tables = (
 answers set command.Query words tables = (
   λ like texts lines same status code way p q. (
     on_map p.0 q.0 (λ text m behind read a b. one_line a b (one_line_on set (picking set like) m refl
-        (are_layers-text set text m read) way set.show (cell_at words 1) (cell_at words 3)
-        a.one b.one a.known b.known)),
+        way set.show (cell_at words 1) (cell_at words 3) a.one b.one a.such b.such)),
     p.1 ∙ sym q.1,
   ),
   λ holds texts p silent. query_has holds set words tables texts p,
@@ -83,8 +79,7 @@ answers set command.Query words tables = (
 answers set command.Solve words tables = (
   λ like texts lines same status code way p q. (
     on_map p.0 q.0 (λ text m behind read a b. on_last a b (λ second c d. on_value c d (λ commands k l.
-        one_answers_on set (picking set like) m refl (are_layers-text set text m read) way set.show commands
-        lines same k l))),
+        one_answers_on set (picking set like) m refl way set.show commands lines same k l))),
     p.1 ∙ sym q.1,
   ),
   λ holds texts p silent. solve_has holds set words tables texts p,
@@ -98,8 +93,7 @@ answers set command.Live words tables = (
 answers set command.Scen words tables = (
   λ like texts lines same status code way p q.
       on_map p q (λ text m behind read a b. on_last a b (λ second c d. on_value c d (λ entries k l.
-      made_one k l (one_rows_on set (picking set like) m refl (are_layers-text set text m read) way entries
-      k.from l.from k.known l.known)))),
+      made_one k l (one_rows_on set (picking set like) m refl way entries k.from l.from k.such l.such)))),
   λ holds texts p silent. scen_has holds set words tables texts p,
   refl,
 )
@@ -121,7 +115,7 @@ answers set command.Prove words tables = (
 answers set command.Check words tables = (
   λ like texts lines same status code way p q. on_map p q (λ text m behind read a b. on_one a b (λ second k l.
       let v = verdicts.one_checked (layers_on set m) k.0 l.0 k.2.one l.2.one status code
-      (ok_same (plain k.0) (plain l.0) (certificate_of second) k.1 l.1) k.2.known l.2.known in
+      (ok_same (plain k.0) (plain l.0) (certificate_of second) k.1 l.1) k.2.such l.2.such in
       (one_line k.2 l.2 v.0, v.1))),
   λ holds texts p silent. check_has holds set words tables texts p,
   refl,
@@ -136,8 +130,8 @@ answers set command.Make words tables = (
 )
 answers set command.Drill words tables = (
   λ like texts lines same status code way p q.
-      made_one p.1 q.1 (one_drill set (picking set like) (seed_at words 0) p.1.from q.1.from refl p.1.known
-      q.1.known),
+      made_one p.1 q.1 (one_drill set (picking set like) (seed_at words 0) p.1.from q.1.from refl p.1.such
+      q.1.such),
   λ holds texts p silent. let d = session_on set (made_map (seed_at words 0) 256 256 25) in
       let all = findings_exist d (drill_commands (seed_at words 0)) in (
         drill_line all.0 ∷ [],
@@ -148,7 +142,7 @@ answers set command.Drill words tables = (
             from = all.0;
             all = refl;
             code = refl;
-            known = record { session = d; is = refl; known = all.1 };
+            such = record { session = d; is = refl; such = all.1 };
           },
         ),
       ),
@@ -156,26 +150,25 @@ answers set command.Drill words tables = (
 )
 answers set command.Draw words tables = (
   λ like texts lines same status code way p q.
-      prints_one p q (λ text m read a b k l. one_drawing_on set (picking set like) m refl (are_layers-text
-      set text m read)
+      prints_one p q (λ text m read a b k l. one_drawing_on set (picking set like) m refl
       way (cell_at words 1) (cell_at words 3) set.show a b status code k l),
   λ holds texts p silent.
       prints holds set (alone holds set (word_at words 0) texts p) (λ text m read.
       let d = session_on set m in
-      let r = reply_exists d (cell_at words 1) (cell_at words 3) in (
+      let r = reply_exists (who_is d) (cell_at words 1) (cell_at words 3) in (
         drawing_of m (cell_at words 1) (cell_at words 3) set.show r.0,
         drawing_status r.0,
         record {
           session = d;
           is = refl;
-          known = record { reply = r.0; is_reply = r.1; drawn = refl; same_status = refl };
+          such = record { reply = r.0; is_reply = r.1; drawn = refl; same_status = refl };
         },
       )),
   refl,
 )
 answers set command.Costs words tables = (
   λ like texts lines same status code way p q. (
-    on_map p.0 q.0 (λ text m behind read a b. costs.one_costs (layers_on set m) (cell_at words 1)
+    on_map p.0 q.0 (λ text m behind read a b. one_costs (layers_on set m) (cell_at words 1)
         lines same (are_layers-text set text m read) a.1 b.1),
     p.1 ∙ sym q.1,
   ),
@@ -190,7 +183,7 @@ answers set command.Costs words tables = (
             map = one.map;
             is = one.is;
             read = one.read;
-            known = (refl, all.1);
+            such = (refl, all.1);
           },
           refl,
         ),
@@ -213,7 +206,7 @@ answers set command.Tables words tables = (
 )
 answers set command.Boxes words tables = (
   λ like texts lines same status code way p q. prints_one p q (λ text m read a b k l. (
-    boxes.one_text (layers_on set m) (cell_at words 1) a b (are_layers-text set text m read) k.0
+    one_boxes (layers_on set m) (cell_at words 1) a b (are_layers-text set text m read) k.0
         l.0,
     k.1 ∙ sym l.1,
   )),
@@ -223,7 +216,7 @@ answers set command.Boxes words tables = (
 )
 answers set command.Moves words tables = (
   λ like texts lines same status code way p q. prints_one p q (λ text m read a b k l. (
-    runs.one_text (layers_on set m) (cell_at words 1) a b (are_layers-text set text m read) k.0
+    one_runs (layers_on set m) (cell_at words 1) a b (are_layers-text set text m read) k.0
         l.0,
     k.1 ∙ sym l.1,
   )),

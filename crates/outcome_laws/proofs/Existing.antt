@@ -87,7 +87,7 @@ module _ (words : List (List ℕ)) (holds : List ℕ → Held) (script : List �
         spelled = h.read;
         session = d;
         answers = refl;
-        known = heard.2;
+        such = heard.2;
       })
     where
       by_line : (line : Option (List ℕ)) (lines : List (List ℕ))

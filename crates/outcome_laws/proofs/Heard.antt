@@ -1,7 +1,6 @@
 -- What is heard of a known script is one.
 use Rattle.std.proofs.Common.{◌≡◌, sym, ◌∙◌, subst, List, ℕ, ◌≤◌, ◌<◌, length, arith}
 use Rattle.std.specs.Prelude.{Option, Some}
-use Rattle.grid_moves.specs.Layers.{AreLayers}
 use Rattle.edit_replay.specs.Session.{SessionData}
 use Rattle.script_text.specs.declared.command.ScriptCommand.{ScriptCommand}
 use Rattle.word_list.specs.declared.request.Show.{Show}
@@ -27,14 +26,14 @@ heard_once script commands others refusal also (too_long h c r) (whole k d s) =
 heard_once script commands others refusal also (too_long h c r) (too_long k d s) = (c ∙ sym d, r ∙ sym s)
 
 pub heard_same : (d e : SessionData) (show : Show) (script : List ℕ) (refusal also : Option (List ℕ))
-    (lines same : List (List ℕ)) → AreLayers d.layers → AnswerAlike (who_is d) (who_is e)
+    (lines same : List (List ℕ)) → AnswerAlike (who_is d) (who_is e)
     → AnswerHeard d show (Some script) refusal lines → AnswerHeard e show (Some script) also same
     → (refusal ≡ also) × (lines ≡ same)
-heard_same d e show script refusal also lines same are alike p q =
+heard_same d e show script refusal also lines same alike p q =
     let both = heard_once script p.commands q.commands refusal also
     (subst (λ (text : List ℕ). IsHeard text p.commands refusal) p.comes p.heard)
     (subst (λ (text : List ℕ). IsHeard text q.commands also) q.comes q.heard) in (
       both.1,
-      answers_same d e show p.commands lines same are alike p.answers
+      answers_same d e show p.commands lines same alike p.answers
           (subst (λ (commands : List ScriptCommand). AreAnswers e show commands same) (sym both.0) q.answers),
     )

@@ -165,7 +165,7 @@ heard_so holds e p behind accepted = record {
   spelled = p.spelled;
   session = p.session;
   answers = p.answers;
-  known = p.known;
+  such = p.such;
 }
 
 -- where the same files are read, and what is right of the first call is right of the second, it leads to that

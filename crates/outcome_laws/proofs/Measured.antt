@@ -20,7 +20,7 @@ use Rattle.scen_maker.specs.Settling.{IsSearched, IsSettled, goal_of, has_sides,
 use Rattle.scen_maker.specs.declared.costs.Settled.{Settled}
 use Rattle.scen_maker.specs.declared.costs.Settled.TheVariants as settled
 use Rattle.outcome_laws.proofs.Ground.{ends_on, not_both}
-use Rattle.outcome_laws.proofs.Least.{one_cost}
+use Rattle.plain_search.proofs.LeastCosts.{one_cost}
 use Rattle.outcome_laws.proofs.Turns.{turns-same}
 
 -- bucket and length of a cost are one

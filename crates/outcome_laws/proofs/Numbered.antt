@@ -1,21 +1,17 @@
 -- What stands of single cells of a map can be listed in the order of their numbers.
-use Rattle.std.proofs.Common.{◌≡◌, ◌⊎◌, inl, inr, sym, ap, ◌∙◌, subst, ℕ, zero, suc, ◌+◌, ◌*◌, ◌/◌, ◌%◌}
+use Rattle.std.proofs.Common.{◌≡◌, ◌⊎◌, inl, inr, sym, ap, ◌∙◌, subst, ℕ, zero, suc, ◌+◌, ◌*◌}
 use Rattle.std.proofs.Common.{◌<◌, ◌≤◌, arith, List, [], ◌∷◌, length, map}
 use Rattle.std.proofs.Math.Nat.{mod-add-div, mod-lt}
 use Rattle.std.specs.Prelude.{⊤, slice_index}
 use Rattle.std.specs.List.{Contains}
 use Rattle.std.specs.List.Sorted.{IsStrictlyIncreasing}
 use Rattle.grid_moves.specs.declared.Cell.{Cell}
-use Rattle.grid_moves.specs.Grid.{cell_number}
+use Rattle.grid_moves.specs.Grid.{cell_number, cell_numbered}
 use Rattle.grid_moves.proofs.Places.{number_below, one_cell}
 use Rattle.outcome_laws.proofs.Ascending.{first_member, later_member, member_of, none_in}
 use Rattle.outcome_laws.proofs.Refusing.{less_or_not}
 
--- the cell with this number
-abbrev cell_with : ℕ → ℕ → Cell
-cell_with w n = record { x = n % w; y = n / w }
-
-number_with : (w n : ℕ) → cell_number w (cell_with w n) ≡ n
+number_with : (w n : ℕ) → cell_number w (cell_numbered w n) ≡ n
 number_with w n = let e = mod-add-div n w in omega arith
 
 -- of each cell one item stands, or none does
@@ -63,10 +59,10 @@ module _ {E : Type 0} (cell : E → Cell) (Stands : E → Type 0) (w h : ℕ)
     all : (e : E) → Stands e → k ≤ number e → number e < k + n → Contains list e
     up : Ascend k list
 
-  at_number : (k : ℕ) (e : E) → Stands e → number e ≡ k → cell e ≡ cell_with w k
+  at_number : (k : ℕ) (e : E) → Stands e → number e ≡ k → cell e ≡ cell_numbered w k
   at_number k e s q =
       let wide : 0 < w = let a = (within e s).0 in omega arith in
-      one_cell w (cell e) (cell_with w k) (within e s).0 (mod-lt k wide) (q ∙ sym (number_with w k))
+      one_cell w (cell e) (cell_numbered w k) (within e s).0 (mod-lt k wide) (q ∙ sym (number_with w k))
 
   at_or_after : (k m : ℕ) → k ≤ m → (m ≡ k) ⊎ (k + 1 ≤ m)
   at_or_after k m l = elim (less_or_not k m) [
@@ -81,9 +77,9 @@ module _ {E : Type 0} (cell : E → Cell) (Stands : E → Type 0) (w h : ℕ)
     all = λ e s low high. absurd (omega arith);
     up = tt;
   }
-  part (suc n) k = by_choice (choose (cell_with w k)) (part n (k + 1))
+  part (suc n) k = by_choice (choose (cell_numbered w k)) (part n (k + 1))
     where
-      by_choice : Choice cell Stands (cell_with w k) → Part (k + 1) n → Part k (suc n)
+      by_choice : Choice cell Stands (cell_numbered w k) → Part (k + 1) n → Part k (suc n)
       by_choice (no none) rest = record {
         list = rest.list;
         only = rest.only;

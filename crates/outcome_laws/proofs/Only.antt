@@ -5,7 +5,6 @@ use Rattle.std.proofs.Common.{inl, inr}
 use Rattle.grid_moves.specs.declared.Corner.{Corner}
 use Rattle.io_edge.specs.Known.{Held, holding, absent, unknown}
 use Rattle.io_edge.specs.Whole.{IsWhole}
-use Rattle.grid_moves.specs.Layers.{AreLayers}
 use Rattle.map_text.specs.Map.{Map}
 use Rattle.map_text.specs.Faults.{map_of}
 use Rattle.edit_replay.specs.Session.{SessionData}
@@ -26,7 +25,6 @@ use Rattle.word_list.specs.declared.rows.Command.TheVariants.{Drill, Live}
 use Rattle.call_files.specs.FaultLines.{word_line}
 use Rattle.call_files.specs.Files.{AreAccepted, File, HasRefused, IsAccepted, file_of}
 use Rattle.call_files.specs.Kinds.{kind_for, limit_of}
-use Rattle.call_files.specs.Layered.{layers_on}
 use Rattle.call_files.specs.MapFiles.{map_files}
 use Rattle.call_files.specs.declared.kind.Extent.TheVariants as extent
 use Rattle.call_files.specs.declared.kind.TextKind.TheVariants as kind
@@ -34,7 +32,6 @@ use Rattle.jps_run.specs.Heard.{AnswerHeard}
 use Rattle.jps_run.specs.Session.{IsSessionOn, by_of, layout_for}
 use Rattle.jps_run.specs.Who.{By, by_session, by_boxes, by_moves}
 use Rattle.outcome_laws.specs.Alike.{way_of}
-use Rattle.outcome_laws.proofs.Kept.{are_layers-text}
 use Rattle.outcome_laws.proofs.OnMap.{one_heard_on}
 use Rattle.outcome_laws.specs.Files.{AreKnown}
 use Rattle.outcome_laws.proofs.Files.{one_line, not_both}
@@ -264,22 +261,14 @@ module _ (holds : List ℕ → Held) (script : List ℕ) (call like : Call) (ali
       (like_answered p.texts same code (subst (λ (texts : List (List ℕ)). IsAnswered like texts same code)
       (sym (one_list p.texts q.texts p.accepted q.accepted)) q.answered))
 
-  -- two sessions that answer what comes in, on one map
-  pub record OnOneMap {K L : SessionData → Show → Type 0} (p : OnLive call holds K) (q : OnLive like holds L)
-      : Type 0 where
-    pub are : AreLayers (layers_on call.settings p.read)
-    pub is : IsSessionOn like.settings p.read q.session
-
+  -- two sessions that answer what comes in stand on one map
   pub on_one_map : {K L : SessionData → Show → Type 0} (p : OnLive call holds K) (q : OnLive like holds L)
-      → OnOneMap p q
+      → IsSessionOn like.settings p.read q.session
   on_one_map p q =
       let map : p.read ≡ q.read = ok_same p.read q.read (map_of p.text) p.spelled
       (ap map_of (same_first p.text q.text p.behind q.behind
       (one_list (p.text ∷ p.behind) (q.text ∷ q.behind) p.accepted q.accepted)) ∙ q.spelled) in
-      record {
-        are = are_layers-text call.settings p.text p.read p.spelled;
-        is = subst (λ (m : Map). IsSessionOn like.settings m q.session) (sym map) q.answers;
-      }
+      subst (λ (m : Map). IsSessionOn like.settings m q.session) (sym map) q.answers
 
   both_same : AreAlike holds (files_of call) (files_of like) → Same → HeardSame → (one other : Outcome)
       → CallComes call holds (Some script) one → CallComes like holds (Some script) other → one ≡ other
@@ -346,10 +335,9 @@ module _ (holds : List ℕ → Held) (script : List ℕ) (call like : Call) (ali
     heard_one_way : HeardSame
     unfolding HeardSame
     heard_one_way refusal also lines same p q =
-        let o = on_one_map p q in
-        one_heard_on call.settings like.settings p.read alike.rule o.are way p.session q.session p.answers
-        o.is call.settings.show script refusal also lines same p.known
-        (subst (λ (show : Show). AnswerHeard q.session show (Some script) also same) (sym alike.show) q.known)
+        one_heard_on call.settings like.settings p.read alike.rule way p.session q.session p.answers
+        (on_one_map p q) call.settings.show script refusal also lines same p.such
+        (subst (λ (show : Show). AnswerHeard q.session show (Some script) also same) (sym alike.show) q.such)
 
     files_one_way : files_of call ≡ files_of like
     files_one_way =

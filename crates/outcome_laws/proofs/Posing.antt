@@ -24,7 +24,8 @@ use Rattle.scen_maker.specs.Lengths.{IsProblemLine}
 use Rattle.scen_maker.specs.Problems.{AreProblems, ArePriced, IsPriced, IsScenario, problems_status, query_of}
 use Rattle.scen_maker.proofs.Listed.{line_exists}
 use Rattle.outcome_laws.proofs.Insertion.{in_order, order_same, order_sorted, order_stable}
-use Rattle.outcome_laws.proofs.Reached.{cost_exists}
+use Rattle.plain_search.specs.Costs.{least_cost}
+use Rattle.plain_search.proofs.LeastCosts.{cost_is}
 
 module _ (ls : Layers) where
   -- whether a walk leads from one cell to another
@@ -46,7 +47,7 @@ module _ (ls : Layers) where
       }
 
       by_start : (b : Bool) → is_free (query_grid ls s) s ≡ b → Decided s t
-      by_start true free = let c = cost_exists (query_grid ls s) s t free in by_cost c.0 c.1
+      by_start true free = by_cost (least_cost (query_grid ls s) s t) (cost_is (query_grid ls s) s t free)
       by_start false shut = record {
         is = false;
         decides = (
@@ -80,7 +81,8 @@ module _ (ls : Layers) where
 
   price : (ends : ProblemEnds) → HasWalk ls ends.start ends.goal → (p : Problem) × IsPriced ls ends p
   price ends walk = let free = walk_free (query_grid ls ends.start) ends.start walk.cells walk.walk.legal in
-      let c = cost_exists (query_grid ls ends.start) ends.start ends.goal free in by_cost c.0 c.1
+      by_cost (least_cost (query_grid ls ends.start) ends.start ends.goal)
+      (cost_is (query_grid ls ends.start) ends.start ends.goal free)
     where
       by_cost : (cost : Option Cost) → IsCostTo (query_grid ls ends.start) ends.start ends.goal cost
           → (p : Problem) × IsPriced ls ends p

@@ -1,4 +1,4 @@
--- A query has a certificate, or is told why there is none.
+-- A query has a certificate, or a line that says why there is none.
 use Rattle.std.proofs.Common.{◌≡◌, ◌∙◌, refl, sym, ap, subst, ℕ, ◌<◌, Bool, true, false, List, ◌&&◌}
 use Rattle.std.specs.Prelude.{Option, Some, None, codes}
 use Rattle.std.proofs.lemmas.Bool.{and_parts}
@@ -27,7 +27,8 @@ use Rattle.grid_answers.specs.Certificates.{IsProof, apart, blocked, certified, 
 use Rattle.outcome_laws.proofs.Ground.{query_whole}
 use Rattle.plain_search.proofs.Closing.{one_least}
 use Rattle.outcome_laws.proofs.Numbered.{Choice, listing, no, one}
-use Rattle.outcome_laws.proofs.Reached.{cost_exists}
+use Rattle.plain_search.specs.Costs.{least_cost}
+use Rattle.plain_search.proofs.LeastCosts.{cost_is}
 
 module _ (g : GridData) (s : Cell) (free : is_free g s ≡ true) where
   -- a walk ends inside
@@ -37,7 +38,7 @@ module _ (g : GridData) (s : Cell) (free : is_free g s ≡ true) where
 
   -- the cells that are reached
   reached_or_not : (c : Cell) → Choice (λ (d : Cell). d) (HasWalk g s) c
-  reached_or_not c = let a = cost_exists g s c free in by_cost a.0 a.1
+  reached_or_not c = by_cost (least_cost g s c) (cost_is g s c free)
     where
       by_cost : (cost : Option Cost) → IsCostTo g s c cost → Choice (λ (d : Cell). d) (HasWalk g s) c
       by_cost (Some cost) least = one c refl (record { cells = least.cells; walk = least.least.walk })
@@ -72,7 +73,7 @@ module _ (g : GridData) (s : Cell) (free : is_free g s ≡ true) where
         ∙ ap (λ (k : Cost). let entry : Cell × Cost = (f.0, k) in entry) cost
 
     closed_or_not : (c : Cell) → Choice cell_in IsClosed c
-    closed_or_not c = let a = cost_exists g s c free in by_cost a.0 a.1
+    closed_or_not c = by_cost (least_cost g s c) (cost_is g s c free)
       where
         by_sum : (cost : Cost) → IsLeastCost g s c cost → (b : Bool)
             → is_less (add_costs cost (estimate c t)) bound ≡ b → Choice cell_in IsClosed c

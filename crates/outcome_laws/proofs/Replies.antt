@@ -1,136 +1,95 @@
--- Replies of whoever answers are one, those of engines that jump are the same, and all cost the same.
-use Rattle.std.proofs.Common.{◌≡◌, ℕ, refl, ap, sym, ◌∙◌, subst, Bool, true, false, ◌&&◌, List, []}
-use Rattle.std.specs.Prelude.{MatchBool, Option}
-use Rattle.std.specs.Prelude as option
+-- Replies of two who answer: they are one where both answer alike, and on the same layers they cost the same.
+use Rattle.std.proofs.Common.{◌≡◌, ℕ, refl, ap, sym, ◌∙◌, Bool, true, false, List, ◌∷◌}
+use Rattle.std.proofs.lemmas.Bool.{and_parts}
+use Rattle.std.specs.Prelude.{Option, Some, None}
 use Rattle.root2_cost.specs.declared.Cost.{Cost}
+use Rattle.root2_cost.proofs.AtMost.{IsAtMost-antisymmetric}
 use Rattle.grid_moves.specs.declared.Cell.{Cell}
 use Rattle.grid_moves.specs.Grid.{GridData, is_free}
-use Rattle.grid_moves.specs.Layers.{AreLayers, Layers, query_grid}
-use Rattle.grid_moves.specs.Reply.{IsRight}
+use Rattle.grid_moves.specs.Layers.{Layers, in_one_layer, query_grid}
+use Rattle.grid_moves.specs.Reply.{StandsForLeast}
+use Rattle.grid_moves.specs.Walk.{cost_of}
 use Rattle.path_points.specs.declared.points.Walk as points
+use Rattle.path_points.specs.Least.{IsLeastOrNone}
 use Rattle.best_first.specs.declared.found.Found.{Found}
-use Rattle.best_first.specs.declared.state.Layout.{Layout}
-use Rattle.edit_replay.specs.Kept.{states_of}
-use Rattle.edit_replay.specs.Replies.{answer_of, IsRunOn}
+use Rattle.edit_replay.specs.Edited.{Edit, edited}
+use Rattle.edit_replay.specs.Found.{reply_with}
+use Rattle.edit_replay.specs.ReplyOf.{reply_of_ends, reply_finding}
 use Rattle.edit_replay.specs.Session.{SessionData}
-use Rattle.edit_replay.specs.declared.engine.Engine.{Engine}
-use Rattle.edit_replay.specs.declared.reply.Reply.{Reply}
-use Rattle.edit_replay.specs.declared.reply.Reply.TheVariants.{Walk, None}
-use Rattle.edit_replay.proofs.Oneness.{one_run_reply}
-use Rattle.goal_boxes.specs.Answer.{IsBoxedRunOn}
-use Rattle.jps_run.specs.Who.{By, Who, by_session, by_boxes, by_moves, IsBoxedReply, IsLedReply, IsReplyBy}
-use Rattle.jps_run.specs.Who.{IsReplyOn}
-use Rattle.outcome_laws.specs.Costs.{gist_of}
-use Rattle.outcome_laws.specs.Costs as gist
-use Rattle.outcome_laws.specs.Oneness.{jumps_with}
-use Rattle.outcome_laws.proofs.SameReplies.{AreAlike, walks, nones, outsides, blockeds, alike}
-use Rattle.outcome_laws.proofs.Boxed.{one_boxed}
-use Rattle.outcome_laws.proofs.Led.{one_followed}
+use Rattle.edit_replay.specs.declared.engine.Engine.TheVariants as engine
+use Rattle.jps_run.specs.Drill.{finding_of}
+use Rattle.jps_run.specs.Session.{session_after}
+use Rattle.jps_run.specs.Who.{By, Who, by_session, by_boxes, by_moves, found_by, reply_to, who_is}
+use Rattle.jps_run.specs.declared.replies.findings.Finding.TheVariants as finding
+use Rattle.jps_run.proofs.Existing.{found_least}
+use Rattle.outcome_laws.specs.Alike.{AnswerAlike, way_of}
 
-same_walk : (ps qs : List Cell) (c d : Cost) (ms ns : List ℕ) → ps ≡ qs → c ≡ d → ms ≡ ns
-    → Walk ps c ms ≡ Walk qs d ns
-same_walk ps qs c d ms ns e f h =
-    ap (λ (p : List Cell). Walk p c ms) e ∙ ap (λ (b : Cost). Walk qs b ms) f
-    ∙ ap (λ (n : List ℕ). Walk qs d n) h
+-- what is found hangs on the way alone
+found-way : (by : By) (g : GridData) (s t : Cell) → found_by by g s t ≡ found_by (way_of by) g s t
+found-way (by_session engine.Plain) g s t = refl
+found-way (by_session (engine.Jps layout)) g s t = refl
+found-way (by_session (engine.Block layout)) g s t = refl
+found-way (by_session (engine.Plus layout)) g s t = refl
+found-way by_boxes g s t = refl
+found-way by_moves g s t = refl
 
--- the reply of a boxed answer
-of_boxed : Option points.Walk → List ℕ → Reply
-of_boxed (option.Some w) taken = Walk w.points w.cost taken
-of_boxed option.None taken = None taken
+pub reply_alike : (who other : Who) (s t : Cell) → AnswerAlike who other → reply_to who s t ≡ reply_to other s t
+reply_alike who other s t alike =
+    let g = query_grid who.layers s in
+    ap (λ (f : Found). reply_finding who.layers s t f)
+    (found-way who.by g s t ∙ ap (λ (by : By). found_by by g s t) alike.way ∙ sym (found-way other.by g s t))
+    ∙ ap (λ (ls : Layers). reply_finding ls s t (found_by other.by (query_grid ls s) s t)) alike.layers
 
-of_answer : Found → Reply
-of_answer r = of_boxed r.walk r.taken
+-- what points stand for costs the same
+pub one_cost : (g : GridData) (s t : Cell) (ps qs : List Cell) (c d : Cost) → StandsForLeast g s t ps c
+    → StandsForLeast g s t qs d → c ≡ d
+one_cost g s t ps qs c d p q =
+    sym p.priced
+    ∙ IsAtMost-antisymmetric (cost_of (s ∷ p.cells)) (cost_of (s ∷ q.cells))
+    (p.least.least q.cells q.least.walk)
+    (q.least.least p.cells p.least.walk)
+    ∙ q.priced
 
-module _ (g : GridData) (s t : Cell) where
-  -- by goal boxes
-  boxed_is_one : (one other : Reply) → AreAlike one other → IsBoxedReply g s t one → IsBoxedReply g s t other
-      → one ≡ other
-  unfolding of_answer of_boxed
-  boxed_is_one one other (walks ps qs c d ms ns _) is also =
-      ap of_answer (one_boxed g s t
-      (record { walk = option.Some (record { points = ps; cost = c }); taken = ms })
-      (record { walk = option.Some (record { points = qs; cost = d }); taken = ns }) is also)
-  boxed_is_one one other (nones ms ns) is also =
-      ap (λ (taken : List ℕ). None taken) (by_test (is_free g s && is_free g t) is also)
-    where
-      by_test : (b : Bool)
-          → MatchBool b (IsBoxedRunOn g s t (record { walk = option.None; taken = ms })) (ms ≡ [])
-          → MatchBool b (IsBoxedRunOn g s t (record { walk = option.None; taken = ns })) (ns ≡ []) → ms ≡ ns
-      by_test true is also = ap (λ (r : Found). r.taken)
-          (one_boxed g s t (record { walk = option.None; taken = ms })
-          (record { walk = option.None; taken = ns })
-          is also)
-      by_test false is also = is ∙ sym also
-  boxed_is_one one other outsides is also = refl
-  boxed_is_one one other blockeds is also = refl
+-- so two walks that are found come to the same, or none is found by either
+walks_same : (g : GridData) (s t : Cell) (o p : Option points.Walk) (ms ns : List ℕ) → IsLeastOrNone g s t o
+    → IsLeastOrNone g s t p → finding_of (reply_with o ms) ≡ finding_of (reply_with p ns)
+walks_same g s t (Some v) (Some w) ms ns l m =
+    ap (λ (cost : Cost). finding.Walk cost) (one_cost g s t v.points w.points v.cost w.cost l m)
+walks_same g s t (Some v) None ms ns l none = absurd (none l.cells l.least.walk)
+walks_same g s t None (Some w) ms ns none m = absurd (none m.cells m.least.walk)
+walks_same g s t None None ms ns none nothing = refl
 
-  -- by first moves
-  led_is_one : (one other : Reply) → AreAlike one other → IsLedReply g s t one → IsLedReply g s t other
-      → one ≡ other
-  led_is_one one other (walks ps qs c d ms ns _) is also =
-      let same = one_followed g s t ps qs c d is.0 also.0 in
-      same_walk ps qs c d ms ns same.0 same.1 (is.1 ∙ sym also.1)
-  led_is_one one other (nones ms ns) is also = ap (λ (taken : List ℕ). None taken) (is ∙ sym also)
-  led_is_one one other outsides is also = refl
-  led_is_one one other blockeds is also = refl
+module _ (ls : Layers) (s t : Cell) (one other : By) where
+  abbrev g : GridData
+  g = query_grid ls s
 
-module _ (ls : Layers) (are : AreLayers ls) (s t : Cell) (one other : Reply)
-    (right : IsRight ls s t (answer_of one))
-    (right_too : IsRight ls s t (answer_of other)) where
-  -- by engines of sessions that both jump with the same states or are both plain
-  searched_is_one : (d e : Engine) → states_of d ≡ states_of e → IsRunOn d (query_grid ls s) s t one
-      → IsRunOn e (query_grid ls s) s t other → one ≡ other
-  searched_is_one d e same is also =
-      let first : SessionData = record { engine = d; layers = ls } in
-      let second : SessionData = record { engine = e; layers = ls } in
-      one_run_reply first second s t one other refl are same (record { right = right; run = is })
-      (record { right = right_too; run = also })
+  by_ends : (on free both : Bool) → in_one_layer ls s t ≡ both
+      → finding_of (reply_of_ends on free both (found_by one g s t))
+      ≡ finding_of (reply_of_ends on free both (found_by other g s t))
+  by_ends false free both e = refl
+  by_ends true false both e = refl
+  by_ends true true false e = refl
+  by_ends true true true e =
+      let ends = and_parts (is_free g s) (is_free g t) e in
+      walks_same g s t (found_by one g s t).walk (found_by other g s t).walk (found_by one g s t).taken
+      (found_by other g s t).taken (found_least one g s t ends.0 ends.1) (found_least other g s t ends.0 ends.1)
 
-  come_to_is_one : (by : By) → IsReplyOn by (query_grid ls s) s t one
-      → IsReplyOn by (query_grid ls s) s t other
-      → one ≡ other
-  come_to_is_one (by_session engine) is also = searched_is_one engine engine refl is also
-  come_to_is_one by_boxes is also =
-      boxed_is_one (query_grid ls s) s t one other (alike ls are s t one other right right_too) is also
-  come_to_is_one by_moves is also =
-      led_is_one (query_grid ls s) s t one other (alike ls are s t one other right right_too) is also
+  found_same : finding_of (reply_finding ls s t (found_by one g s t))
+      ≡ finding_of (reply_finding ls s t (found_by other g s t))
+  unfolding reply_finding
+  found_same = by_ends _ _ (in_one_layer ls s t) refl
 
-  jumped_is_one : (layout : Layout) (by other_by : By) → jumps_with by ≡ option.Some layout
-      → jumps_with other_by ≡ option.Some layout → IsReplyOn by (query_grid ls s) s t one
-      → IsReplyOn other_by (query_grid ls s) s t other → one ≡ other
-  jumped_is_one layout (by_session d) (by_session e) f h is also = searched_is_one d e (f ∙ sym h) is also
-  jumped_is_one layout by other_by f h is also = absurd (cc)
+pub reply_found : (who other : Who) (s t : Cell) → who.layers ≡ other.layers
+    → finding_of (reply_to who s t) ≡ finding_of (reply_to other s t)
+reply_found who other s t layers =
+    found_same who.layers s t who.by other.by
+    ∙ ap (λ (ls : Layers). finding_of (reply_finding ls s t (found_by other.by (query_grid ls s) s t))) layers
 
--- replies of one kind that cost the same come to the same
-same_gist : (one other : Reply) → AreAlike one other → gist_of one ≡ gist_of other
-same_gist one other (walks ps qs c d ms ns e) = ap (λ (cost : Cost). gist.walk cost) e
-same_gist one other (nones ms ns) = refl
-same_gist one other outsides = refl
-same_gist one other blockeds = refl
+-- edits keep what two sessions have in common
+module _ (d e : SessionData) (edits : List Edit) where
+  pub layers_same : d.layers ≡ e.layers → (session_after d edits).layers ≡ (session_after e edits).layers
+  layers_same same = ap (λ (ls : Layers). edited ls edits) same
 
-pub one_reply : (who : Who) (s t : Cell) (one other : Reply) → AreLayers who.layers → IsReplyBy who s t one
-    → IsReplyBy who s t other → one ≡ other
-one_reply who s t one other are p q =
-    come_to_is_one who.layers are s t one other p.right q.right who.by p.run q.run
-
--- a reply on the same layers
-on_layers : (first second : Who) (s t : Cell) (reply : Reply) → first.layers ≡ second.layers
-    → IsReplyBy second s t reply → IsReplyBy (record { layers = first.layers; by = second.by }) s t reply
-on_layers first second s t reply same is =
-    subst (λ (ls : Layers). let who : Who = record { layers = ls; by = second.by } in IsReplyBy who s t reply)
-    (sym same) is
-
-pub one_jump_reply : (first second : Who) (layout : Layout) (s t : Cell) (one other : Reply)
-    → first.layers ≡ second.layers → AreLayers first.layers → jumps_with first.by ≡ option.Some layout
-    → jumps_with second.by ≡ option.Some layout → IsReplyBy first s t one → IsReplyBy second s t other
-    → one ≡ other
-one_jump_reply first second layout s t one other same are f h p q =
-    let r = on_layers first second s t other same q in
-    jumped_is_one first.layers are s t one other p.right r.right layout first.by second.by f h p.run r.run
-
-pub one_gist : (first second : Who) (s t : Cell) (one other : Reply) → first.layers ≡ second.layers
-    → AreLayers first.layers → IsReplyBy first s t one → IsReplyBy second s t other
-    → gist_of one ≡ gist_of other
-one_gist first second s t one other same are p q =
-    let r = on_layers first second s t other same q in
-    same_gist one other (alike first.layers are s t one other p.right r.right)
+  pub alike_after : AnswerAlike (who_is d) (who_is e)
+      → AnswerAlike (who_is (session_after d edits)) (who_is (session_after e edits))
+  alike_after alike = record { layers = layers_same alike.layers; way = alike.way }

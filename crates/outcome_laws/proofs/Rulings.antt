@@ -1,10 +1,11 @@
 -- Entries and what is claimed of each have one list of rows.
-use Rattle.std.proofs.Common.{◌≡◌, ap, sym, ◌∙◌, true, false, ◌&&◌, List}
-use Rattle.grid_moves.specs.Layers.{AreLayers, Layers, is_on_map, query_grid}
+use Rattle.std.proofs.Common.{◌≡◌, refl, ap, sym, ◌∙◌, true, false, ◌&&◌, List}
+use Rattle.std.proofs.lemmas.Bool.{and_parts}
+use Rattle.grid_moves.specs.Layers.{AreLayers, Layers, is_free_ground, is_on_map, query_grid}
 use Rattle.grid_moves.specs.Reply.{are_free_ends}
 use Rattle.scen_text.specs.declared.entry.Entry.{Entry}
 use Rattle.walk_judge.specs.declared.judging.Judged.{Judged}
-use Rattle.walk_judge.specs.declared.telling.Claimed.{Claimed}
+use Rattle.walk_judge.specs.declared.claims.Claimed.{Claimed}
 use Rattle.walk_judge.proofs.Judgements.{one_judgement}
 use Rattle.jps_run.specs.Rows.{has_sides}
 use Rattle.jps_run.specs.Rulings.{AreRulings, IsRuling, blocked, goal_of, judged, outside, scale, start_of}
@@ -12,6 +13,9 @@ use Rattle.jps_run.specs.Rulings.{with_claims}
 use Rattle.jps_run.specs.declared.replies.ruling.Ruling.{Ruling}
 use Rattle.jps_run.specs.declared.replies.ruling.Ruling.TheVariants as ruling
 use Rattle.outcome_laws.proofs.Ground.{ends_on, not_both}
+use Rattle.plain_search.specs.Costs.{least_cost}
+use Rattle.plain_search.proofs.LeastCosts.{cost_is}
+use Rattle.grid_answers.proofs.Cells.{free-on}
 use Rattle.outcome_laws.proofs.Turns.{turns-same}
 
 module _ (ls : Layers) (are : AreLayers ls) where
@@ -55,9 +59,12 @@ module _ (ls : Layers) (are : AreLayers ls) where
     one_ruling one other (judged how p free is e) (outside q off f) = not_outside (free_on free) off
     one_ruling one other (judged how p free is e) (blocked q shut f) = not_blocked free shut.1
     one_ruling one other (judged how p free is e) (judged why q too also f) =
-        let same : how ≡ why = one_judgement (query_grid ls (start_of entry)) (start_of entry)
-        (goal_of entry) claimed
-        how why is also in
+        let g = query_grid ls (start_of entry) in
+        let ends = and_parts (is_free_ground ls (start_of entry)) (is_free_ground ls (goal_of entry)) free in
+        let same : how ≡ why = one_judgement g (start_of entry) (goal_of entry) claimed
+        (least_cost g (start_of entry) (goal_of entry))
+        (cost_is g (start_of entry) (goal_of entry) (free-on ls (start_of entry) g refl ends.0)) how why
+        is also in
         e ∙ ap (λ (j : Judged). let r : Ruling = ruling.Judged j in r) same ∙ sym f
 
 pub one_list : (ls : Layers) (entries : List Entry) (walks : List Claimed) (one other : List Ruling)

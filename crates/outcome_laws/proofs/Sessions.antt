@@ -1,7 +1,7 @@
 -- Who answers on one map, by two settings.
-use Rattle.std.proofs.Common.{◌≡◌, refl, sym, ap, ◌∙◌, subst}
+use Rattle.std.proofs.Common.{◌≡◌, refl, sym, ap, ◌∙◌}
 use Rattle.grid_moves.specs.declared.Corner.{Corner}
-use Rattle.grid_moves.specs.Layers.{AreLayers, Layers, layers_of}
+use Rattle.grid_moves.specs.Layers.{layers_of}
 use Rattle.map_text.specs.Map.{Map}
 use Rattle.edit_replay.specs.Session.{SessionData}
 use Rattle.word_list.specs.declared.request.Settings.{Settings}
@@ -57,9 +57,3 @@ module _ (set other : Settings) (m : Map) (rule : set.rule ≡ other.rule) where
           ∙ ap session_way way ∙ sym (way_by_pick other.states other.pick)
           ∙ sym (ap (λ (k : SessionData). way_of (by_session k.engine)) also);
     }
-
--- the session's grids are layers where those of the map are
-pub session_layers : (set : Settings) (m : Map) (d : SessionData) → AreLayers (layers_on set m)
-    → IsSessionOn set m d → AreLayers d.layers
-session_layers set m d are is =
-    subst (λ (ls : Layers). AreLayers ls) (sym (ap (λ (k : SessionData). k.layers) is)) are

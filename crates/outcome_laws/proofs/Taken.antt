@@ -3,7 +3,6 @@ use Rattle.std.proofs.Common.{◌≡◌, refl, sym, ap, ◌∙◌, subst, List, 
 use Rattle.std.proofs.Common.{◌+◌, ◌≤◌, ◌<◌, length, length-append, take, arith}
 use Rattle.std.specs.Prelude.{Option, Some, None}
 use Rattle.std.proofs.lemmas.List.{append-nil, take_all}
-use Rattle.grid_moves.specs.Layers.{AreLayers}
 use Rattle.edit_replay.specs.Session.{SessionData}
 use Rattle.script_text.specs.declared.command.ScriptCommand.{ScriptCommand}
 use Rattle.script_text.specs.Feeding.{commands_of, commands_so_far}
@@ -80,14 +79,14 @@ module _ (taken rest : List ℕ) where
       (subst (λ (text : List ℕ). limit_of kind.Script < length text) (nothing_left end) h)
 
 pub taken_begins : (d e : SessionData) (show : Show) (script : List ℕ) (left refusal : Option (List ℕ))
-    (lines all : List (List ℕ)) → AreLayers d.layers → AnswerAlike (who_is d) (who_is e)
+    (lines all : List (List ℕ)) → AnswerAlike (who_is d) (who_is e)
     → AnswerTaken d show (Some script) left lines → AnswerHeard e show (Some script) refusal all
     → BeginWith all lines
-taken_begins d e show script None refusal lines all are alike p q = absurd p.consumed
-taken_begins d e show script (Some rest) refusal lines all are alike p q =
+taken_begins d e show script None refusal lines all alike p q = absurd p.consumed
+taken_begins d e show script (Some rest) refusal lines all alike p q =
     let begun = part-heard p.taken rest p.commands q.commands refusal p.whole
     (subst (λ (text : List ℕ). IsHeard text q.commands refusal) (q.comes ∙ p.consumed) q.heard) in
-    answers_begin d e show p.commands begun.0 lines all are alike p.answers
+    answers_begin d e show p.commands begun.0 lines all alike p.answers
     (subst (λ (commands : List ScriptCommand). AreAnswers e show commands all) begun.1 q.answers)
 
 -- where no line of the bytes is refused, the lines are those for the whole commands among them

@@ -45,7 +45,7 @@ pub record TakesNone (command : Command) (words : List (List ℕ)) : Type 0 wher
       → (task set command words one).IsRight texts lines status
       → (task set command words other).IsRight texts lines status
 
--- the texts behind a map change, and what is known of them stays
+-- the texts behind a map change, and what holds of them stays
 on_map : {one other : List (List ℕ)} {K L : Map → List (List ℕ) → Type 0} (text : List ℕ)
     → ((m : Map) → K m one → L m other) → OnMap (text ∷ one) K → OnMap (text ∷ other) L
 on_map {one} {other} {K} {L} text f p = record {
@@ -54,8 +54,8 @@ on_map {one} {other} {K} {L} text f p = record {
   map = p.map;
   is = refl;
   read = ap map_of (same_first text p.text one p.behind p.is) ∙ p.read;
-  known = f p.map (subst (λ (ts : List (List ℕ)). K p.map ts)
-      (sym (same_others text p.text one p.behind p.is)) p.known);
+  such = f p.map (subst (λ (ts : List (List ℕ)). K p.map ts)
+      (sym (same_others text p.text one p.behind p.is)) p.such);
 }
 
 -- the texts before the last one change
@@ -65,11 +65,11 @@ on_last {K} before also second f p = record {
   before = also;
   last = second;
   is = refl;
-  known = f (subst K (sym (last_append [] p.before p.last)
-      ∙ ap (λ (ts : List (List ℕ)). last [] ts) (sym p.is) ∙ last_append [] before second) p.known);
+  such = f (subst K (sym (last_append [] p.before p.last)
+      ∙ ap (λ (ts : List (List ℕ)). last [] ts) (sym p.is) ∙ last_append [] before second) p.such);
 }
 
--- where one file is read behind the map, the text before its text is no matter for what is known of it
+-- where one file is read behind the map, the text before its text is no matter for what holds of it
 last_swap : {K L : Map → List ℕ → Type 0} (holds : List ℕ → Held) (earlier : List (List ℕ)) (file : File)
     (text : List ℕ) (before also more : List (List ℕ)) → AreAccepted holds earlier (file ∷ []) more
     → ((m : Map) (second : List ℕ) → K m second → L m second)

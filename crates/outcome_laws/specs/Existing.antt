@@ -1,13 +1,10 @@
 -- That a call comes to an outcome at all.
 use Rattle.std.specs.Prelude.{◌≡◌, ⊤, ◌⊎◌, ℕ, false, List, [], ◌∷◌, Some}
-use Rattle.grid_moves.specs.Grid.{GridData}
 use Rattle.io_edge.specs.Known.{Held, holding}
-use Rattle.potential_check.specs.declared.certificate.Certificate.{Certificate}
 use Rattle.word_list.specs.Calls.{is_call}
 use Rattle.word_list.specs.Request.{Call}
 use Rattle.word_list.specs.Rule.{IsBadWord}
 use Rattle.call_files.specs.Files.{AreAccepted, File, HasRefused}
-use Rattle.grid_answers.specs.Certificates.{IsVerdict}
 use Rattle.jps_run.specs.Calls.{files_of}
 use Rattle.jps_run.specs.Outcome.{IsOutcome, Outcome, Spell}
 
@@ -27,10 +24,6 @@ abbrev pub AcceptedOrRefusedExist : Type 0
 AcceptedOrRefusedExist = (holds : List ℕ → Held) (files : List File) → ArePresent holds files
     → ((texts : List (List ℕ)) × AreAccepted holds [] files texts)
     ⊎ ((line : List ℕ) × HasRefused holds files line)
-
--- a certificate has a verdict on each grid
-abbrev pub VerdictsExist : Type 0
-VerdictsExist = (g : GridData) (c : Certificate) → (line : List ℕ) × (status : ℕ) × IsVerdict g c line status
 
 -- Where words spell no call, they come to an outcome; where they spell one, they do if its files are all
 -- present. The input is known.

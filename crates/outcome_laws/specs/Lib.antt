@@ -1,5 +1,3 @@
-pub mod Oneness
-pub mod Costs
 pub mod Layers
 pub mod Words
 pub mod Files
@@ -9,6 +7,7 @@ pub mod Rulings
 pub mod Scenarios
 pub mod Agreeing
 pub mod Alike
+pub mod Replies
 pub mod Forgetting
 pub mod Lines
 pub mod Outcomes

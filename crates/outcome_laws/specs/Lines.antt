@@ -1,8 +1,7 @@
--- What two print who answer on the layers of one map. One who answers is like himself, so each law also says
+-- What two print who answer on the same layers. One who answers is like himself, so each law also says
 -- that what is printed is the only such thing.
 use Rattle.std.specs.Prelude.{◌≡◌, ℕ, List, Option, Some}
 use Rattle.grid_moves.specs.declared.Cell.{Cell}
-use Rattle.grid_moves.specs.Layers.{AreLayers}
 use Rattle.map_text.specs.Map.{Map}
 use Rattle.edit_replay.specs.Session.{SessionData}
 use Rattle.script_text.specs.declared.command.ScriptCommand.{ScriptCommand}
@@ -23,46 +22,46 @@ use Rattle.outcome_laws.specs.Forgetting.{DifferInTaken}
 -- the line of a query, by two who answer alike
 abbrev pub ReplyLinesAreOne : Type 0
 ReplyLinesAreOne = (who other : Who) (show : Show) (s t : Cell) (line same : List ℕ)
-    → AreLayers who.layers → AnswerAlike who other
+    → AnswerAlike who other
     → IsReplyLine who show s t line → IsReplyLine other show s t same → line ≡ same
 
 -- the lines of commands, by two sessions that answer alike
 abbrev pub AnswersAreOne : Type 0
 AnswersAreOne = (d e : SessionData) (show : Show) (commands : List ScriptCommand) (lines same : List (List ℕ))
-    → AreLayers d.layers → AnswerAlike (who_is d) (who_is e)
+    → AnswerAlike (who_is d) (who_is e)
     → AreAnswers d show commands lines → AreAnswers e show commands same → lines ≡ same
 
 -- what is drawn, and the status
 abbrev pub DrawingsAreOne : Type 0
 DrawingsAreOne = (d e : SessionData) (m : Map) (s t : Cell) (show : Show) (text same : List ℕ)
     (status also : ℕ)
-    → AreLayers d.layers → AnswerAlike (who_is d) (who_is e)
+    → AnswerAlike (who_is d) (who_is e)
     → IsDrawing d m s t show text status → IsDrawing e m s t show same also → (text ≡ same) × (status ≡ also)
 
 -- the lines for a known script that comes in, and the line of its refusal
 abbrev pub HeardIsOne : Type 0
 HeardIsOne = (d e : SessionData) (show : Show) (script : List ℕ) (refusal also : Option (List ℕ))
-    (lines same : List (List ℕ)) → AreLayers d.layers → AnswerAlike (who_is d) (who_is e)
+    (lines same : List (List ℕ)) → AnswerAlike (who_is d) (who_is e)
     → AnswerHeard d show (Some script) refusal lines → AnswerHeard e show (Some script) also same
     → (refusal ≡ also) × (lines ≡ same)
 
 -- the lines for the bytes of a known script that were taken begin those of the whole script
 abbrev pub TakenBeginsHeard : Type 0
 TakenBeginsHeard = (d e : SessionData) (show : Show) (script : List ℕ) (left refusal : Option (List ℕ))
-    (lines all : List (List ℕ)) → AreLayers d.layers → AnswerAlike (who_is d) (who_is e)
+    (lines all : List (List ℕ)) → AnswerAlike (who_is d) (who_is e)
     → AnswerTaken d show (Some script) left lines → AnswerHeard e show (Some script) refusal all
     → BeginWith all lines
 
 -- the rows of entries
 abbrev pub RowsAreOne : Type 0
 RowsAreOne = (who other : Who) (entries : List Entry) (rows same : List Row)
-    → AreLayers who.layers → AnswerAlike who other
+    → AnswerAlike who other
     → AreRows who entries rows → AreRows other entries same → rows ≡ same
 
 -- what commands come to, by two sessions with the same layers, whatever their engines
 abbrev pub FindingsAreOne : Type 0
 FindingsAreOne = (d e : SessionData) (commands : List ScriptCommand) (found same : List Finding)
-    → AreLayers d.layers → d.layers ≡ e.layers
+    → d.layers ≡ e.layers
     → AreFindings d commands found → AreFindings e commands same → found ≡ same
 
 -- what a drill comes to, whatever engines two settings pick
@@ -73,5 +72,5 @@ DrillsAreOne = (set other : Settings) (seed : ℕ) (found same : List Finding) �
 -- the rows of entries, by two who answer on the same layers, in whatever ways
 abbrev pub RowsDifferInTaken : Type 0
 RowsDifferInTaken = (who other : Who) (entries : List Entry) (rows others : List Row)
-    → AreLayers who.layers → who.layers ≡ other.layers
+    → who.layers ≡ other.layers
     → AreRows who entries rows → AreRows other entries others → DifferInTaken rows others

@@ -17,8 +17,8 @@ pub record DifferInTables (tables : List ℕ) (call other : Call) : Type 0 where
   pub settings : call.settings ≡ other.settings
 
 -- it is known what the table file holds, and that is accepted behind the text of the map, if this one is
--- accepted: it is of this map and under this rule; so the map is told, or absent, as one that is not told may
--- hold any text
+-- accepted: it is of this map and under this rule; so the map is known, or absent, as one that is not known
+-- may hold any text
 pub record AreTablesOf (holds : List ℕ → Held) (rule : Corner) (map tables : List ℕ) : Type 0 where
   pub known : holds tables ≢ unknown
   pub loaded : List ℕ

@@ -1,10 +1,9 @@
 //! Laws of words, files and printed texts: each is the contract of a call that does nothing.
 
 ghost use Rattle.outcome_laws.specs.Certificates.{CertificatesAreOne, ProofsAreOne};
-ghost use Rattle.outcome_laws.specs.Certificates.{RefusalsAreOne, VerdictsAreOne};
-ghost use Rattle.outcome_laws.specs.Existing.{AcceptedOrRefusedExist, BadWordsExist, VerdictsExist};
+ghost use Rattle.outcome_laws.specs.Existing.{AcceptedOrRefusedExist, BadWordsExist};
 ghost use Rattle.outcome_laws.specs.Files.{AcceptedTextsAreOne, RefusedLinesAreOne, AcceptedOrRefused};
-ghost use Rattle.outcome_laws.specs.Rulings.{JudgementsAreOne, RulingsAreOne};
+ghost use Rattle.outcome_laws.specs.Rulings.{RulingsAreOne};
 ghost use Rattle.outcome_laws.specs.Agreeing.{LengthsAgree, ProblemsAgree};
 ghost use Rattle.outcome_laws.specs.Scenarios.{LengthsAreOne, ProblemsAreOne};
 ghost use Rattle.outcome_laws.specs.Texts.{BoxTextsAreOne, CostsAreOne, RunTextsAreOne};
@@ -68,27 +67,6 @@ pub fn certificates_are_one()
 /// What is printed for a query that asks for a certificate is one, with one status.
 pub fn proofs_are_one()
     ensures { ProofsAreOne }
-{}
-
-/// Certificates of one text are refused by one clause.
-pub fn refusals_are_one()
-    ensures { RefusalsAreOne }
-{}
-
-/// The verdict on certificates of one text is at most one line with one status: accepted or refused, not
-/// both.
-pub fn verdicts_are_one()
-    ensures { VerdictsAreOne }
-{}
-
-/// A certificate that is read has a verdict, on each grid.
-pub fn verdicts_exist()
-    ensures { VerdictsExist }
-{}
-
-/// What is claimed of the walks between two cells has one judgement.
-pub fn judgements_are_one()
-    ensures { JudgementsAreOne }
 {}
 
 /// The entries of a scenario, with what is claimed of each, have at most one list of rows.

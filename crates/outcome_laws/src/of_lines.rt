@@ -1,6 +1,5 @@
-//! Laws of lines: each is the contract of a call that does nothing, and speaks of two who answer on the
-//! layers of one map. One who answers is like himself, so each law also says that what is printed is the only
-//! such thing.
+//! Laws of lines: each is the contract of a call that does nothing, and speaks of two who answer on the same
+//! layers. One who answers is like himself, so each law also says that what is printed is the only such thing.
 
 ghost use Rattle.outcome_laws.specs.Lines.{ReplyLinesAreOne, AnswersAreOne, DrawingsAreOne};
 ghost use Rattle.outcome_laws.specs.Lines.{HeardIsOne, TakenBeginsHeard};

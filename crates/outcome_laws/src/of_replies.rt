@@ -1,22 +1,18 @@
 //! Laws of replies, whoever answers: each is the contract of a call that does nothing.
-//!
-//! All but the last one ask for the layers of one map; by the last one, every session of a call has such.
 
-ghost use Rattle.outcome_laws.specs.Costs.{RepliesCostTheSame};
 ghost use Rattle.outcome_laws.specs.Layers.{LayersStay};
-ghost use Rattle.outcome_laws.specs.Oneness.{RepliesAreOne, JumpEnginesReplyTheSame};
+ghost use Rattle.outcome_laws.specs.Replies.{AlikeReplyTheSame, RepliesAreRight, RepliesCostTheSame};
 
-/// A query has one reply alone: two that are right, and come to as the one who answers does, have the
-/// same points, the same cost and the same taken states. So it is for a session's engine, for goal
-/// boxes and for first moves.
-pub fn replies_are_one()
-    ensures { RepliesAreOne }
+/// The reply to a query, a function of who answers and of the ends, is right, whoever answers: a session's
+/// engine, goal boxes or first moves.
+pub fn replies_are_right()
+    ensures { RepliesAreRight }
 {}
 
-/// Two who answer on the same layers by engines that jump (`jps`, `block` and `plus`), with the same states,
-/// have the same reply: points, cost and taken states.
-pub fn jump_engines_reply_the_same()
-    ensures { JumpEnginesReplyTheSame }
+/// Two who answer alike on the same layers have the same reply: points, cost and taken states. So do engines that
+/// jump (`jps`, `block` and `plus`) with the same states.
+pub fn alike_reply_the_same()
+    ensures { AlikeReplyTheSame }
 {}
 
 /// Any two who answer on the same layers both say outside, both blocked, both none, or both have a walk

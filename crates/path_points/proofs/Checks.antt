@@ -1,11 +1,10 @@
--- The check of points as a function on lists: when it finds a walk, and when a bad point.
+-- What points come to: when it is the cost of a walk, and when a bad point.
 use Rattle.std.proofs.lemmas.Bool.{cases_Bool}
 use Rattle.std.proofs.lemmas.Bool.Decides.{nat_tests}
 use Rattle.std.proofs.Common.{◌≡◌, ℕ, zero, suc, ◌+◌, ◌<◌, ◌≤◌, arith, Bool, true, false, ◌⊎◌, inl, inr, refl}
 use Rattle.std.proofs.Common.{ap, sym, ◌∙◌, subst, List, [], ◌∷◌, ◌++◌, length, drop, get_or, length-append}
 use Rattle.std.proofs.Common.{zero-add}
 use Rattle.std.specs.Prelude.{if◌then◌else◌, nat_le, Option, Some, None, Result, Ok, Err, option_map}
-use Rattle.std.specs.Prelude.{IfOk, IfErr}
 use Rattle.std.proofs.lemmas.Bool.{le-leb, leb-true, not-true}
 use Rattle.std.proofs.lemmas.List.{at_drop_more, at_drop_all}
 use Rattle.root2_cost.specs.declared.Cost.{Cost}
@@ -19,38 +18,20 @@ use Rattle.grid_moves.specs.Walk.{is_walk, cost_of}
 use Rattle.grid_moves.proofs.Short.{walk_free}
 use Rattle.path_points.specs.declared.checking.BadAt.{BadAt}
 use Rattle.path_points.specs.Checked.{most_steps, run, good_cost, is_legal_run, is_good_run, starts_free}
-use Rattle.path_points.specs.Checked.{breaks_after, is_bad_at, IsFirstBad, IsShortWalk}
+use Rattle.path_points.specs.Checked.{breaks_after, is_bad_at, IsFirstBad, IsPointsAnswer, IsShortWalk}
+use Rattle.path_points.specs.Checked.{PointsAreAnswered, answer_from, bad_at, cost_after, points_answer, steps_of}
 use Rattle.grid_moves.proofs.Legal.{and_both}
 use Rattle.path_points.proofs.Filling.{segment-length}
 use Rattle.path_points.proofs.Joined.{run_joined, run_parts, run_free, run_cost_joined, run_counts}
-
-abbrev pub steps_of : Cost → ℕ
-steps_of cost = cost.a + cost.b
-
--- the cost with that of the run from u to v
-abbrev pub paid : Cost → Cell → Cell → Cost
-paid cost u v = add_costs cost (cost_of (u ∷ run u v))
-
--- the answer that point i is bad
-abbrev pub bad_at : ℕ → Result Cost BadAt
-bad_at i = Err (record { 0 = i })
 
 -- the answer that the points cost this much
 abbrev pub costs : Cost → Result Cost BadAt
 costs cost = Ok cost
 
--- the answer where u is point i and the walk to it costs this much
-abbrev pub checked_from : GridData → ℕ → Cell → List Cell → Cost → Result Cost BadAt
-checked_from g i u [] cost = Ok cost
-checked_from g i u (v ∷ points) cost =
-    if is_good_run g (steps_of cost) u v
-    then checked_from g (i + 1) v points (paid cost u v)
-    else bad_at (i + 1)
-
 -- the steps so far and those of the run
 steps_on :
     (cost : Cost) (u v : Cell)
-    → steps_of (paid cost u v) ≡ steps_of cost + steps_between u v
+    → steps_of (cost_after cost u v) ≡ steps_of cost + steps_between u v
 steps_on cost u v = let counts = run_counts u v in omega arith
 
 -- what a good point says
@@ -73,7 +54,7 @@ good_is g s u v h =
 
 pub good_few :
     (g : GridData) (cost : Cost) (u v : Cell) → is_good_run g (steps_of cost) u v ≡ true
-    → steps_of (paid cost u v) ≤ most_steps
+    → steps_of (cost_after cost u v) ≤ most_steps
 good_few g cost u v h =
     let on = steps_on cost u v in let few = (good_is g (steps_of cost) u v h).few in omega arith
 
@@ -103,24 +84,24 @@ if_some b f o y h1 = grind (arith, cases_Bool)
 pub checked_off :
     (g : GridData) (i : ℕ) (u : Cell) (points : List Cell) (cost : Cost) (d : Cell) → i < length points
     → is_good_run g (steps_of cost) u (get_or points i d) ≡ false
-    → checked_from g i u (drop i points) cost ≡ bad_at (i + 1)
+    → answer_from g i u (drop i points) cost ≡ bad_at (i + 1)
 checked_off g i u points cost d h e =
-    at_drop_more (λ points. checked_from g i u points cost) points i d h
+    at_drop_more (λ points. answer_from g i u points cost) points i d h
     ∙ rw e refl
 
 pub checked_on :
     (g : GridData) (i : ℕ) (u : Cell) (points : List Cell) (cost : Cost) (d : Cell) → i < length points
     → is_good_run g (steps_of cost) u (get_or points i d) ≡ true
-    → checked_from g i u (drop i points) cost ≡ checked_from g (i + 1) (get_or points i d)
-    (drop (i + 1) points) (paid cost u (get_or points i d))
+    → answer_from g i u (drop i points) cost ≡ answer_from g (i + 1) (get_or points i d)
+    (drop (i + 1) points) (cost_after cost u (get_or points i d))
 checked_on g i u points cost d h e =
-    at_drop_more (λ points. checked_from g i u points cost) points i d h
+    at_drop_more (λ points. answer_from g i u points cost) points i d h
     ∙ rw e refl
 
 pub checked_end :
     (g : GridData) (i : ℕ) (u : Cell) (points : List Cell) (cost : Cost) → length points ≤ i
-    → checked_from g i u (drop i points) cost ≡ Ok cost
-checked_end g i u points cost h = at_drop_all (λ points. checked_from g i u points cost) points i h
+    → answer_from g i u (drop i points) cost ≡ Ok cost
+checked_end g i u points cost h = at_drop_all (λ points. answer_from g i u points cost) points i h
 
 -- the cost of the run tells whether it is good
 pub good_none : (g : GridData) (s : ℕ) (u v : Cell) → good_cost g s u v ≡ None → is_good_run g s u v ≡ false
@@ -142,7 +123,7 @@ record GoesOn (g : GridData) (u : Cell) (points : List Cell) (cost total : Cost)
 -- the cost of a walk that goes on from a run
 priced_on :
     (cost : Cost) (u v : Cell) (cells : List Cell)
-    → add_costs cost (cost_of (u ∷ (run u v ++ cells))) ≡ add_costs (paid cost u v) (cost_of (v ∷ cells))
+    → add_costs cost (cost_of (u ∷ (run u v ++ cells))) ≡ add_costs (cost_after cost u v) (cost_of (v ∷ cells))
 priced_on cost u v cells = grind (arith, cases_Bool, run_cost_joined, add_costs-assoc)
 
 run_and_more : (u v : Cell) (cells : List Cell) → length (run u v ++ cells) ≡ steps_between u v + length cells
@@ -157,7 +138,7 @@ unfolded_on u v points cells l e = rw (l, e) refl
 
 ok_goes :
     (g : GridData) (i : ℕ) (u : Cell) (points : List Cell) (cost total : Cost) → is_free g u ≡ true
-    → steps_of cost ≤ most_steps → checked_from g i u points cost ≡ Ok total
+    → steps_of cost ≤ most_steps → answer_from g i u points cost ≡ Ok total
     → GoesOn g u points cost total
 ok_goes g i u [] cost total f s h =
     record {
@@ -169,11 +150,11 @@ ok_goes g i u [] cost total f s h =
     }
 ok_goes g i u (v ∷ points) cost total f s h =
     let step = if_ok (is_good_run g (steps_of cost) u v)
-    (checked_from g (i + 1) v points (paid cost u v)) _ total h in
+    (answer_from g (i + 1) v points (cost_after cost u v)) _ total h in
     let good = good_is g (steps_of cost) u v step.0 in
     let on = steps_on cost u v in
     let t =
-    ok_goes g (i + 1) v points (paid cost u v) total good.free (omega (arith, good.few)) step.1 in
+    ok_goes g (i + 1) v points (cost_after cost u v) total good.free (omega (arith, good.few)) step.1 in
     let more = run_and_more u v t.cells in
     record {
       cells = run u v ++ t.cells;
@@ -185,7 +166,7 @@ ok_goes g i u (v ∷ points) cost total f s h =
 
 goes_ok :
     (g : GridData) (i : ℕ) (u : Cell) (points : List Cell) (cost total : Cost)
-    → GoesOn g u points cost total → checked_from g i u points cost ≡ Ok total
+    → GoesOn g u points cost total → answer_from g i u points cost ≡ Ok total
 goes_ok g i u [] cost total t =
     let none : t.cells ≡ [] = let e = t.unfolds in cc in
     let same : cost ≡ total =
@@ -203,7 +184,7 @@ goes_ok g i u (v ∷ points) cost total t =
     ap (λ (l : List Cell). length l) is
     ∙ run_and_more u v parts.0 in
     let good = good_from g (steps_of cost) u v parts.1 walk.0 (omega (arith, t.short)) in
-    rw good (goes_ok g (i + 1) v points (paid cost u v) total (record {
+    rw good (goes_ok g (i + 1) v points (cost_after cost u v) total (record {
       cells = parts.0;
       unfolds = parts.2;
       legal = walk.1;
@@ -243,14 +224,14 @@ later_first g s u v points n first = record {
 -- an error names the first bad point
 err_first :
     (g : GridData) (i : ℕ) (u : Cell) (points : List Cell) (cost : Cost) (bad : BadAt)
-    → checked_from g i u points cost ≡ Err bad
+    → answer_from g i u points cost ≡ Err bad
     → (n : ℕ) × (bad.0 ≡ i + suc n) × FirstBreak g (steps_of cost) u points n
 unfolding FirstBreak
 err_first g i u [] cost bad h = absurd (cc)
 err_first g i u (v ∷ points) cost bad h =
     elim (if_err (is_good_run g (steps_of cost) u v) on (record { 0 = i + 1 }) bad h) [
       | inl later ↦
-          let rest = err_first g (i + 1) v points (paid cost u v) bad later.1 in
+          let rest = err_first g (i + 1) v points (cost_after cost u v) bad later.1 in
           let place : bad.0 ≡ i + suc (suc rest.0) = (let e = rest.1 in omega arith) in (
             suc rest.0,
             place,
@@ -266,19 +247,19 @@ err_first g i u (v ∷ points) cost bad h =
     ]
   where
     on : Result Cost BadAt
-    on = checked_from g (i + 1) v points (paid cost u v)
+    on = answer_from g (i + 1) v points (cost_after cost u v)
 
 -- the first bad point is named by an error
 first_err :
     (g : GridData) (i : ℕ) (u : Cell) (points : List Cell) (cost : Cost) (n : ℕ)
-    → FirstBreak g (steps_of cost) u points n → checked_from g i u points cost ≡ bad_at (i + suc n)
+    → FirstBreak g (steps_of cost) u points n → answer_from g i u points cost ≡ bad_at (i + suc n)
 unfolding FirstBreak
 first_err g i u [] cost n first = let e = first.holds in absurd (cc)
 first_err g i u (v ∷ points) cost zero first =
     rw (not-true (is_good_run g (steps_of cost) u v) first.holds) refl
 first_err g i u (v ∷ points) cost (suc n) first =
     let good : is_good_run g (steps_of cost) u v ≡ true = by_test (is_good_run g (steps_of cost) u v) refl in
-    let rest = first_err g (i + 1) v points (paid cost u v) n
+    let rest = first_err g (i + 1) v points (cost_after cost u v) n
     (subst (λ s. FirstBreak g s v points n) (sym (steps_on cost u v))
     (later_first g (steps_of cost) u v points n first)) in
     let same : i + 1 + suc n ≡ i + suc (suc n) = omega arith in
@@ -288,31 +269,20 @@ first_err g i u (v ∷ points) cost (suc n) first =
     by_test true e = e
     by_test false e = absurd (first.least 0 (omega arith) (omega arith) (rw e refl))
 
--- the answer is right: the cost where the points stand for a short walk, else the first bad point
-pub record IsVerdict (g : GridData) (points : List Cell) (answer : Result Cost BadAt) : Type 0 where
-  pub walk : IfOk answer (λ cost. IsShortWalk g points cost)
-  pub ok : (cost : Cost) → IsShortWalk g points cost → answer ≡ Ok cost
-  pub bad : IfErr answer (λ bad. IsFirstBad g points bad.0)
-  pub err : (i : ℕ) → IsFirstBad g points i → answer ≡ bad_at i
-
 short_free :
     (g : GridData) (points : List Cell) (cost : Cost) → IsShortWalk g points cost
     → starts_free g points ≡ true
 short_free g points cost h1 = grind (arith, nat_tests, if_some, walk_free)
 
--- without a free first point, that point is bad
-pub verdict_at_start :
-    (g : GridData) (points : List Cell) → starts_free g points ≡ false → IsVerdict g points (bad_at 0)
-verdict_at_start g points h = record {
-  walk = tt;
-  ok = λ cost w. let free = short_free g points cost w in absurd (cc);
-  bad = record { in_range = omega arith; holds = rw h refl; least = λ k l b. absurd (omega arith) };
-  err = only;
-}
-  where
-    only : (i : ℕ) → IsFirstBad g points i → bad_at 0 ≡ bad_at i
-    only zero first = refl
-    only (suc n) first = absurd (first.least 0 (omega arith) (omega arith) (rw h refl))
+-- without a free first point, that point is the first bad one
+bad_start : (g : GridData) (points : List Cell) → starts_free g points ≡ false → IsFirstBad g points 0
+bad_start g points h =
+    record { in_range = omega arith; holds = rw h refl; least = λ k l b. absurd (omega arith) }
+
+only_start : (g : GridData) (points : List Cell) (i : ℕ) → starts_free g points ≡ false
+    → IsFirstBad g points i → bad_at 0 ≡ bad_at i
+only_start g points zero h first = refl
+only_start g points (suc n) h first = absurd (first.least 0 (omega arith) (omega arith) (rw h refl))
 
 module _ (g : GridData) (u : Cell) (points : List Cell) (free : is_free g u ≡ true) where
   goes_short : (total : Cost) → GoesOn g u points no_cost total → IsShortWalk g (u ∷ points) total
@@ -347,44 +317,62 @@ module _ (g : GridData) (u : Cell) (points : List Cell) (free : is_free g u ≡ 
       before zero l h b = let bad = not-true (is_free g u) b in cc
       before (suc k) l h b = first.least k (omega arith) (omega arith) b
 
-  bad_first :
-      (answer : Result Cost BadAt) → checked_from g 0 u points no_cost ≡ answer → (i : ℕ)
-      → IsFirstBad g (u ∷ points) i → answer ≡ bad_at i
+  bad_first : (i : ℕ) → IsFirstBad g (u ∷ points) i → answer_from g 0 u points no_cost ≡ bad_at i
   unfolding FirstBreak
-  bad_first answer e zero first = let bad = not-true (is_free g u) first.holds in absurd (cc)
-  bad_first answer e (suc n) first =
-      sym e
-      ∙ first_err g 0 u points no_cost n (record {
+  bad_first zero first = let bad = not-true (is_free g u) first.holds in absurd (cc)
+  bad_first (suc n) first =
+      first_err g 0 u points no_cost n (record {
         in_range = omega arith;
         holds = first.holds;
         least = λ k l h b. first.least (suc k) (omega arith) (omega arith) b;
       })
       ∙ ap bad_at (zero-add (suc n))
 
-  -- from a free first point the check on the list decides
-  pub verdict_from :
-      (answer : Result Cost BadAt) → checked_from g 0 u points no_cost ≡ answer
-      → IsVerdict g (u ∷ points) answer
-  verdict_from (Ok total) e = record {
-    walk = goes_short total (ok_goes g 0 u points no_cost total free (omega arith) e);
-    ok = λ cost w. sym e ∙ goes_ok g 0 u points no_cost cost (short_goes cost w);
-    bad = tt;
-    err = bad_first (Ok total) e;
-  }
-  verdict_from (Err bad) e =
+  -- from a free first point the answer is right
+  right_from : (answer : Result Cost BadAt) → answer_from g 0 u points no_cost ≡ answer
+      → IsPointsAnswer g (u ∷ points) answer
+  right_from (Ok total) e = goes_short total (ok_goes g 0 u points no_cost total free (omega arith) e)
+  right_from (Err bad) e =
       let first = err_first g 0 u points no_cost bad e in
-      record {
-        walk = tt;
-        ok = λ cost w. sym e ∙ goes_ok g 0 u points no_cost cost (short_goes cost w);
-        bad =
-            subst (λ i. IsFirstBad g (u ∷ points) i) (sym (first.1 ∙ zero-add (suc first.0)))
-            (first_bad first.0 first.2);
-        err = bad_first (Err bad) e;
-      }
+      subst (λ i. IsFirstBad g (u ∷ points) i) (sym (first.1 ∙ zero-add (suc first.0)))
+      (first_bad first.0 first.2)
 
-pub verdict_of :
-    (g : GridData) (points : List Cell) (u : Cell) (others : List Cell) (answer : Result Cost BadAt)
-    → points ≡ u ∷ others → is_free g u ≡ true → checked_from g 0 u others no_cost ≡ answer
-    → IsVerdict g points answer
-verdict_of g points u others answer is free e =
-    subst (λ (p : List Cell). IsVerdict g p answer) (sym is) (verdict_from g u others free answer e)
+is_right : (g : GridData) (points : List Cell) → IsPointsAnswer g points (points_answer g points)
+is_right g [] = bad_start g [] refl
+is_right g (u ∷ points) = by_free (is_free g u) refl
+  where
+    by_free : (b : Bool) → is_free g u ≡ b
+        → IsPointsAnswer g (u ∷ points) (if b then answer_from g 0 u points no_cost else bad_at 0)
+    by_free true free = right_from g u points free (answer_from g 0 u points no_cost) refl
+    by_free false blocked = bad_start g (u ∷ points) blocked
+
+-- and no other is
+only_right : (g : GridData) (points : List Cell) (answer : Result Cost BadAt)
+    → IsPointsAnswer g points answer → points_answer g points ≡ answer
+only_right g [] (Ok cost) w = let free = short_free g [] cost w in absurd (cc)
+only_right g [] (Err bad) first = only_start g [] bad.0 refl first
+only_right g (u ∷ points) (Ok cost) w =
+    let free : is_free g u ≡ true = short_free g (u ∷ points) cost w in
+    rw free (goes_ok g 0 u points no_cost cost (short_goes g u points free cost w))
+only_right g (u ∷ points) (Err bad) first = by_free (is_free g u) refl
+  where
+    by_free : (b : Bool) → is_free g u ≡ b
+        → (if b then answer_from g 0 u points no_cost else bad_at 0) ≡ bad_at bad.0
+    by_free true free = bad_first g u points free bad.0 first
+    by_free false blocked = only_start g (u ∷ points) bad.0 blocked first
+
+pub points_are_answered : PointsAreAnswered
+points_are_answered g points answer = (
+  only_right g points answer,
+  λ e. subst (λ (a : Result Cost BadAt). IsPointsAnswer g points a) e (is_right g points),
+)
+
+-- the first point decides, or the check goes on from it
+pub answer_at_start : (g : GridData) (points : List Cell) → starts_free g points ≡ false
+    → bad_at 0 ≡ points_answer g points
+answer_at_start g [] h = refl
+answer_at_start g (u ∷ points) h = rw h refl
+
+pub answer_of : (g : GridData) (points : List Cell) (u : Cell) (others : List Cell) → points ≡ u ∷ others
+    → is_free g u ≡ true → answer_from g 0 u others no_cost ≡ points_answer g points
+answer_of g points u others is free = rw (is, free) refl

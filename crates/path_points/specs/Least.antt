@@ -6,6 +6,6 @@ use Rattle.grid_moves.specs.Reply.{StandsForLeast}
 use Rattle.grid_moves.specs.Walk.{NoWalk}
 use Rattle.path_points.specs.declared.points.Walk.{Walk}
 
--- the points stand for a least walk from s to t of this cost, or none is told and no walk exists
+-- the points stand for a least walk from s to t of this cost, or nothing is found and no walk exists
 abbrev pub IsLeastOrNone : GridData → Cell → Cell → Option Walk → Type 0
 IsLeastOrNone g s t found = MatchOption found (NoWalk g s t) (λ w. StandsForLeast g s t w.points w.cost)

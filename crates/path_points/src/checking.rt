@@ -1,10 +1,9 @@
 //! Checks of walks that are given by points.
 
-ghost use Rattle.std.specs.Prelude.{◌≡◌, ℕ, ◌+◌, ◌^◌, ◌<◌, ◌≤◌, true, length, OnSome, IfSome, IfOk, IfErr};
-ghost use Rattle.root2_cost.specs.declared.Cost.{Cost};
+ghost use Rattle.std.specs.Prelude.{◌≡◌, ◌+◌, ◌^◌, ◌<◌, ◌≤◌, true, length, OnSome, IfSome};
 ghost use Rattle.grid_moves.specs.Grid.{is_free};
 ghost use Rattle.grid_moves.specs.Points as spec;
-ghost use Rattle.path_points.specs.Checked.{good_cost, IsFirstBad, IsShortWalk};
+ghost use Rattle.path_points.specs.Checked.{good_cost, points_answer};
 
 use crate::Points;
 use crate::segments::{are_lined, step_toward, steps_between};
@@ -48,14 +47,11 @@ fn run_cost<T: Terrain>(t: &T, from: Cell, to: Cell, before: u32) -> Option<Cost
 ///
 /// The points have to unfold to a walk of at most 2^24 steps. Point 0 is bad where there is none or
 /// it is not free, a later one where no legal run of at least one step leads to it from the point
-/// before, or where it brings the steps above 2^24. No memory is taken, and nothing is read past
-/// the first bad point.
+/// before, or where it brings the steps above 2^24: law `points_are_answered`. No memory is taken, and
+/// nothing is read past the first bad point.
 pub fn check_walk<T: Terrain>(t: &T, p: &Points) -> Result<Cost, BadAt>
     requires { length p.now < 2 ^ 30 }
-    ensures walk { IfOk result (λ cost. IsShortWalk (T.grid t.now) p.now cost) }
-    ensures ok { (cost : Cost) → IsShortWalk (T.grid t.now) p.now cost → result ≡ Ok cost }
-    ensures bad { IfErr result (λ bad. IsFirstBad (T.grid t.now) p.now bad.0) }
-    ensures err { (i : ℕ) → IsFirstBad (T.grid t.now) p.now i → result ≡ Err (record { 0 = i }) }
+    ensures { result ≡ points_answer (T.grid t.now) p.now }
 {
     let Some((first, others)) = p.as_slice().split_first() else {
         return Err(BadAt(0));

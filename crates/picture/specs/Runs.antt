@@ -16,7 +16,7 @@ with_cell x (run ∷ runs) =
     if run.from == x + 1 then record { from = x; long = run.long + 1 } ∷ runs
     else record { from = x; long = 1 } ∷ run ∷ runs
 
--- the longest runs of marked cells in the part of a row that begins in this column, told by a mark for each
+-- the longest runs of marked cells in the part of a row that begins in this column, by a mark for each
 -- cell
 abbrev pub runs_from : ℕ → List Bool → List Run
 runs_from x [] = []

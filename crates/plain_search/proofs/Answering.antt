@@ -1,4 +1,4 @@
--- What the plain engine's run answers is told by a function.
+-- What the plain engine's run answers is given by a function.
 use Rattle.grid_moves.specs.declared.Cell.{Cell}
 use Rattle.grid_moves.specs.Grid.{GridData}
 use Rattle.path_points.specs.Corners.{corners}

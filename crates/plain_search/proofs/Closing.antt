@@ -3,7 +3,7 @@ use Rattle.std.proofs.lemmas.Grind.{common_steps}
 use Rattle.std.proofs.Common.{◌≡◌, ℕ, ◌<◌, ◌≤◌, List, ◌∷◌, refl, ap, sym, ◌∙◌, subst, arith}
 use Rattle.std.proofs.Common.{true, false}
 use Rattle.std.proofs.lemmas.Bool.Decides.{nat_tests}
-use Rattle.std.proofs.lemmas.Bool.{lt-ltb, ltb-true, true_from_ne_false}
+use Rattle.std.proofs.lemmas.Bool.{lt-ltb, ltb-true, true_from_ne_false, or_parts}
 use Rattle.std.proofs.lemmas.List.Sorted.{IsPermutation-sym, Contains-permutation}
 use Rattle.std.specs.Prelude.{Option, Some, None, slice_get}
 use Rattle.std.specs.List.{Contains}
@@ -22,7 +22,7 @@ use Rattle.grid_moves.specs.Points.{estimate}
 use Rattle.grid_moves.specs.Walk.{cost_of, last_of}
 use Rattle.grid_moves.proofs.Legal.{is_same-itself}
 use Rattle.search_run.specs.Run.{Taken, Offer, IsIn, here, IsRun, is_taken, least_offer, sum_at}
-use Rattle.search_run.proofs.Leastness.{or_false, taken_state, taken_is_least, lower_taken}
+use Rattle.search_run.proofs.Leastness.{taken_state, taken_is_least, lower_taken}
 use Rattle.best_first.specs.declared.node.Node.{Node}
 use Rattle.best_first.specs.declared.state.State.{State}
 use Rattle.best_first.specs.declared.state.Layout.TheVariants.{ByCell}
@@ -91,7 +91,7 @@ first_no : (g : GridData) (s t : Cell) (x : Taken State) (earlier : List (Taken 
     (o : Offer State) → IsRun (plain_rule g t) (start_at s) (x ∷ earlier)
     → is_taken (plain_rule g t) (x ∷ earlier) v ≡ false → least_offer (plain_rule g t) earlier v ≡ Some o
     → IsLess (sum_at (plain_rule g t) v o.cost) (sum_at (plain_rule g t) x.state x.cost) → ⊥
-first_no g s t x earlier v o h1 h2 h3 h4 = grind (arith, nat_tests, or_false)
+first_no g s t x earlier v o h1 h2 h3 h4 = grind (arith, nat_tests, or_parts)
 
 module _ {g : GridData} {s t : Cell} (asked : IsAsked g s t (plain_links g)) {at : ℕ} {k : Table}
     {taken : List ℕ}

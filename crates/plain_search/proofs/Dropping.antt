@@ -175,7 +175,7 @@ module _ (g : GridData) (p x v : Cell) (a : Around) (s : Behind) (around : IsAro
               (λ w. (lies.right t.0 ∙ sym (further x.x a.right w.0), down ∙ sym (further x.y a.down w.1))))
         ])
 
--- where no parent is told all open moves are kept
+-- where no parent is given all open moves are kept
 pub all_kept : (a : Around) (d : Dir) → is_open_to a d ≡ true
     → is_open_to (less_offered a (record { left = false; right = false; above = false; below = false })) d
     ≡ true

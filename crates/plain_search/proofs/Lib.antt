@@ -15,3 +15,4 @@ pub mod Closing
 pub mod ToAll
 pub mod Reaching
 pub mod Answering
+pub mod LeastCosts

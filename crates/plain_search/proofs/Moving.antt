@@ -4,6 +4,7 @@ use Rattle.std.proofs.Common.{◌≡◌, ℕ, ◌+◌, ◌<◌, ◌≤◌, ◌^�
 use Rattle.std.specs.Prelude.{Some}
 use Rattle.root2_cost.specs.declared.Cost.{Cost}
 use Rattle.root2_cost.specs.Rank.{rank_of}
+use Rattle.root2_cost.proofs.Differences.{rank-add_costs}
 use Rattle.grid_moves.specs.declared.Cell.{Cell}
 use Rattle.grid_moves.specs.declared.Dir.{Dir}
 use Rattle.grid_moves.specs.Grid.{GridData, is_free}
@@ -21,7 +22,6 @@ use Rattle.best_first.specs.Trace.{node_cell, rank_left}
 use Rattle.best_first.specs.Ways.{with_onward}
 use Rattle.best_first.proofs.Backing.{left_is}
 use Rattle.best_first.proofs.Mirrors.{some_node}
-use Rattle.best_first.proofs.Offering.{rank-add_costs}
 use Rattle.best_first.proofs.Searching.{IsOver, one_more, node_stays, key_rises, taken_key}
 use Rattle.plain_search.specs.Offers.{offer_to}
 use Rattle.plain_search.proofs.Posed.{IsAsked, run_free}

@@ -4,7 +4,7 @@ use Rattle.std.proofs.lemmas.Bool.Decides.{nat_tests}
 use Rattle.std.proofs.Common.{◌≡◌, ℕ, ◌*◌, ◌⊎◌, inl, inr, List, [], ◌∷◌, refl, ap, sym, ◌∙◌, subst, Bool}
 use Rattle.std.proofs.Common.{true, false, arith}
 use Rattle.std.specs.Prelude.{Option, Some, None, if◌then◌else◌}
-use Rattle.std.proofs.lemmas.Bool.{cases_Bool}
+use Rattle.std.proofs.lemmas.Bool.{cases_Bool, or_parts}
 use Rattle.root2_cost.specs.declared.Cost.{Cost}
 use Rattle.root2_cost.specs.Order.{IsAtMost}
 use Rattle.root2_cost.specs.Sums.{add_costs}
@@ -19,7 +19,7 @@ use Rattle.grid_moves.proofs.Ahead.{legal_ahead-of}
 use Rattle.grid_moves.proofs.Costs.{cost_there}
 use Rattle.grid_moves.proofs.Legal.{is_same-cell, is_same-itself, legal_is}
 use Rattle.search_run.specs.Run.{Taken, IsRun, is_taken, least_offer}
-use Rattle.search_run.proofs.Leastness.{least_offer-from, is_taken-member, or_false}
+use Rattle.search_run.proofs.Leastness.{least_offer-from, is_taken-member}
 use Rattle.search_run.proofs.Parents.{parent_offers}
 use Rattle.best_first.specs.declared.node.Node.{Node}
 use Rattle.best_first.specs.declared.state.State.{State}
@@ -213,7 +213,7 @@ module _ {g : GridData} {s t : Cell} (asked : IsAsked g s t (plain_links g)) whe
           ∙ sym m.plain in
           let yes : is_taken (plain_rule g t) (y ∷ rest) v ≡ true =
           ap (λ (u : State). is_taken (plain_rule g t) (y ∷ rest) u) (sym one) ∙ q in
-          let no = (or_false (is_same_state x.state v) (is_taken (plain_rule g t) (y ∷ rest) v) untaken).1 in
+          let no = (or_parts (is_same_state x.state v) (is_taken (plain_rule g t) (y ∷ rest) v) untaken).1 in
           cc)
 
       no_dearer : {b : Cost} → IsMove g x.parent x.state b → is_legal g x.parent.cell v.cell ≡ true

@@ -6,6 +6,7 @@ use Rattle.root2_cost.specs.Laws.{HasShortParts}
 use Rattle.root2_cost.specs.Rank.{cost_of_rank, rank_of}
 use Rattle.root2_cost.specs.Sums.{add_costs}
 use Rattle.root2_cost.proofs.Decoding.{cost-rank}
+use Rattle.root2_cost.proofs.Differences.{rank-add_costs}
 use Rattle.grid_moves.specs.declared.Cell.{Cell}
 use Rattle.grid_moves.specs.Grid.{GridData}
 use Rattle.grid_moves.specs.Points.{estimate}
@@ -16,7 +17,6 @@ use Rattle.best_first.specs.declared.state.Layout.TheVariants.{ByCell}
 use Rattle.best_first.specs.Mirror.{Offers, Mirrors}
 use Rattle.best_first.specs.Table.{Table}
 use Rattle.best_first.specs.Trace.{node_cell, rank_left}
-use Rattle.best_first.proofs.Offering.{rank-add_costs}
 use Rattle.plain_search.specs.Listing.{ArePriced, IsPriced}
 use Rattle.plain_search.specs.Rule.{plain_links}
 

@@ -1,8 +1,21 @@
--- The least costs from one cell to all cells of a map.
-use Rattle.std.specs.Prelude.{◌≡◌, ◌*◌, true, List, length, Option, Some, slice_get}
+-- The least costs from one cell to all cells of a map, and the moves with which least walks begin, as functions.
+use Rattle.std.specs.Prelude.{◌≡◌, ◌*◌, ◌↔◌, Bool, true, false, IsTrue, refl, codes, List, length}
+use Rattle.std.specs.Prelude.{Option, Some, None, slice_get}
+use Rattle.std.specs.Option.{option_map, option_map_or}
 use Rattle.root2_cost.specs.declared.Cost.{Cost}
+use Rattle.root2_cost.specs.Sums.{add_costs, is_same_cost}
 use Rattle.grid_moves.specs.declared.Cell.{Cell}
-use Rattle.grid_moves.specs.Grid.{GridData, cell_number, is_inside}
+use Rattle.grid_moves.specs.declared.Corner.TheVariants.{Never}
+use Rattle.grid_moves.specs.declared.Dir.{Dir}
+use Rattle.grid_moves.specs.declared.Dir.TheVariants.{E, W}
+use Rattle.grid_moves.specs.Grid.{GridData, cell_number, grid_of, is_free, is_inside}
+use Rattle.grid_moves.specs.Move.{dir_cost, legal_ahead}
+use Rattle.path_points.specs.declared.points.Walk.{Walk}
+use Rattle.search_run.specs.Made.{run_of}
+use Rattle.best_first.specs.Made.{found_of, states_at, states_in_row, states_on_map}
+use Rattle.cost_waves.specs.Begin.{Begins}
+use Rattle.plain_search.specs.Answer.{plain_found}
+use Rattle.plain_search.specs.One.{IsTheOne}
 pub use Rattle.cost_waves.specs.Begin.{IsCostTo}
 
 -- there are as many entries as cells, and each cell of the map has its own at the place of its number
@@ -10,3 +23,48 @@ pub record AreCostsToAll (g : GridData) (s : Cell) (costs : List (Option Cost)) 
   pub as_many : length costs ≡ g.height * g.width
   pub right : (c : Cell) (entry : Option Cost) → is_inside g c ≡ true
       → slice_get costs (cell_number g.width c) ≡ Some entry → IsCostTo g s c entry
+
+-- what a least walk from a free cell s to t costs, or nothing, where no walk leads there
+unfoldable pub least_cost : GridData → Cell → Cell → Option Cost
+least_cost g s t = option_map (λ (w : Walk). w.cost) (plain_found g s t).walk
+
+-- from a free cell to each cell this is the cost, and nothing else is
+abbrev pub LeastCostsAre : (GridData → Cell → Cell → Option Cost) → Type 0
+LeastCostsAre cost = (g : GridData) (s t : Cell) → is_free g s ≡ true → IsTheOne (IsCostTo g s t) (cost g s t)
+
+-- what is left to pay, before a move and after it, falls by what the move costs
+abbrev pub falls_by : Cost → Option Cost → Option Cost → Bool
+falls_by move None after = false
+falls_by move (Some before) None = false
+falls_by move (Some before) (Some after) = is_same_cost (add_costs after move) before
+
+-- some least walk from u to t begins with a move in direction d
+unfoldable pub begins : GridData → Cell → Cell → Dir → Bool
+begins g u t d =
+    option_map_or (λ (v : Cell). falls_by (dir_cost d) (least_cost g u t) (least_cost g v t)) (legal_ahead g u d)
+    false
+
+-- from a free cell the test says exactly whether some least walk begins so
+abbrev pub BeginsIs : (GridData → Cell → Cell → Dir → Bool) → Type 0
+BeginsIs test = (g : GridData) (u t : Cell) (d : Dir) → is_free g u ≡ true → IsTrue (test g u t d) ↔ Begins g u t d
+
+-- worked rows on the maps `...` and `.@.`: from left to right, and back from the middle
+pub two_moves : least_cost (grid_of 3 1 (codes "...") Never) (record { x = 0; y = 0 }) (record { x = 2; y = 0 })
+    ≡ Some (record { a = 2; b = 0 })
+unfolding least_cost plain_found found_of run_of states_at states_in_row states_on_map
+two_moves = refl
+
+pub past_no_wall : least_cost (grid_of 3 1 (codes ".@.") Never) (record { x = 0; y = 0 })
+    (record { x = 2; y = 0 }) ≡ None
+unfolding least_cost plain_found found_of run_of states_at states_in_row states_on_map
+past_no_wall = refl
+
+pub begins_ahead : begins (grid_of 3 1 (codes "...") Never) (record { x = 1; y = 0 }) (record { x = 2; y = 0 }) E
+    ≡ true
+unfolding begins least_cost plain_found found_of run_of states_at states_in_row states_on_map
+begins_ahead = refl
+
+pub begins_not_back : begins (grid_of 3 1 (codes "...") Never) (record { x = 1; y = 0 })
+    (record { x = 2; y = 0 }) W ≡ false
+unfolding begins least_cost plain_found found_of run_of states_at states_in_row states_on_map
+begins_not_back = refl

@@ -4,5 +4,6 @@ pub mod Room
 pub mod Offers
 pub mod Progress
 pub mod Lists
+pub mod One
 pub mod Costs
 pub mod Listing

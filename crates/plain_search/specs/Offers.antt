@@ -1,7 +1,7 @@
 -- The moves that a taken state offers: legal ones, less those that its parent has offered at no greater cost.
 -- Public clauses cite `offer_to` alone, with the `dir_cost` that it stands on.
 use Rattle.std.specs.Prelude.{◌≡◌, ℕ, ◌+◌, ◌<◌, ◌≤◌, ◌^◌, true, false, not, ◌&&◌, ◌||◌, List, [], ◌∷◌, Option}
-use Rattle.std.specs.Prelude.{Some, None, if◌then◌else◌, nat_eq}
+use Rattle.std.specs.Prelude.{Some, None, if◌then◌else◌}
 use Rattle.root2_cost.specs.Rank.{rank_of}
 use Rattle.grid_moves.specs.declared.Cell.{Cell}
 use Rattle.grid_moves.specs.declared.Dir.{Dir}
@@ -32,19 +32,6 @@ sides_of (Some S) = record { left = false; right = false; above = true; below = 
 sides_of (Some SW) = record { left = false; right = true; above = true; below = false }
 sides_of (Some W) = record { left = false; right = true; above = false; below = false }
 sides_of (Some NW) = record { left = false; right = true; above = false; below = true }
-
--- the arrival of each number: the directions in their order, and beyond them none
-abbrev pub arrival_of : ℕ → Option Dir
-arrival_of n =
-    if nat_eq n 0 then Some N
-    else if nat_eq n 1 then Some NE
-    else if nat_eq n 2 then Some E
-    else if nat_eq n 3 then Some SE
-    else if nat_eq n 4 then Some S
-    else if nat_eq n 5 then Some SW
-    else if nat_eq n 6 then Some W
-    else if nat_eq n 7 then Some NW
-    else None
 
 -- the moves less those that the parent, on these sides, has offered
 abbrev pub less_offered : Around → Behind → Around

@@ -2,6 +2,7 @@
 
 ghost use Rattle.best_first.specs.Answer.{AnswersAre, AnswersExist, RunsAreOne};
 ghost use Rattle.plain_search.specs.Answer.{IsPlainRun, plain_found};
+ghost use Rattle.plain_search.specs.Costs.{BeginsIs, LeastCostsAre, begins, least_cost};
 
 /// The answer of the plain engine's run is a function of the grid and the two cells: it is right where the
 /// first is free, and no other answer is the run's.
@@ -19,4 +20,15 @@ pub fn answers_exist()
 /// points, the same cost and the same taken states.
 pub fn runs_are_one()
     ensures { RunsAreOne IsPlainRun }
+{}
+
+/// What a least walk costs is a function of the grid and the two cells: from a free cell to each cell it tells
+/// the cost, or nothing exactly where no walk leads, and nothing else is that.
+pub fn least_costs_are_found()
+    ensures { LeastCostsAre least_cost }
+{}
+
+/// From a free cell the function tells with which moves the least walks to a cell begin.
+pub fn begins_is_found()
+    ensures { BeginsIs begins }
 {}

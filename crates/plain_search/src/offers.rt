@@ -5,12 +5,12 @@ ghost use Rattle.best_first.specs.Space.{IsPlaced, KeepsShape};
 ghost use Rattle.best_first.specs.State.{state_of_place};
 ghost use Rattle.best_first.specs.Table.{node_for, offered, ClosedBelow};
 ghost use Rattle.grid_moves.specs.Grid.{IsGrid};
-ghost use Rattle.grid_moves.specs.Move.{all_dirs, dir_cost};
-ghost use Rattle.plain_search.specs.Offers.{arrival_of, offer_to, all_offered, MayOffer, MayExpand, HasExpanded};
+ghost use Rattle.grid_moves.specs.Move.{all_dirs, dir_cost, dir_of_number};
+ghost use Rattle.plain_search.specs.Offers.{offer_to, all_offered, MayOffer, MayExpand, HasExpanded};
 
 use crate::moves::{Behind, less_offered};
 use best_first::{Layout, Node, Offer, Space, State};
-use grid_moves::{Around, Cell, Dir, Terrain, moves_around};
+use grid_moves::{Around, Cell, Dir, Terrain, dir_of_number, moves_around};
 use root2_cost::Cost;
 use std::sync::ledger::Ledger;
 use steps::Steps;
@@ -125,24 +125,6 @@ fn offer_around<L: Ledger>(
     offer_over(space, from, a.nw, Cell { x: left, y: up }, Dir::NW, steps);
 }
 
-// The arrival of each number: the directions in their order, and beyond them none.
-#[inline(always)]
-fn arrival_of(number: usize) -> Option<Dir>
-    ensures { result ≡ arrival_of number }
-{
-    match number {
-        0 => Some(Dir::N),
-        1 => Some(Dir::NE),
-        2 => Some(Dir::E),
-        3 => Some(Dir::SE),
-        4 => Some(Dir::S),
-        5 => Some(Dir::SW),
-        6 => Some(Dir::W),
-        7 => Some(Dir::NW),
-        _ => None,
-    }
-}
-
 // Makes the offers of a node, given how its state was come to: that is a constant, so the sides on which
 // the parent lies are too.
 fn offer_after<const BY: usize, T: Terrain, L: Ledger>(
@@ -159,13 +141,13 @@ fn offer_after<const BY: usize, T: Terrain, L: Ledger>(
     requires narrow { space.old.width ≤ 4096 }
     requires room { 8 ≤ space.old.spare }
     requires may { MayExpand (T.grid t.now) goal at node space.old }
-    requires given { arrival_of BY ≡ (state_of_place node.place).arrival }
+    requires arrival { dir_of_number BY ≡ (state_of_place node.place).arrival }
     ensures expanded { HasExpanded (T.grid t.now) goal at node space.old.table space.new.table }
     ensures shape { KeepsShape space.old space.new }
 {
     let cell = node.place.cell();
     let around = moves_around(t, cell);
-    let moves = less_offered(around, Behind::of(arrival_of(BY)));
+    let moves = less_offered(around, Behind::of(dir_of_number(BY)));
     let from = Source {
         id: at,
         key: node.key,

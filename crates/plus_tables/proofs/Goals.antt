@@ -5,16 +5,17 @@ use Rattle.std.proofs.lemmas.Bool.Decides.{nat_tests}
 use Rattle.grid_moves.specs.declared.Cell.{Cell}
 use Rattle.grid_moves.specs.declared.Dir.{Dir}
 use Rattle.grid_moves.specs.Grid.{GridData, is_free}
+use Rattle.grid_moves.specs.Move.{cell_after}
 use Rattle.grid_moves.proofs.Legal.{same_cell}
 use Rattle.pruning.specs.declared.turns.Side.{Side}
 use Rattle.pruning.specs.Turns.{turn, is_diagonal}
 use Rattle.pruning.specs.Marked.{run_end, is_forced, HoldsOnRun, IsMarked, forces, looks_out}
 use Rattle.pruning.specs.Stop.{StopsAfter, IsStop, MarkedAfter, at_goal, marked, sees_goal}
-use Rattle.pruning.proofs.Running.{AreMoved, run_walked}
+use Rattle.pruning.proofs.Running.{AreMoved, moved_to, run_walked}
 use Rattle.pruning.proofs.Table.{turn_parity, by_test}
 use Rattle.plus_tables.specs.Entry.{table_entry}
 use Rattle.plus_tables.specs.Reading as reading
-use Rattle.plus_tables.specs.Reading.{is_clear, columns_to, rows_to, cell_after, row_part, column_part}
+use Rattle.plus_tables.specs.Reading.{is_clear, columns_to, rows_to, row_part, column_part}
 use Rattle.jump_plain.specs.Reach.{moves_to}
 use Rattle.plus_tables.proofs.Clear.{entry_tells, clear_run, clear_unmarked, clear_where}
 use Rattle.plus_tables.proofs.Stops.{IsGoalStop}
@@ -84,10 +85,6 @@ sighted d s k m x v goal h i j = grind (arith, nat_tests)
 come_to : (d : Dir) (k : ℕ) (x goal : Cell) → is_diagonal d ≡ true → AreMoved d k x goal
     → (columns_to d x.x goal.x ≡ k) × (rows_to d x.y goal.y ≡ k)
 come_to d k x goal h p = let a = p.0 in let b = p.1 in (grind arith, grind arith)
-
--- the cell after so many moves
-pub moved_to : (d : Dir) (k : ℕ) (x v : Cell) → AreMoved d k x v → v ≡ cell_after d k x
-moved_to d k x v h = grind (arith, nat_tests)
 
 -- where the goal lies as many columns as rows on, so many moves come to it
 comes_there : (d : Dir) (k : ℕ) (x v goal : Cell) → is_diagonal d ≡ true → 1 ≤ k

@@ -4,13 +4,14 @@ use Rattle.std.proofs.lemmas.Bool.Decides.{nat_tests}
 use Rattle.grid_moves.specs.declared.Cell.{Cell}
 use Rattle.grid_moves.specs.declared.Dir.{Dir}
 use Rattle.grid_moves.specs.Grid.{GridData, is_free, is_inside}
+use Rattle.grid_moves.specs.Move.{cell_after}
 use Rattle.grid_moves.proofs.Legal.{and_both}
 use Rattle.pruning.specs.Turns.{is_diagonal}
 use Rattle.pruning.specs.Stop.{IsFirstStop}
 use Rattle.pruning.proofs.Table.{by_parity}
 use Rattle.plus_tables.specs.Entry.{table_entry}
 use Rattle.plus_tables.specs.Tables.{TablesData, AreTablesOf, entry_at}
-use Rattle.plus_tables.specs.Reading.{columns_to, rows_to, cell_after, near_to}
+use Rattle.plus_tables.specs.Reading.{columns_to, rows_to, near_to}
 use Rattle.plus_tables.specs.Reading.{sees_goal, stop_read}
 use Rattle.plus_tables.proofs.Clear.{entry_tells}
 use Rattle.plus_tables.proofs.Stops.{stop_by-first}

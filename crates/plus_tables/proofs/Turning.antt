@@ -9,7 +9,7 @@ use Rattle.grid_moves.specs.declared.Corner.{Corner}
 use Rattle.grid_moves.specs.declared.Corner.TheVariants.{Never, Both}
 use Rattle.grid_moves.specs.declared.Dir.{Dir}
 use Rattle.grid_moves.specs.Grid.{GridData, is_free}
-use Rattle.grid_moves.specs.Move.{all_dirs, is_dir, is_open, legal_ahead, may_cut, opposite}
+use Rattle.grid_moves.specs.Move.{all_dirs, is_dir, is_open, legal_ahead, may_cut, opposite, cell_after}
 use Rattle.grid_moves.specs.Ring.{ring_by, is_free_on, is_shut, leads_on}
 use Rattle.grid_moves.proofs.Besides.{free_on_ring_by}
 use Rattle.grid_moves.proofs.Legal.{legal_is, by_cut}
@@ -29,7 +29,7 @@ use Rattle.pruning.proofs.Moves.{can_move-straight}
 use Rattle.pruning.proofs.Bridging.{place_of, free_place, open_there, leads_there, legal_leads}
 use Rattle.pruning.proofs.Running.{run_walked}
 use Rattle.plus_tables.specs.Tables.{TablesData, AreTablesOf, entry_at, is_on}
-use Rattle.plus_tables.specs.Reading.{is_move, cell_after, asks_behind, free_past, free_read, read_rule}
+use Rattle.plus_tables.specs.Reading.{is_move, asks_behind, free_past, free_read, read_rule}
 use Rattle.plus_tables.specs.Reading.{allowed_by, IsBeforeOn}
 use Rattle.plus_tables.proofs.Clear.{is_move-is}
 use Rattle.plus_tables.proofs.Refreshing.{on_map}
@@ -73,7 +73,7 @@ read_rule_kept : (r : Corner) (blocked : Dir → Bool) (by : Arrival) (e : Dir)
     → is_kept (read_rule r) blocked by e ≡ is_kept r blocked by e
 read_rule_kept r blocked by e = grind (arith, nat_tests)
 
--- under `one` all is told as under `both`
+-- under `one` all is allowed as under `both`
 pub allowed_cut : (r : Corner) (entry : Cell → Dir → ℤ) (at : Cell) (by : Arrival) → may_cut r ≡ true
     → allowed_by r entry at by ≡ allowed_by Both entry at by
 allowed_cut r entry at by h = grind (arith, nat_tests)
@@ -100,14 +100,14 @@ module _ (t : TablesData) (g : GridData) (right : AreTablesOf t g) where
       → not (is_move (entry_at t c d)) ≡ is_blocked g c d
   blocked_read c d f h = ap (λ (b : Bool). not b) (legal_read c d f ∙ can_move-straight g c d f h)
 
-  -- where they count as free by the moves to them, straight cells are told right
+  -- where they count as free by the moves to them, straight cells are read right
   straight_open : (at : Cell) → is_free g at ≡ true → (free : Dir → Bool)
       → ((e : Dir) → is_diagonal e ≡ false → free e ≡ can_move g at e) → (e : Dir) → is_diagonal e ≡ false
       → is_free_on (ring_by free) e ≡ is_open g at e
   straight_open at f free straight e p = free_on_ring_by free e ∙ straight e p ∙ can_move-straight g at e f p
 
   -- where cells count as free by the moves to them, but for those behind that are not kept, and walls are
-  -- told right, what is allowed is told right
+  -- read right, what is allowed is read right
   module _ (at : Cell) (f : is_free g at ≡ true) (by : Arrival) (free : Dir → Bool)
       (straight : (e : Dir) → is_diagonal e ≡ false → free e ≡ can_move g at e)
       (moves : (e : Dir) → is_kept g.corner (is_blocked g at) by e ≡ true → free e ≡ can_move g at e)

@@ -6,7 +6,7 @@ use Rattle.grid_moves.specs.declared.Corner.{Corner}
 use Rattle.grid_moves.specs.declared.Corner.TheVariants.{Never, Both}
 use Rattle.grid_moves.specs.declared.Dir.{Dir}
 use Rattle.grid_moves.specs.declared.Dir.TheVariants.{N, NE, E, SE, S, SW, W, NW}
-use Rattle.grid_moves.specs.Move.{is_dir, opposite, all_dirs, may_cut}
+use Rattle.grid_moves.specs.Move.{is_dir, opposite, all_dirs, cell_after, may_cut}
 use Rattle.grid_moves.specs.Ring.{ring_by}
 use Rattle.pruning.specs.declared.Arrival.{Arrival}
 use Rattle.pruning.specs.declared.Arrival.TheVariants.{Start, By}
@@ -55,30 +55,6 @@ rows_to S from to = to - from
 rows_to SW from to = to - from
 rows_to W from to = 0
 rows_to NW from to = from - to
-
--- the column and the row after so many moves
-abbrev pub column_after : Dir → ℕ → ℕ → ℕ
-column_after N k x = x
-column_after NE k x = x + k
-column_after E k x = x + k
-column_after SE k x = x + k
-column_after S k x = x
-column_after SW k x = x - k
-column_after W k x = x - k
-column_after NW k x = x - k
-
-abbrev pub row_after : Dir → ℕ → ℕ → ℕ
-row_after N k y = y - k
-row_after NE k y = y - k
-row_after E k y = y
-row_after SE k y = y + k
-row_after S k y = y + k
-row_after SW k y = y + k
-row_after W k y = y
-row_after NW k y = y - k
-
-abbrev pub cell_after : Dir → ℕ → Cell → Cell
-cell_after d k c = record { x = column_after d k c.x; y = row_after d k c.y }
 
 -- the component of a diagonal that leads along a row, and the one that leads along a column
 abbrev pub row_part : Dir → Dir
@@ -165,7 +141,7 @@ free_read corner entry at (By d) e =
     if asks_behind corner (By d) then free_past entry at d e else is_move (entry at e)
 
 -- A move that entries tell of is legal. So where a corner may be cut nothing more is asked of the cells
--- beside it, and what is allowed is told as under the rule that asks nothing of them.
+-- beside it, and what is allowed is read as under the rule that asks nothing of them.
 abbrev pub read_rule : Corner → Corner
 read_rule corner = if may_cut corner then Both else Never
 

@@ -90,9 +90,9 @@ pub record AreShort (ahead right left : ℤ) : Type 0 where
 
 -- the entry of one column is made from the rows of flags around it and by what is known of the next row:
 -- where a neighbour is forced, and the entries for d and for the directions beside it
-abbrev pub IsToldAs : Corner → List Bool → List Bool → List Bool → List Bool → List ℤ → List ℤ → List ℤ → Dir
+abbrev pub IsEntryAs : Corner → List Bool → List Bool → List Bool → List Bool → List ℤ → List ℤ → List ℤ → Dir
     → ℕ → ℤ → Type 0
-IsToldAs corner above here below forced ahead right left d x entry =
+IsEntryAs corner above here below forced ahead right left d x entry =
     (legal_by corner above here below d x ≡ true → AreShort (number ahead (place_after d x))
     (number right (place_after d x)) (number left (place_after d x)))
     → entry ≡ entry_from (legal_by corner above here below d x)
@@ -104,7 +104,7 @@ abbrev pub AreEntriesBelow : Corner → List Bool → List Bool → List Bool �
     → List ℤ → Dir
     → List ℤ → ℕ → Type 0
 AreEntriesBelow corner above here below forced ahead right left d out n =
-    (x : ℕ) → x < n → IsToldAs corner above here below forced ahead right left d x (number out (x + 1))
+    (x : ℕ) → x < n → IsEntryAs corner above here below forced ahead right left d x (number out (x + 1))
 
 -- the direction leads along a row
 abbrev pub is_along : Dir → Bool

@@ -15,7 +15,7 @@ ghost use Rattle.plus_tables.specs.Sweep as sweeps;
 
 use crate::flags::read_row;
 use crate::heading::{Heading, behind, nth_row};
-use crate::lines::{Rows, bring_along, tell};
+use crate::lines::{Rows, bring_along, make_all_ahead};
 use crate::tables::Tables;
 use grid_moves::{Cell, NoMemory, Terrain};
 use std::alloc::Global;
@@ -62,7 +62,7 @@ fn sweep_row<T: Terrain>(t: &T, heading: Heading, y: u16, rows: &mut Rows, row: 
     // (read for its bound, as a height is a `u16`)
     let _low = t.height();
     read_row(t, behind(heading, y), &mut rows.band.back);
-    tell(t, &rows.band, &rows.last, &mut rows.forced, &mut rows.this);
+    make_all_ahead(t, &rows.band, &rows.last, &mut rows.forced, &mut rows.this);
     bring_along(
         t,
         heading,

@@ -6,6 +6,7 @@
 //! leads on to the goal. So only a jump that leads to where the goal lies asks for it.
 
 ghost use Rattle.std.specs.Prelude.{◌≡◌, ◌+◌, ◌<◌, ◌≤◌, false, true, min, Some, if◌then◌else◌};
+ghost use Rattle.grid_moves.specs.Move.{cell_after, column_after, row_after};
 ghost use Rattle.jump_plain.specs.Reach as reach;
 ghost use Rattle.plus_tables.specs.Reading as spec;
 ghost use Rattle.plus_tables.specs.Tables.{entry_at, is_on};
@@ -68,8 +69,8 @@ fn rows_to(d: Dir, from: u16, to: u16) -> u16
 // The column after so many moves.
 #[inline(always)]
 fn column_after(d: Dir, moves: u16, x: u16) -> u16
-    requires { spec.column_after d moves x < 65536 }
-    ensures is { result ≡ spec.column_after d moves x }
+    requires { column_after d moves x < 65536 }
+    ensures is { result ≡ column_after d moves x }
 {
     match d {
         Dir::NE | Dir::E | Dir::SE => x + moves,
@@ -81,8 +82,8 @@ fn column_after(d: Dir, moves: u16, x: u16) -> u16
 // The row after so many moves.
 #[inline(always)]
 fn row_after(d: Dir, moves: u16, y: u16) -> u16
-    requires { spec.row_after d moves y < 65536 }
-    ensures is { result ≡ spec.row_after d moves y }
+    requires { row_after d moves y < 65536 }
+    ensures is { result ≡ row_after d moves y }
 {
     match d {
         Dir::SE | Dir::S | Dir::SW => y + moves,
@@ -94,9 +95,9 @@ fn row_after(d: Dir, moves: u16, y: u16) -> u16
 /// The cell after so many moves.
 #[inline(always)]
 pub fn cell_after(d: Dir, moves: u16, c: Cell) -> Cell
-    requires columns { spec.column_after d moves c.x < 65536 }
-    requires rows { spec.row_after d moves c.y < 65536 }
-    ensures is { result ≡ spec.cell_after d moves c }
+    requires columns { column_after d moves c.x < 65536 }
+    requires rows { row_after d moves c.y < 65536 }
+    ensures is { result ≡ cell_after d moves c }
 {
     Cell {
         x: column_after(d, moves, c.x),

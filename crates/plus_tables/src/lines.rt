@@ -248,7 +248,7 @@ impl Rows {
 // the entries for that direction and for those beside it.
 #[inline(always)]
 #[tactic(auto, using(crate::proofs::Fitting::long_as))]
-fn tell_ahead<T: Terrain>(
+fn make_ahead<T: Terrain>(
     t: &T,
     band: &Band,
     last: &Line,
@@ -283,7 +283,7 @@ fn tell_ahead<T: Terrain>(
 
 // The entries of a row for E or W.
 #[tactic(auto, using(crate::proofs::Fitting::bordered))]
-fn tell_one_along<T: Terrain>(t: &T, rows: Three, d: Dir, forced: &mut [bool], out: &mut [i16])
+fn make_one_along<T: Terrain>(t: &T, rows: Three, d: Dir, forced: &mut [bool], out: &mut [i16])
     requires whole { IsGrid (T.grid t.now) }
     requires along { spec.is_along d ≡ true }
     requires forced { length forced.old ≡ (T.grid t.now).width + 2 }
@@ -348,8 +348,8 @@ pub fn bring_along<T: Terrain>(
                 here: &band.here,
                 behind: &band.back,
             };
-            tell_one_along(t, rows, Dir::E, forced, east);
-            tell_one_along(t, rows, Dir::W, forced, west);
+            make_one_along(t, rows, Dir::E, forced, east);
+            make_one_along(t, rows, Dir::W, forced, west);
         }
         Heading::Downwards => take_along(row, east, west),
     }
@@ -361,7 +361,13 @@ pub fn bring_along<T: Terrain>(
 /// stay. No move and no forced neighbour is another one so.
 #[inline(never)]
 #[tactic(auto, using(crate::proofs::Lining::row_set, crate::proofs::Lining::row_long))]
-pub fn tell<T: Terrain>(t: &T, band: &Band, last: &Line, forced: &mut [bool], this: &mut Line)
+pub fn make_all_ahead<T: Terrain>(
+    t: &T,
+    band: &Band,
+    last: &Line,
+    forced: &mut [bool],
+    this: &mut Line,
+)
     requires whole { IsGrid (T.grid t.now) }
     requires ready { (h : Heading) × (y : ℕ) × lines.IsReady (T.grid t.now) h y band.now last.now
         × spec.AreRowsSeen (T.grid t.now) h y band.now.next.items band.now.here.items band.now.back.items }
@@ -372,7 +378,7 @@ pub fn tell<T: Terrain>(t: &T, band: &Band, last: &Line, forced: &mut [bool], th
         → lines.AreAhead (T.grid t.now) h y this.new }
     ensures long { lines.IsLong (T.grid t.now) this.new }
 {
-    tell_ahead(t, band, last, Dir::N, forced, &mut this.ahead);
-    tell_ahead(t, band, last, Dir::NE, forced, &mut this.ahead_east);
-    tell_ahead(t, band, last, Dir::NW, forced, &mut this.ahead_west);
+    make_ahead(t, band, last, Dir::N, forced, &mut this.ahead);
+    make_ahead(t, band, last, Dir::NE, forced, &mut this.ahead_east);
+    make_ahead(t, band, last, Dir::NW, forced, &mut this.ahead_west);
 }

@@ -3,7 +3,7 @@
 //! An entry is 0 exactly where no move is legal. So those at a cell tell which moves are legal, and which of
 //! the cells beside it are blocked, as a straight move is legal where its end is free. Where no corner is
 //! cut, the walls that count after a straight move stand behind the cell: the entries at the cell before tell
-//! them. Where one may be, whether a move passes between the cells beside it is told by its entry, so that
+//! them. Where one may be, whether a move passes between the cells beside it follows from its entry, so that
 //! one code serves each such rule.
 
 ghost use Rattle.std.specs.Prelude.{◌≡◌, ◌+◌, ◌<◌, Bool, false, true};
@@ -41,10 +41,10 @@ pub struct Sight {
 // behind, each beside the cell before.
 #[inline(always)]
 fn seen_past(at: Cell, d: Dir, e: Dir) -> Sight
-    requires column { spec.column_after (moves.opposite d) 1 at.x < 65536 }
-    requires row { spec.row_after (moves.opposite d) 1 at.y < 65536 }
+    requires column { moves.column_after (moves.opposite d) 1 at.x < 65536 }
+    requires row { moves.row_after (moves.opposite d) 1 at.y < 65536 }
     ensures is { result ≡ spec.seen_past at d e }
-    ensures on { (on : Cell → Bool) → on at ≡ true → on (spec.cell_after (moves.opposite d) 1 at) ≡ true
+    ensures on { (on : Cell → Bool) → on at ≡ true → on (moves.cell_after (moves.opposite d) 1 at) ≡ true
         → on result.from ≡ true }
 {
     let before = cell_after(opposite(d), 1, at);
@@ -67,7 +67,7 @@ fn seen_past(at: Cell, d: Dir, e: Dir) -> Sight
 #[inline(always)]
 fn is_free_past<L: Ledger>(tables: &Tables, at: Cell, d: Dir, e: Dir, steps: &mut Steps<L>) -> bool
     requires at { is_on tables.now at ≡ true }
-    requires before { is_on tables.now (spec.cell_after (moves.opposite d) 1 at) ≡ true }
+    requires before { is_on tables.now (moves.cell_after (moves.opposite d) 1 at) ≡ true }
     requires sides { AreSides tables.now.width tables.now.height }
     ensures is { result ≡ spec.free_past (entry_at tables.now) at d e }
     ensures step { steps.new ≡ steps.old + 1 }
@@ -82,7 +82,7 @@ fn is_free_past<L: Ledger>(tables: &Tables, at: Cell, d: Dir, e: Dir, steps: &mu
 fn allowed_past<L: Ledger>(tables: &Tables, at: Cell, d: Dir, steps: &mut Steps<L>) -> Packed
     requires straight { is_diagonal d ≡ false }
     requires at { is_on tables.now at ≡ true }
-    requires before { is_on tables.now (spec.cell_after (moves.opposite d) 1 at) ≡ true }
+    requires before { is_on tables.now (moves.cell_after (moves.opposite d) 1 at) ≡ true }
     requires sides { AreSides tables.now.width tables.now.height }
     ensures is { result ≡ spec.allowed_by Corner.Never (entry_at tables.now) at (Arrival.By d) }
     ensures steps { steps.new ≡ steps.old + 8 }
@@ -101,7 +101,7 @@ fn allowed_past<L: Ledger>(tables: &Tables, at: Cell, d: Dir, steps: &mut Steps<
 }
 
 // The allowed directions otherwise, in increasing order: each cell counts as free where the move to it is
-// legal. The rule is one by which they are told. Eight steps.
+// legal. The rule is one by which entries are read. Eight steps.
 #[inline(always)]
 #[tactic(auto, using(crate::proofs::Turning::free_read_here))]
 fn allowed_here<L: Ledger>(
@@ -136,7 +136,7 @@ fn allowed_here<L: Ledger>(
 fn allowed_ahead<L: Ledger>(tables: &Tables, at: Cell, d: Dir, steps: &mut Steps<L>) -> Packed
     requires straight { is_diagonal d ≡ false }
     requires at { is_on tables.now at ≡ true }
-    requires before { is_on tables.now (spec.cell_after (moves.opposite d) 1 at) ≡ true }
+    requires before { is_on tables.now (moves.cell_after (moves.opposite d) 1 at) ≡ true }
     requires sides { AreSides tables.now.width tables.now.height }
     ensures is { result ≡ spec.allowed_by tables.now.corner (entry_at tables.now) at (Arrival.By d) }
     ensures steps { steps.new ≡ steps.old + 8 }

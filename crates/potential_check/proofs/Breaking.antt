@@ -155,7 +155,7 @@ certificate_read text = record {
   broken = certificate_of_broken text;
 }
 
--- and an answer that tells it is told in the form of all readers
+-- and an answer that tells it does so in the form of all readers
 pub as_reading : (answer : Result Certificate CertFault) (read : Result Plain CertFault) → Tells answer read
     → reading.Tells NoMemory plain answer read
 as_reading (Ok c) read tells = tells

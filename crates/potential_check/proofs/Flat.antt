@@ -37,10 +37,6 @@ flat_passed cost from to result f g is none =
     ∙ ap (λ h. is_steep from cost h) (to_z-of_z w64 to g)) ∙ none
 
 -- none of eight
-pub neither : (a b : Bool) → (a || b) ≡ false → (a ≡ false) × (b ≡ false)
-neither true b e = absurd (cc)
-neither false b e = (refl, e)
-
 pub none_steep : (g : GridData) (u : Cell) (from : ℤ) (to : Dir → ℤ)
     → steep_move u from (to N) (legal_ahead g u N) ≡ None
     → steep_move u from (to NE) (legal_ahead g u NE) ≡ None

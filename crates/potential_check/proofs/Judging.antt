@@ -1,7 +1,7 @@
 -- The answers of a check, by the first clause that fails.
 use Rattle.std.proofs.lemmas.Grind.{common_steps}
 use Rattle.std.proofs.Common.{◌≡◌, ℕ, ◌<◌, ◌≤◌, arith, refl, ap, sym, ◌∙◌, subst, Bool, true, false, List}
-use Rattle.std.specs.Prelude.{Option, Some, None, Result, Ok, Err, IfOk, ◌^◌, length}
+use Rattle.std.specs.Prelude.{Option, Some, None, Result, Ok, Err, IfOk, IfErr, if◌then◌else◌, ◌^◌, length}
 use Rattle.std.proofs.lemmas.Bool.{and_parts, ltb-true, eqb-true}
 use Rattle.std.proofs.lemmas.Bool.Decides.{nat_tests}
 use Rattle.std.specs.List.{list_all}
@@ -14,127 +14,188 @@ use Rattle.potential_check.specs.declared.certificate.Certificate.{Certificate}
 use Rattle.potential_check.specs.declared.certificate.Claim.{Claim}
 use Rattle.potential_check.specs.declared.certificate.Claim.TheVariants.{Least, NoWalk}
 use Rattle.potential_check.specs.declared.verdict.Proof.{Proof}
-use Rattle.potential_check.specs.declared.verdict.Proof.TheVariants as proof
 use Rattle.potential_check.specs.declared.verdict.Reject.{Reject}
-use Rattle.potential_check.specs.declared.verdict.Reject.TheVariants.{Walk, Start, Goal, Move}
+use Rattle.potential_check.specs.declared.verdict.Reject.TheVariants.{Size, Ends, Walk, Start, Goal, Move}
 use Rattle.potential_check.specs.declared.verdict.Reject.TheVariants.{Open}
 use Rattle.potential_check.specs.Certificate.{are_listed, cells_of, is_claim, is_short}
 use Rattle.potential_check.specs.Certificate.{is_small}
 use Rattle.potential_check.specs.Potential.{is_listed, potential_of, rises}
 use Rattle.potential_check.specs.Moves.{first_failing}
-use Rattle.potential_check.specs.Accepted.{AcceptsClaim, AcceptsLeast, AcceptsNone, Holds, RefusesClaim}
-use Rattle.potential_check.specs.Accepted.{has_size, RefusesLeast, RefusesNone, claimed, ends_at_cost, leaves}
-use Rattle.potential_check.specs.Accepted.{starts_at_nothing}
-use Rattle.potential_check.specs.Judged.{JudgesClaim, JudgesWalk}
+use Rattle.potential_check.specs.Accepted.{AcceptsClaim, Holds, IsAccepted, Refuses, RefusesClaim, proof_of}
+use Rattle.potential_check.specs.Accepted.{ends_at_cost, has_free_ends, has_size, leaves, starts_at_nothing}
+use Rattle.potential_check.specs.Answers.{CertificatesAreAnswered, ClaimsAreAnswered, IsCertificateAnswer}
+use Rattle.potential_check.specs.Answers.{IsClaimAnswer, certificate_answer, claim_answer, least_answer}
+use Rattle.potential_check.specs.Answers.{none_answer}
+use Rattle.potential_check.specs.Text.{plain}
+use Rattle.potential_check.specs.Walks.{IsRightWalk}
 use Rattle.potential_check.specs.Rising.{climbs, height_of}
 use Rattle.potential_check.proofs.Feasible.{first_failing-same, kept_inside, none_cheaper, none_fails}
 use Rattle.potential_check.proofs.Feasible.{none_found}
 use Rattle.potential_check.proofs.Ranked.{climbs-leaves, climbs-rises, members, out_of_reach, rank_below}
 use Rattle.potential_check.proofs.Ranked.{ranked}
-
--- where a claim has one answer that every refusal and every acceptance leads to, it is judged by any of them
-module _ (g : GridData) (s t : Cell) (claim : Claim) (ruled : Result Proof Reject)
-    (only : (reject : Reject) → RefusesClaim g s t claim reject → ruled ≡ Err reject)
-    (accepted : AcceptsClaim g s t claim → ruled ≡ Ok (claimed claim)) where
-  refused : (reject : Reject) → RefusesClaim g s t claim reject → JudgesClaim g s t claim (Err reject)
-  refused reject h1 = grind (arith, common_steps)
-
-  allowed : AcceptsClaim g s t claim → JudgesClaim g s t claim (Ok (claimed claim))
-  allowed h1 = grind (arith, common_steps)
-
--- the answer for a claim of least cost, by the walk, the values of start and goal, and the first move that
--- fails
-abbrev least_answer : Cost → Option ℕ → Bool → Bool → Option (Cell × Cell) → Result Proof Reject
-least_answer cost (Some i) start goal found = Err (Walk i)
-least_answer cost None false goal found = Err Start
-least_answer cost None true false found = Err Goal
-least_answer cost None true true (Some m) = Err (Move m.0 m.1)
-least_answer cost None true true None = Ok (proof.Least cost)
+use Rattle.potential_check.proofs.Walks.{SaysOfWalk, fault, fault_bad, fault_right, fault_says}
 
 module _ (g : GridData) (s t : Cell) (cost : Cost) (points : List Cell) (values : List (Cell × Cost)) where
-  abbrev least : Claim
-  least = Least cost points values
+  abbrev Says : Result Proof Reject → Type 0
+  Says answer = IsClaimAnswer g s t (Least cost points values) answer
 
   abbrev fails : Cell → Cell → Bool
   fails = rises (potential_of cost t values)
 
-  module _ (bad : Option ℕ) (walk : JudgesWalk g s t cost points bad) where
-    abbrev ruled : Result Proof Reject
-    ruled = least_answer cost bad (starts_at_nothing s t cost values) (ends_at_cost t cost values)
-        (first_failing g fails)
+  -- a claim of least cost, by the clauses in turn
+  least_right : Says (claim_answer g s t (Least cost points values))
+  least_right = by_walk (fault g s t cost points) (fault_says g s t cost points)
+    where
+      by_move : IsRightWalk g s t cost points → starts_at_nothing s t cost values ≡ true
+          → ends_at_cost t cost values ≡ true → (o : Option (Cell × Cell)) → first_failing g fails ≡ o
+          → Says (least_answer cost None true true o)
+      by_move walk start goal None none =
+          (record { walk = walk; start = start; goal = goal; moves = none_found g fails none }, refl)
+      by_move walk start goal (Some (u, v)) found = (walk, start, goal, found)
 
-    only : (reject : Reject) → RefusesLeast g s t cost points values reject → ruled ≡ Err reject
-    only reject h1 = grind (arith, nat_tests)
+      by_goal : IsRightWalk g s t cost points → starts_at_nothing s t cost values ≡ true → (b : Bool)
+          → ends_at_cost t cost values ≡ b → Says (least_answer cost None true b (first_failing g fails))
+      by_goal walk start true goal = by_move walk start goal (first_failing g fails) refl
+      by_goal walk start false off = (walk, start, off)
 
-    accepted : AcceptsLeast g s t cost points values → ruled ≡ Ok (proof.Least cost)
-    accepted a = rw (walk.none a.walk, a.start, a.goal, none_fails g fails a.moves) refl
+      by_start : IsRightWalk g s t cost points → (b : Bool) → starts_at_nothing s t cost values ≡ b
+          → Says (least_answer cost None b (ends_at_cost t cost values) (first_failing g fails))
+      by_start walk true start = by_goal walk start (ends_at_cost t cost values) refl
+      by_start walk false off = (walk, off)
 
-  pub judged_walk : (i : ℕ) → JudgesWalk g s t cost points (Some i) → JudgesClaim g s t least (Err (Walk i))
-  judged_walk i walk =
-      refused g s t least (ruled (Some i) walk) (only (Some i) walk) (accepted (Some i) walk)
-      (Walk i) walk.wrong
+      by_walk : (o : Option ℕ) → SaysOfWalk g s t cost points o → Says (least_answer cost o
+          (starts_at_nothing s t cost values) (ends_at_cost t cost values) (first_failing g fails))
+      by_walk None walk = by_start walk (starts_at_nothing s t cost values) refl
+      by_walk (Some i) bad = bad
 
-  module _ (walk : JudgesWalk g s t cost points None) where
-    refused_so : (reject : Reject) → RefusesLeast g s t cost points values reject
-        → JudgesClaim g s t least (Err reject)
-    refused_so = refused g s t least (ruled None walk) (only None walk) (accepted None walk)
-
-    pub judged_start : starts_at_nothing s t cost values ≡ false → JudgesClaim g s t least (Err Start)
-    judged_start off = refused_so Start (walk.right, off)
-
-    module _ (start : starts_at_nothing s t cost values ≡ true) where
-      pub judged_goal : ends_at_cost t cost values ≡ false → JudgesClaim g s t least (Err Goal)
-      judged_goal off = refused_so Goal (walk.right, start, off)
-
-      module _ (goal : ends_at_cost t cost values ≡ true) where
-        pub judged_move : (u v : Cell) → first_failing g fails ≡ Some (u, v)
-            → JudgesClaim g s t least (Err (Move u v))
-        judged_move u v found = refused_so (Move u v) (walk.right, start, goal, found)
-
-        pub judged_least : first_failing g fails ≡ None → JudgesClaim g s t least (Ok (proof.Least cost))
-        judged_least h1 = grind (arith, common_steps, allowed, only, accepted, none_found)
-
--- the answer for a claim that no walk exists, by start and goal, and the first move that fails
-abbrev none_answer : Bool → Bool → Option (Cell × Cell) → Result Proof Reject
-none_answer false goal found = Err Start
-none_answer true true found = Err Goal
-none_answer true false (Some m) = Err (Open m.0 m.1)
-none_answer true false None = Ok proof.NoWalk
+  only_least : (answer : Result Proof Reject) → Says answer
+      → claim_answer g s t (Least cost points values) ≡ answer
+  only_least (Ok p) a = rw
+      (fault_right g s t cost points a.0.walk, a.0.start, a.0.goal, none_fails g fails a.0.moves, a.1) refl
+  only_least (Err (Walk i)) bad = rw (fault_bad g s t cost points i bad) refl
+  only_least (Err Start) r = rw (fault_right g s t cost points r.0, r.1) refl
+  only_least (Err Goal) r = rw (fault_right g s t cost points r.0, r.1, r.2) refl
+  only_least (Err (Move u v)) r = rw (fault_right g s t cost points r.0, r.1, r.2, r.3) refl
+  only_least (Err Size) r = absurd r
+  only_least (Err Ends) r = absurd r
+  only_least (Err (Open u v)) r = absurd r
 
 module _ (g : GridData) (s t : Cell) (cells : List Cell) where
-  abbrev none_ruled : Result Proof Reject
-  none_ruled = none_answer (is_listed cells s) (is_listed cells t) (first_failing g (leaves cells))
+  abbrev SaysNone : Result Proof Reject → Type 0
+  SaysNone answer = IsClaimAnswer g s t (NoWalk cells) answer
 
-  only_none : (reject : Reject) → RefusesNone g s t cells reject → none_ruled ≡ Err reject
-  only_none reject h1 = grind (arith, nat_tests)
+  -- a claim that no walk exists
+  none_right : SaysNone (claim_answer g s t (NoWalk cells))
+  none_right = by_start (is_listed cells s) refl
+    where
+      by_move : is_listed cells s ≡ true → is_listed cells t ≡ false → (o : Option (Cell × Cell))
+          → first_failing g (leaves cells) ≡ o → SaysNone (none_answer true false o)
+      by_move start goal None none =
+          (record { start = start; goal = goal; moves = none_found g (leaves cells) none }, refl)
+      by_move start goal (Some (u, v)) found = (start, goal, found)
 
-  accepted_none : AcceptsNone g s t cells → none_ruled ≡ Ok proof.NoWalk
-  accepted_none a = rw (a.start, a.goal, none_fails g (leaves cells) a.moves) refl
+      by_goal : is_listed cells s ≡ true → (b : Bool) → is_listed cells t ≡ b
+          → SaysNone (none_answer true b (first_failing g (leaves cells)))
+      by_goal start true off = (start, off)
+      by_goal start false goal = by_move start goal (first_failing g (leaves cells)) refl
 
-  none_refused : (reject : Reject) → RefusesNone g s t cells reject
-      → JudgesClaim g s t (NoWalk cells) (Err reject)
-  none_refused = refused g s t (NoWalk cells) none_ruled only_none accepted_none
+      by_start : (b : Bool) → is_listed cells s ≡ b
+          → SaysNone (none_answer b (is_listed cells t) (first_failing g (leaves cells)))
+      by_start true start = by_goal start (is_listed cells t) refl
+      by_start false off = off
 
-  pub judged_unlisted : is_listed cells s ≡ false → JudgesClaim g s t (NoWalk cells) (Err Start)
-  judged_unlisted off = none_refused Start off
+  only_none : (answer : Result Proof Reject) → SaysNone answer → claim_answer g s t (NoWalk cells) ≡ answer
+  only_none (Ok p) a = rw (a.0.start, a.0.goal, none_fails g (leaves cells) a.0.moves, a.1) refl
+  only_none (Err Start) off = rw off refl
+  only_none (Err Goal) r = rw (r.0, r.1) refl
+  only_none (Err (Open u v)) r = rw (r.0, r.1, r.2) refl
+  only_none (Err Size) r = absurd r
+  only_none (Err Ends) r = absurd r
+  only_none (Err (Walk i)) r = absurd r
+  only_none (Err (Move u v)) r = absurd r
 
-  module _ (start : is_listed cells s ≡ true) where
-    pub judged_listed : is_listed cells t ≡ true → JudgesClaim g s t (NoWalk cells) (Err Goal)
-    judged_listed off = none_refused Goal (start, off)
+claim_right : (g : GridData) (s t : Cell) (claim : Claim) → IsClaimAnswer g s t claim (claim_answer g s t claim)
+claim_right g s t (Least cost points values) = least_right g s t cost points values
+claim_right g s t (NoWalk cells) = none_right g s t cells
 
-    module _ (goal : is_listed cells t ≡ false) where
-      pub judged_open : (u v : Cell) → first_failing g (leaves cells) ≡ Some (u, v)
-          → JudgesClaim g s t (NoWalk cells) (Err (Open u v))
-      judged_open u v found = none_refused (Open u v) (start, goal, found)
+only_claim : (g : GridData) (s t : Cell) (claim : Claim) (answer : Result Proof Reject)
+    → IsClaimAnswer g s t claim answer → claim_answer g s t claim ≡ answer
+only_claim g s t (Least cost points values) = only_least g s t cost points values
+only_claim g s t (NoWalk cells) = only_none g s t cells
 
-      pub judged_none : first_failing g (leaves cells) ≡ None
-          → JudgesClaim g s t (NoWalk cells) (Ok proof.NoWalk)
-      judged_none none = allowed g s t (NoWalk cells) none_ruled only_none accepted_none
-          (record { start = start; goal = goal; moves = none_found g (leaves cells) none })
+pub claims_are_answered : ClaimsAreAnswered
+claims_are_answered g s t claim answer = (
+  only_claim g s t claim answer,
+  λ e. subst (λ (a : Result Proof Reject). IsClaimAnswer g s t claim a) e (claim_right g s t claim),
+)
+
+-- no claim is refused by its size or its ends
+not_size : (g : GridData) (s t : Cell) (claim : Claim) → RefusesClaim g s t claim Size → ⊥
+not_size g s t (Least cost points values) refuses = refuses
+not_size g s t (NoWalk cells) refuses = refuses
+
+not_ends : (g : GridData) (s t : Cell) (claim : Claim) → RefusesClaim g s t claim Ends → ⊥
+not_ends g s t (Least cost points values) refuses = refuses
+not_ends g s t (NoWalk cells) refuses = refuses
+
+module _ (g : GridData) (c : Certificate) where
+  -- a certificate of the grid's size with free ends is answered by its claim
+  by_claim : has_size g c ≡ true → has_free_ends g c ≡ true → (answer : Result Proof Reject)
+      → IsClaimAnswer g c.start c.goal c.claim answer → IsCertificateAnswer g c answer
+  by_claim size ends (Ok p) a = (record { size = size; ends = ends; claim = a.0 }, a.1)
+  by_claim size ends (Err Size) r = absurd (not_size g c.start c.goal c.claim r)
+  by_claim size ends (Err Ends) r = absurd (not_ends g c.start c.goal c.claim r)
+  by_claim size ends (Err (Walk i)) r = (size, ends, r)
+  by_claim size ends (Err Start) r = (size, ends, r)
+  by_claim size ends (Err Goal) r = (size, ends, r)
+  by_claim size ends (Err (Move u v)) r = (size, ends, r)
+  by_claim size ends (Err (Open u v)) r = (size, ends, r)
+
+  certificate_right : IsCertificateAnswer g c (certificate_answer g (plain c))
+  unfolding certificate_answer
+  certificate_right = by_size (has_size g c) refl
+    where
+      by_ends : has_size g c ≡ true → (b : Bool) → has_free_ends g c ≡ b
+          → IsCertificateAnswer g c (if b then claim_answer g c.start c.goal c.claim else Err Ends)
+      by_ends size true ends = by_claim size ends (claim_answer g c.start c.goal c.claim)
+          (claim_right g c.start c.goal c.claim)
+      by_ends size false off = (size, off)
+
+      by_size : (b : Bool) → has_size g c ≡ b → IsCertificateAnswer g c (if b
+          then (if has_free_ends g c then claim_answer g c.start c.goal c.claim else Err Ends) else Err Size)
+      by_size true size = by_ends size (has_free_ends g c) refl
+      by_size false off = off
+
+  pub by_clauses : has_size g c ≡ true → has_free_ends g c ≡ true
+      → certificate_answer g (plain c) ≡ claim_answer g c.start c.goal c.claim
+  unfolding certificate_answer
+  by_clauses size ends = rw (size, ends) refl
+
+  only_certificate : (answer : Result Proof Reject) → IsCertificateAnswer g c answer
+      → certificate_answer g (plain c) ≡ answer
+  unfolding certificate_answer
+  only_certificate (Ok p) a =
+      by_clauses a.0.size a.0.ends ∙ only_claim g c.start c.goal c.claim (Ok p) (a.0.claim, a.1)
+  only_certificate (Err Size) off = rw off refl
+  only_certificate (Err Ends) r = rw (r.0, r.1) refl
+  only_certificate (Err (Walk i)) r =
+      by_clauses r.0 r.1 ∙ only_claim g c.start c.goal c.claim (Err (Walk i)) r.2
+  only_certificate (Err Start) r = by_clauses r.0 r.1 ∙ only_claim g c.start c.goal c.claim (Err Start) r.2
+  only_certificate (Err Goal) r = by_clauses r.0 r.1 ∙ only_claim g c.start c.goal c.claim (Err Goal) r.2
+  only_certificate (Err (Move u v)) r =
+      by_clauses r.0 r.1 ∙ only_claim g c.start c.goal c.claim (Err (Move u v)) r.2
+  only_certificate (Err (Open u v)) r =
+      by_clauses r.0 r.1 ∙ only_claim g c.start c.goal c.claim (Err (Open u v)) r.2
+
+pub certificates_are_answered : CertificatesAreAnswered
+certificates_are_answered g c answer = (
+  only_certificate g c answer,
+  λ e. subst (λ (a : Result Proof Reject). IsCertificateAnswer g c a) e (certificate_right g c),
+)
 
 -- between free cells an accepted claim holds of all walks
 pub claim_holds : (g : GridData) (s t : Cell) (claim : Claim) → AcceptsClaim g s t claim
-    → Holds g s t (claimed claim)
+    → Holds g s t (proof_of claim)
 claim_holds g s t (Least cost points values) a = record {
   cells = a.walk.cells;
   walk = a.walk.walk;
@@ -146,12 +207,21 @@ claim_holds g s t (NoWalk cells) a = λ others walk.
     let goal : is_listed cells (last_of s others) ≡ false = ap (is_listed cells) walk.ends ∙ a.goal in
     cc
 
--- and so does what an answer says
-pub answer_holds : (g : GridData) (s t : Cell) (claim : Claim) (answer : Result Proof Reject)
-    → JudgesClaim g s t claim answer → IfOk answer (λ p. Holds g s t p)
-answer_holds g s t claim (Ok p) judged =
-    subst (λ (q : Proof). Holds g s t q) (sym judged.proof) (claim_holds g s t claim judged.ok)
-answer_holds g s t claim (Err reject) judged = tt
+-- and so does what an answer says, which accepts the certificate or refuses it
+pub record Tells (g : GridData) (c : Certificate) (answer : Result Proof Reject) : Type 0 where
+  pub holds : IfOk answer (Holds g c.start c.goal)
+  pub ok : IfOk answer (λ proof. IsAccepted g c)
+  pub err : IfErr answer (Refuses g c)
+
+pub answer_tells : (g : GridData) (c : Certificate) (answer : Result Proof Reject)
+    → IsCertificateAnswer g c answer → Tells g c answer
+answer_tells g c (Ok p) a = record {
+  holds = subst (λ (q : Proof). Holds g c.start c.goal q) (sym a.1)
+      (claim_holds g c.start c.goal c.claim a.0.claim);
+  ok = a.0;
+  err = tt;
+}
+answer_tells g c (Err why) r = record { holds = tt; ok = tt; err = r }
 
 -- the first climbing move is the first one that raises the potential by more than its cost
 pub raise_is : (g : GridData) (cost : Cost) (t : Cell) (given values : List (Cell × Cost)) → IsGrid g
@@ -197,8 +267,3 @@ least_parts width height cost points values h1 = grind (arith, common_steps, and
 pub claim_fits : (g : GridData) (c : Certificate) → has_size g c ≡ true
     → is_claim g.width g.height c.claim ≡ true
 claim_fits g c h1 = grind (arith, nat_tests, and_parts, eqb-true)
-
--- an answer that names no point
-pub right_walk : (g : GridData) (s t : Cell) (cost : Cost) (points : List Cell) (bad : Option ℕ) → bad ≡ None
-    → JudgesWalk g s t cost points bad → JudgesWalk g s t cost points None
-right_walk g s t cost points bad e judged = subst (λ (o : Option ℕ). JudgesWalk g s t cost points o) e judged

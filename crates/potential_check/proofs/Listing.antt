@@ -62,7 +62,7 @@ module _ {E : Type 0} (form : List ℕ → Option E) (cell : E → Cell) (head :
         ap (λ (s : Step). step_fault s number) (read_as (Some e) is)
         ∙ places (make (cell_number head.width (cell e) + 1) (items ++ e ∷ []))
 
--- a fault that is read is told
+-- a fault that is read is the answer
 pub err_tells : (fault : CertFault) (read : Result Plain CertFault) → read ≡ Err fault
     → Tells (Err fault) read
 err_tells (Line line) read e = e

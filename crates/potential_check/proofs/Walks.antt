@@ -2,27 +2,27 @@
 use Rattle.std.proofs.lemmas.Grind.{common_steps}
 use Rattle.std.proofs.Common.{◌≡◌, ℕ, suc, ◌-◌, arith, refl, ap, sym, ◌∙◌, Bool, true, false, List, [], ◌∷◌}
 use Rattle.std.proofs.Common.{◌++◌, length, subst}
-use Rattle.std.specs.Prelude.{Option, Some, None, Result, Ok, Err, IfOk, IfErr, option_map}
+use Rattle.std.specs.Prelude.{Option, Some, None, Result, Ok, Err, option_map}
 use Rattle.std.specs.Prelude.{slice_get, if◌then◌else◌}
 use Rattle.std.proofs.lemmas.Bool.Decides.{nat_tests}
 use Rattle.root2_cost.specs.declared.Cost.{Cost}
-use Rattle.root2_cost.specs.Sums.{no_cost}
-use Rattle.root2_cost.proofs.Less.{same_cost}
+use Rattle.root2_cost.proofs.Less.{is_same_cost-of, is_same_cost-tells}
+use Rattle.root2_cost.specs.Sums.{is_same_cost}
 use Rattle.grid_moves.specs.declared.Cell.{Cell}
-use Rattle.grid_moves.specs.Grid.{GridData, is_free}
+use Rattle.grid_moves.specs.Grid.{GridData}
 use Rattle.grid_moves.specs.Move.{is_same}
 use Rattle.grid_moves.specs.Points.{are_lined, unfolded_from, unfolding_of}
 use Rattle.grid_moves.specs.Walk.{is_walk, cost_of, last_of}
 use Rattle.grid_moves.proofs.Legal.{is_same-cell, is_same-itself}
 use Rattle.grid_moves.proofs.Walks.{last-joined}
 use Rattle.path_points.specs.declared.checking.BadAt.{BadAt}
-use Rattle.path_points.specs.Checked.{IsShortWalk, run}
+use Rattle.path_points.specs.Checked.{IsPointsAnswer, IsShortWalk, bad_at, points_answer, run}
 use Rattle.path_points.proofs.Joined.{run_ends}
-use Rattle.path_points.proofs.Checks.{IsVerdict, checked_from, verdict_at_start, verdict_from}
-use Rattle.potential_check.specs.Accepted.{IsBadWalk, bad_point, is_cost, other}
-use Rattle.potential_check.specs.Walks.{IsBadPoint, IsRightWalk, begins_at, broken, elsewhere, ends_at, is_at}
-use Rattle.potential_check.specs.Walks.{short_of}
-use Rattle.potential_check.specs.Judged.{JudgesWalk}
+use Rattle.path_points.proofs.Checks.{points_are_answered}
+use Rattle.potential_check.specs.Accepted.{IsBadWalk, bad_point, other}
+use Rattle.potential_check.specs.Answers.{bad_number}
+use Rattle.potential_check.specs.Walks.{IsBadPoint, IsRightWalk, IsWalkAnswer, WalksAreAnswered, begins_at}
+use Rattle.potential_check.specs.Walks.{broken, elsewhere, ended_answer, ends_at, is_at, short_of, walk_answer}
 
 unfolded_some : (b : Bool) (f : List Cell → List Cell) (o : Option (List Cell)) (cells : List Cell)
     → (if b then option_map f o else None) ≡ Some cells → (more : List Cell) × (o ≡ Some more) × (f more
@@ -78,31 +78,6 @@ begun (p ∷ points) cells s h b = by_option (unfolded_from p points) h
         → (more : List Cell) × (option_map (λ more. p ∷ more) o ≡ Some (s ∷ more)) × (cells ≡ s ∷ more)
     by_option o h1 = grind (arith, nat_tests, first)
 
-pub is_cost-same : (p q : Cost) → is_cost p q ≡ true → p ≡ q
-is_cost-same p q h = same_cost p q (grind (arith, nat_tests)) (grind (arith, nat_tests))
-
-pub is_cost-itself : (p : Cost) → is_cost p p ≡ true
-is_cost-itself p = grind (arith, nat_tests)
-
--- points stand for a walk, or have a first bad one
-has_verdict : (g : GridData) (points : List Cell) → (answer : Result Cost BadAt) × IsVerdict g points answer
-has_verdict g [] = (Err (record { 0 = 0 }), verdict_at_start g [] refl)
-has_verdict g (u ∷ points) = by_free (is_free g u) refl
-  where
-    by_free : (b : Bool) → is_free g u ≡ b → (answer : Result Cost BadAt) × IsVerdict g (u ∷ points) answer
-    by_free true free = (
-      checked_from g 0 u points no_cost,
-      verdict_from g u points free (checked_from g 0 u points no_cost) refl,
-    )
-    by_free false blocked = (Err (record { 0 = 0 }), verdict_at_start g (u ∷ points) blocked)
-
--- what is answered of points that are to stand for a walk from s to t
-pub record IsJudged (g : GridData) (s t : Cell) (points : List Cell) (answer : Result Cost ℕ) : Type 0 where
-  pub walk : IfOk answer (λ paid. IsRightWalk g s t paid points)
-  pub ok : (paid : Cost) → IsRightWalk g s t paid points → answer ≡ Ok paid
-  pub bad : IfErr answer (IsBadPoint g s t points)
-  pub err : (i : ℕ) → IsBadPoint g s t points i → answer ≡ Err i
-
 module _ (g : GridData) (s t : Cell) (points : List Cell) where
   -- a right walk is a short one
   right_short : (cost : Cost) → IsRightWalk g s t cost points → IsShortWalk g points cost
@@ -132,97 +107,74 @@ module _ (g : GridData) (s t : Cell) (points : List Cell) where
         priced = ap cost_of (sym cells.2) ∙ w.priced;
       }
 
-  -- the answer by the first point, by what the points stand for, and by the last point
-  abbrev ruled : Bool → Result Cost BadAt → Bool → Result Cost ℕ
-  ruled false answer ends = Err 0
-  ruled true (Err bad) ends = Err bad.0
-  ruled true (Ok paid) false = Err (length points)
-  ruled true (Ok paid) true = Ok paid
-
-  module _ (answer : Result Cost BadAt) (tells : IsVerdict g points answer) where
-    only_right : (paid : Cost) → IsRightWalk g s t paid points
-        → ruled (begins_at s points) answer (ends_at t points) ≡ Ok paid
-    only_right paid r = rw (right_begins paid r, tells.ok paid (right_short paid r), right_ends paid r) refl
-
-    only_bad : (i : ℕ) → IsBadPoint g s t points i
-        → ruled (begins_at s points) answer (ends_at t points) ≡ Err i
-    only_bad i (elsewhere off) = rw off refl
-    only_bad i (broken begins first) = rw (begins, tells.err i first) refl
-    only_bad i (short_of paid begins w off) = rw (begins, tells.ok paid w, off) refl
-
-  pub judged : (begins : Bool) → begins_at s points ≡ begins → (answer : Result Cost BadAt)
-      → IsVerdict g points answer → (ends : Bool) → ends_at t points ≡ ends
-      → IsJudged g s t points (ruled begins answer ends)
-  judged begins b answer tells ends e = record {
-    walk = right begins b answer tells ends e;
-    ok = λ paid r. rw (b, e) at (only_right answer tells paid r);
-    bad = wrong begins b answer tells ends e;
-    err = λ i bad. rw (b, e) at (only_bad answer tells i bad);
-  }
+  -- so the answer is right, by the first point, by what the points come to, and by the last point
+  is_right : IsWalkAnswer g s t points (walk_answer g s t points)
+  is_right = by_begins (begins_at s points) refl
     where
-      right : (begins : Bool) → begins_at s points ≡ begins → (answer : Result Cost BadAt)
-          → IsVerdict g points answer → (ends : Bool) → ends_at t points ≡ ends
-          → IfOk (ruled begins answer ends) (λ paid. IsRightWalk g s t paid points)
-      right false b answer tells ends e = tt
-      right true b (Err bad) tells ends e = tt
-      right true b (Ok paid) tells false e = tt
-      right true b (Ok paid) tells true e = short_right paid tells.walk b e
+      by_ends : begins_at s points ≡ true → (paid : Cost) → IsShortWalk g points paid → (b : Bool)
+          → ends_at t points ≡ b → IsWalkAnswer g s t points (ended_answer (Ok paid) (length points) b)
+      by_ends begins paid w true ends = short_right paid w begins ends
+      by_ends begins paid w false off = short_of paid begins w off
 
-      wrong : (begins : Bool) → begins_at s points ≡ begins → (answer : Result Cost BadAt)
-          → IsVerdict g points answer → (ends : Bool) → ends_at t points ≡ ends
-          → IfErr (ruled begins answer ends) (IsBadPoint g s t points)
-      wrong false b answer tells ends e = elsewhere b
-      wrong true b (Err bad) tells ends e = broken b tells.bad
-      wrong true b (Ok paid) tells false e = short_of paid b tells.walk e
-      wrong true b (Ok paid) tells true e = tt
+      by_points : begins_at s points ≡ true → (answer : Result Cost BadAt) → IsPointsAnswer g points answer
+          → IsWalkAnswer g s t points (ended_answer answer (length points) (ends_at t points))
+      by_points begins (Ok paid) w = by_ends begins paid w (ends_at t points) refl
+      by_points begins (Err bad) first = broken begins first
 
-  -- where the first point is not the start
-  pub judged_elsewhere : begins_at s points ≡ false → IsJudged g s t points (Err 0)
-  judged_elsewhere off = let v = has_verdict g points in judged false off v.0 v.1 (ends_at t points) refl
+      by_begins : (b : Bool) → begins_at s points ≡ b → IsWalkAnswer g s t points (if b
+          then ended_answer (points_answer g points) (length points) (ends_at t points) else Err 0)
+      by_begins true begins = by_points begins (points_answer g points)
+          ((points_are_answered g points (points_answer g points)).1 refl)
+      by_begins false off = elsewhere off
 
-  -- points stand for a right walk, or are bad
-  pub has_answer : (answer : Result Cost ℕ) × IsJudged g s t points answer
-  has_answer =
-      let v = has_verdict g points in (
-        ruled (begins_at s points) v.0 (ends_at t points),
-        judged (begins_at s points) refl v.0 v.1 (ends_at t points) refl,
-      )
+  only_bad : (i : ℕ) → IsBadPoint g s t points i → walk_answer g s t points ≡ Err i
+  only_bad i (elsewhere off) = rw off refl
+  only_bad i (broken begins first) =
+      rw (begins, (points_are_answered g points (bad_at i)).0 first) refl
+  only_bad i (short_of paid begins w off) =
+      rw (begins, (points_are_answered g points (Ok paid)).0 w, off) refl
 
-  -- the number that tells that they stand for none of a cost, by whether they stand for one that is the same
-  abbrev pub number : Bool → Result Cost ℕ → Option ℕ
-  number same (Err i) = Some i
-  number true (Ok paid) = None
-  number false (Ok paid) = Some (length points)
+  -- and no other is
+  only_right : (answer : Result Cost ℕ) → IsWalkAnswer g s t points answer
+      → walk_answer g s t points ≡ answer
+  only_right (Ok paid) r = rw
+      (right_begins paid r, (points_are_answered g points (Ok paid)).0 (right_short paid r), right_ends paid r)
+      refl
+  only_right (Err i) bad = only_bad i bad
 
-  pub judges : (cost : Cost) (answer : Result Cost ℕ) → IsJudged g s t points answer → (same : Bool)
-      → IfOk answer (λ paid. is_cost paid cost ≡ same) → JudgesWalk g s t cost points (number same answer)
-  judges cost (Err i) tells same e = record {
-    right = tt;
-    none = λ r. absurd (let other = tells.ok cost r in cc);
-    wrong = bad_point tells.bad;
-    some = some;
-  }
+pub walks_are_answered : WalksAreAnswered
+walks_are_answered g s t points answer = (
+  only_right g s t points answer,
+  λ e. subst (λ (a : Result Cost ℕ). IsWalkAnswer g s t points a) e (is_right g s t points),
+)
+
+-- the number that tells that points are no right walk of a cost
+module _ (g : GridData) (s t : Cell) (cost : Cost) (points : List Cell) where
+  abbrev pub fault : Option ℕ
+  fault = bad_number cost (length points) (walk_answer g s t points)
+
+  pub fault_right : IsRightWalk g s t cost points → fault ≡ None
+  fault_right right = rw ((walks_are_answered g s t points (Ok cost)).0 right, is_same_cost-of cost cost refl) refl
+
+  pub fault_bad : (i : ℕ) → IsBadWalk g s t cost points i → fault ≡ Some i
+  fault_bad i (bad_point bad) = rw ((walks_are_answered g s t points (Err i)).0 bad) refl
+  fault_bad i (other paid right off) = rw ((walks_are_answered g s t points (Ok paid)).0 right, off) refl
+
+  abbrev pub SaysOfWalk : Option ℕ → Type 0
+  SaysOfWalk None = IsRightWalk g s t cost points
+  SaysOfWalk (Some i) = IsBadWalk g s t cost points i
+
+  pub fault_says : SaysOfWalk fault
+  fault_says = by_answer (walk_answer g s t points)
+      ((walks_are_answered g s t points (walk_answer g s t points)).1 refl)
     where
-      some : (k : ℕ) → IsBadWalk g s t cost points k → Some i ≡ Some k
-      some k (bad_point b) = let one = tells.err k b in cc
-      some k (other paid r off) = absurd (let right = tells.ok paid r in cc)
-  judges cost (Ok paid) tells true e = record {
-    right = subst (λ (c : Cost). IsRightWalk g s t c points) (is_cost-same paid cost e) tells.walk;
-    none = λ r. refl;
-    wrong = tt;
-    some = some;
-  }
-    where
-      some : (k : ℕ) → IsBadWalk g s t cost points k → None ≡ Some k
-      some k (bad_point b) = absurd (let one = tells.err k b in cc)
-      some k (other cheaper r off) = absurd (let one = tells.ok cheaper r in cc)
-  judges cost (Ok paid) tells false e = record {
-    right = tt;
-    none = λ r. absurd (let one = tells.ok cost r in let same = is_cost-itself cost in cc);
-    wrong = other paid tells.walk e;
-    some = some;
-  }
-    where
-      some : (k : ℕ) → IsBadWalk g s t cost points k → Some (length points) ≡ Some k
-      some k (bad_point b) = absurd (let one = tells.err k b in cc)
-      some k (other cheaper r off) = refl
+      by_cost : (paid : Cost) → IsRightWalk g s t paid points → (b : Bool) → is_same_cost paid cost ≡ b
+          → SaysOfWalk (if b then None else Some (length points))
+      by_cost paid right true same =
+          subst (λ (c : Cost). IsRightWalk g s t c points) (is_same_cost-tells paid cost same) right
+      by_cost paid right false off = other paid right off
+
+      by_answer : (answer : Result Cost ℕ) → IsWalkAnswer g s t points answer
+          → SaysOfWalk (bad_number cost (length points) answer)
+      by_answer (Ok paid) right = by_cost paid right (is_same_cost paid cost) refl
+      by_answer (Err i) bad = bad_point bad

@@ -4,7 +4,7 @@ use Rattle.std.specs.Ordering.{int_eq}
 use Rattle.root2_cost.specs.declared.Cost.{Cost}
 use Rattle.root2_cost.specs.declared.Signed.{Signed}
 use Rattle.root2_cost.specs.Order.{IsAtMost}
-use Rattle.root2_cost.specs.Sums.{no_cost}
+use Rattle.root2_cost.specs.Sums.{is_same_cost, no_cost}
 use Rattle.grid_moves.specs.declared.Cell.{Cell}
 use Rattle.grid_moves.specs.Grid.{GridData, is_free}
 use Rattle.grid_moves.specs.Walk.{IsWalk, cost_of}
@@ -29,10 +29,6 @@ has_size g c = nat_eq g.width c.width && nat_eq g.height c.height
 abbrev pub has_free_ends : GridData → Certificate → Bool
 has_free_ends g c = is_free g c.start && is_free g c.goal
 
--- the pairs are one
-abbrev pub is_cost : Cost → Cost → Bool
-is_cost p q = nat_eq p.a q.a && nat_eq p.b q.b
-
 -- the value is this cost
 abbrev pub is_value : Signed → Cost → Bool
 is_value s c = int_eq s.a (pos c.a) && int_eq s.b (pos c.b)
@@ -41,7 +37,7 @@ is_value s c = int_eq s.a (pos c.a) && int_eq s.b (pos c.b)
 -- cost, which their number tells
 pub data IsBadWalk (g : GridData) (s t : Cell) (cost : Cost) (points : List Cell) : ℕ → Type 0 where
   bad_point : {i : ℕ} → IsBadPoint g s t points i → IsBadWalk g s t cost points i
-  other : (paid : Cost) → IsRightWalk g s t paid points → is_cost paid cost ≡ false
+  other : (paid : Cost) → IsRightWalk g s t paid points → is_same_cost paid cost ≡ false
       → IsBadWalk g s t cost points (length points)
 
 -- the potential is nothing at the start
@@ -83,9 +79,9 @@ pub record IsAccepted (g : GridData) (c : Certificate) : Type 0 where
   pub claim : AcceptsClaim g c.start c.goal c.claim
 
 -- what it then proves
-abbrev pub claimed : Claim → Proof
-claimed (Least cost points values) = proof.Least cost
-claimed (NoWalk cells) = proof.NoWalk
+abbrev pub proof_of : Claim → Proof
+proof_of (Least cost points values) = proof.Least cost
+proof_of (NoWalk cells) = proof.NoWalk
 
 -- a claim of least cost is refused so: the clauses before hold, and this one fails
 abbrev pub RefusesLeast : GridData → Cell → Cell → Cost → List Cell → List (Cell × Cost) → Reject → Type 0

@@ -5,8 +5,8 @@ pub mod Walks
 pub mod Accepted
 pub mod Heights
 pub mod Rising
-pub mod Judged
 pub mod Forms
 pub mod Text
+pub mod Answers
 pub mod Spelling
 pub mod Worked

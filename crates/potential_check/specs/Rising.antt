@@ -1,4 +1,4 @@
--- Moves that rise by more than their cost, over heights of cells that are told by a list.
+-- Moves that rise by more than their cost, over heights of cells that a list gives.
 use Rattle.std.specs.Prelude.{◌≡◌, ℕ, ◌+◌, ◌*◌, ◌≤◌, Bool, true, IsTrue, Option, Some, None, if◌then◌else◌}
 use Rattle.std.specs.Prelude.{List, [], ◌∷◌, map, min, ℤ, pos, ◌+ℤ◌}
 use Rattle.std.specs.List.{list_all}

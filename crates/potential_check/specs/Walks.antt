@@ -1,13 +1,14 @@
 -- Points that stand for a walk between two cells, or for none.
 use Rattle.std.specs.Prelude.{◌≡◌, ℕ, ◌-◌, ◌≤◌, Bool, true, false, List, ◌∷◌, length, slice_get, Option, Some}
-use Rattle.std.specs.Prelude.{None}
+use Rattle.std.specs.Prelude.{None, Result, Ok, Err, if◌then◌else◌, ◌↔◌}
 use Rattle.root2_cost.specs.declared.Cost.{Cost}
 use Rattle.grid_moves.specs.declared.Cell.{Cell}
 use Rattle.grid_moves.specs.Grid.{GridData}
 use Rattle.grid_moves.specs.Move.{is_same}
 use Rattle.grid_moves.specs.Points.{unfolding_of}
 use Rattle.grid_moves.specs.Walk.{IsWalk, cost_of}
-use Rattle.path_points.specs.Checked.{IsFirstBad, IsShortWalk, most_steps}
+use Rattle.path_points.specs.declared.checking.BadAt.{BadAt}
+use Rattle.path_points.specs.Checked.{IsFirstBad, IsShortWalk, most_steps, points_answer}
 
 -- there is such a point, and it is this cell
 abbrev pub is_at : Cell → Option Cell → Bool
@@ -39,3 +40,25 @@ pub data IsBadPoint (g : GridData) (s t : Cell) (points : List Cell) : ℕ → T
   broken : {i : ℕ} → begins_at s points ≡ true → IsFirstBad g points i → IsBadPoint g s t points i
   short_of : (paid : Cost) → begins_at s points ≡ true → IsShortWalk g points paid → ends_at t points ≡ false
       → IsBadPoint g s t points (length points)
+
+-- an answer is right: the points stand for a walk from s to t of this cost, or for none, which the number tells
+abbrev pub IsWalkAnswer : GridData → Cell → Cell → List Cell → Result Cost ℕ → Type 0
+IsWalkAnswer g s t points (Ok cost) = IsRightWalk g s t cost points
+IsWalkAnswer g s t points (Err i) = IsBadPoint g s t points i
+
+-- what so many points come to that begin at the start, by whether they end at the goal
+abbrev pub ended_answer : Result Cost BadAt → ℕ → Bool → Result Cost ℕ
+ended_answer (Err bad) count ends = Err bad.0
+ended_answer (Ok cost) count true = Ok cost
+ended_answer (Ok cost) count false = Err count
+
+-- what points come to between s and t: the cost of the walk that they stand for, or the number that tells that
+-- they stand for none
+abbrev pub walk_answer : GridData → Cell → Cell → List Cell → Result Cost ℕ
+walk_answer g s t points = if begins_at s points
+    then ended_answer (points_answer g points) (length points) (ends_at t points) else Err 0
+
+-- this is right, and no other answer is
+abbrev pub WalksAreAnswered : Type 0
+WalksAreAnswered = (g : GridData) (s t : Cell) (points : List Cell) (answer : Result Cost ℕ)
+    → IsWalkAnswer g s t points answer ↔ (walk_answer g s t points ≡ answer)

@@ -7,10 +7,13 @@ use Rattle.grid_moves.specs.Examples.{pillar}
 use Rattle.grid_moves.specs.Grid.{grid_of}
 use Rattle.cell_lines.specs.Parts.{point_of}
 use Rattle.potential_check.specs.declared.certificate.Claim.TheVariants.{Least, NoWalk}
+use Rattle.potential_check.specs.declared.verdict.Proof.TheVariants as proof
+use Rattle.potential_check.specs.declared.verdict.Reject.TheVariants.{Goal, Move, Open, Walk}
 use Rattle.potential_check.specs.declared.fault.CertFault.TheVariants.{Line, Order}
 use Rattle.potential_check.specs.Accepted.{leaves}
 use Rattle.potential_check.specs.Moves.{first_failing}
 use Rattle.potential_check.specs.Potential.{potential_of, rises}
+use Rattle.potential_check.specs.Answers.{claim_answer}
 use Rattle.potential_check.specs.Text.{certificate_of}
 
 -- a certificate that a walk round the pillar of `.../.@./...` is least, from its upper left to its lower
@@ -57,6 +60,28 @@ pub one_rises : first_failing (pillar One)
     (rises (potential_of (record { a = 4; b = 0 }) (record { x = 2; y = 2 }) values))
     ≡ Some (record { x = 1; y = 0 }, record { x = 2; y = 1 })
 one_rises = refl
+
+-- the claim comes to the cost, or to that move; with another cost, to the number of points; with another start,
+-- to 0
+abbrev round : List Cell
+round = record { x = 0; y = 0 } ∷ record { x = 2; y = 0 } ∷ record { x = 2; y = 2 } ∷ []
+
+pub claimed_round : claim_answer (pillar Never) (record { x = 0; y = 0 }) (record { x = 2; y = 2 })
+    (Least (record { a = 4; b = 0 }) round values) ≡ Ok (proof.Least (record { a = 4; b = 0 }))
+claimed_round = refl
+
+pub refused_past : claim_answer (pillar One) (record { x = 0; y = 0 }) (record { x = 2; y = 2 })
+    (Least (record { a = 4; b = 0 }) round values) ≡ Err
+    (Move (record { x = 1; y = 0 }) (record { x = 2; y = 1 }))
+refused_past = refl
+
+pub refused_cost : claim_answer (pillar Never) (record { x = 0; y = 0 }) (record { x = 2; y = 2 })
+    (Least (record { a = 3; b = 0 }) round values) ≡ Err (Walk 3)
+refused_cost = refl
+
+pub refused_start : claim_answer (pillar Never) (record { x = 0; y = 1 }) (record { x = 2; y = 2 })
+    (Least (record { a = 4; b = 0 }) round values) ≡ Err (Walk 0)
+refused_start = refl
 
 -- with a greater value at (1,0), the first move leads there
 pub greater_value : first_failing (pillar Never) (rises (potential_of (record { a = 4; b = 0 })
@@ -118,6 +143,19 @@ none_leaves = refl
 pub one_leaves : first_failing (grid_of 2 2 (codes "..@.") Never) (leaves (record { x = 0; y = 0 } ∷ []))
     ≡ Some (record { x = 0; y = 0 }, record { x = 1; y = 0 })
 one_leaves = refl
+
+pub claimed_none : claim_answer (grid_of 2 2 (codes ".@@.") Never) (record { x = 0; y = 0 })
+    (record { x = 1; y = 1 }) (NoWalk (record { x = 0; y = 0 } ∷ [])) ≡ Ok proof.NoWalk
+claimed_none = refl
+
+pub refused_open : claim_answer (grid_of 2 2 (codes "..@.") Never) (record { x = 0; y = 0 })
+    (record { x = 1; y = 1 }) (NoWalk (record { x = 0; y = 0 } ∷ []))
+    ≡ Err (Open (record { x = 0; y = 0 }) (record { x = 1; y = 0 }))
+refused_open = refl
+
+pub refused_goal : claim_answer (grid_of 2 2 (codes "..@.") Never) (record { x = 0; y = 0 })
+    (record { x = 0; y = 0 }) (NoWalk (record { x = 0; y = 0 } ∷ [])) ≡ Err Goal
+refused_goal = refl
 
 -- an empty list, and empty lines after it
 pub empty_list : certificate_of (codes "jps-cert 1\nsize 2 2\nends 0 0 1 1\nnone\nend\n\n\n")

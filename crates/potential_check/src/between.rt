@@ -1,24 +1,19 @@
 //! Walks between two cells that are given by points.
 
-ghost use Rattle.std.specs.Prelude.{◌≡◌, ◌^◌, ◌<◌, ℕ, length, Ok, Err, IfOk, IfErr};
-ghost use Rattle.root2_cost.specs.declared.Cost.{Cost};
+ghost use Rattle.std.specs.Prelude.{◌≡◌, ◌^◌, ◌<◌, length};
 ghost use Rattle.potential_check.specs.Walks as spec;
-ghost use Rattle.potential_check.specs.Walks.{IsBadPoint, IsRightWalk};
 
 use grid_moves::{Cell, Terrain};
 use path_points::{Points, check_walk};
 use root2_cost::Cost;
 
 /// The cost of the walk between the cells that the points stand for, or the number that tells that they
-/// stand for none.
+/// stand for none: law `walks_are_answered`.
 ///
 /// No memory is taken. The walk is passed over once, step by step, up to its first bad point.
 pub fn walk_between<T: Terrain>(t: &T, from: Cell, to: Cell, points: &Points) -> Result<Cost, u32>
     requires { length points.now < 2 ^ 30 }
-    ensures walk { IfOk result (λ paid. IsRightWalk (T.grid t.now) from to paid points.now) }
-    ensures ok { (paid : Cost) → IsRightWalk (T.grid t.now) from to paid points.now → result ≡ Ok paid }
-    ensures bad { IfErr result (λ i. IsBadPoint (T.grid t.now) from to points.now i) }
-    ensures err { (i : ℕ) → IsBadPoint (T.grid t.now) from to points.now i → result ≡ Err i }
+    ensures { result ≡ spec.walk_answer (T.grid t.now) from to points.now }
 {
     if !begins_at(from, points) {
         return Err(0);

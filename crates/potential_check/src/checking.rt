@@ -4,11 +4,13 @@ ghost use Rattle.std.specs.Prelude.{◌≡◌, ◌^◌, ◌<◌, length, Ok, Err
 ghost use Rattle.std.specs.List.{list_all};
 ghost use Rattle.grid_moves.specs.Grid.{IsGrid};
 ghost use Rattle.potential_check.specs.Accepted as spec;
-ghost use Rattle.potential_check.specs.Accepted.{Holds, IsAccepted, Refuses, claimed};
+ghost use Rattle.potential_check.specs.Accepted.{Holds, IsAccepted, Refuses, proof_of};
 ghost use Rattle.potential_check.specs.Certificate.{are_listed, cells_of, is_claim, is_short, is_small};
-ghost use Rattle.potential_check.specs.Judged.{JudgesClaim, JudgesWalk};
+ghost use Rattle.potential_check.specs.Answers.{certificate_answer, claim_answer, bad_number};
 ghost use Rattle.potential_check.specs.Moves.{first_failing};
 ghost use Rattle.potential_check.specs.Potential as potentials;
+ghost use Rattle.potential_check.specs.Text.{plain};
+ghost use Rattle.potential_check.specs.Walks.{walk_answer};
 ghost use Rattle.potential_check.specs.declared.certificate.Claim.TheVariants as claims;
 ghost use Rattle.potential_check.specs.declared.verdict.Reject.{Reject};
 
@@ -30,10 +32,19 @@ pub fn check(g: &Grid, c: &Certificate) -> Result<Proof, Reject>
     ensures proves { IfOk result (λ proof. Holds g.now c.now.start c.now.goal proof) }
     // Only what meets all clauses is accepted, and all of that is.
     ensures ok { IfOk result (λ proof. IsAccepted g.now c.now) }
-    ensures accepts { IsAccepted g.now c.now → result ≡ Ok (claimed c.now.claim) }
+    ensures accepts { IsAccepted g.now c.now → result ≡ Ok (proof_of c.now.claim) }
     // All else is refused by the first clause that it fails, with its numbers.
     ensures err { IfErr result (Refuses g.now c.now) }
     ensures refuses { (reject : Reject) → Refuses g.now c.now reject → result ≡ Err reject }
+    // So the answer is a function of the grid and of what the certificate holds.
+    ensures is { result ≡ certificate_answer g.now (plain c.now) }
+{
+    answer(g, c)
+}
+
+// The same, whose clause is the function alone.
+fn answer(g: &Grid, c: &Certificate) -> Result<Proof, Reject>
+    ensures { result ≡ certificate_answer g.now (plain c.now) }
 {
     if !has_size(g, c) {
         return Err(Reject::Size);
@@ -64,7 +75,7 @@ fn check_claim(g: &Grid, s: Cell, t: Cell, claim: &Claim) -> Result<Proof, Rejec
     requires whole { IsGrid g.now }
     requires goal { IsTrue (is_short t) }
     requires claim { IsTrue (is_claim g.now.width g.now.height claim.now) }
-    ensures { JudgesClaim g.now s t claim.now result }
+    ensures { result ≡ claim_answer g.now s t claim.now }
 {
     match claim {
         Claim::Least {
@@ -88,7 +99,7 @@ fn check_least(
     requires whole { IsGrid g.now }
     requires goal { IsTrue (is_short t) }
     requires claim { IsTrue (is_claim g.now.width g.now.height (claims.Least cost points.now values.now)) }
-    ensures { JudgesClaim g.now s t (claims.Least cost points.now values.now) result }
+    ensures { result ≡ claim_answer g.now s t (claims.Least cost points.now values.now) }
 {
     if let Some(i) = bad_point(g, s, t, cost, points) {
         return Err(Reject::Walk(i));
@@ -109,7 +120,7 @@ fn check_least(
 fn check_none(g: &Grid, s: Cell, t: Cell, cells: &Cells) -> Result<Proof, Reject>
     requires whole { IsGrid g.now }
     requires claim { IsTrue (is_claim g.now.width g.now.height (claims.NoWalk cells.now)) }
-    ensures { JudgesClaim g.now s t (claims.NoWalk cells.now) result }
+    ensures { result ≡ claim_answer g.now s t (claims.NoWalk cells.now) }
 {
     if !is_listed(cells, s) {
         return Err(Reject::Start);
@@ -183,7 +194,7 @@ fn is_value(s: Signed, c: Cost) -> bool
 // The number that tells that the points are no walk from start to goal of this cost, if they aren't.
 fn bad_point(g: &Grid, s: Cell, t: Cell, cost: Cost, points: &Points) -> Option<u32>
     requires { length points.now < 2 ^ 30 }
-    ensures { JudgesWalk g.now s t cost points.now result }
+    ensures { result ≡ bad_number cost (length points.now) (walk_answer g.now s t points.now) }
 {
     match walk_between(g, s, t, points) {
         Err(bad) => Some(bad),

@@ -20,6 +20,7 @@ mod checking;
 mod fault;
 mod forms;
 mod heights;
+pub mod laws;
 mod reading;
 mod rising;
 mod verdict;

@@ -15,7 +15,7 @@ ghost use Rattle.potential_check.specs.Rising as spec;
 ghost use Rattle.potential_check.specs.Rising.{AreHills, IsColumn, Reach, RowsReach, Takes, climbs, first_steep, height_at, towards};
 
 use crate::heights::Heights;
-use grid_moves::{Around, Cell, Grid, Terrain, before, move_cost};
+use grid_moves::{Cell, Grid, Terrain, before, move_cost, moves_around};
 
 /// The heights of one column in three rows.
 #[derive(Clone, Copy)]
@@ -122,7 +122,7 @@ fn first_steep_around(
     requires whole { IsGrid g.now }
     ensures { result ≡ first_steep g.now u middle.here (towards left middle right) all_dirs }
 {
-    let a = Around::of(g, u);
+    let a = moves_around(g, u);
     let from = middle.here;
     steep_move(a.n, u, Cell { x: u.x, y: a.up }, from, middle.above)
         .or(steep_move(

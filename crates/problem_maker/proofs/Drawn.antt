@@ -15,26 +15,27 @@ use Rattle.grid_moves.specs.declared.Cell.{Cell}
 use Rattle.grid_moves.specs.Layers.{Layers, is_free_ground}
 use Rattle.grid_moves.specs.Move.{is_same}
 use Rattle.grid_moves.proofs.Legal.{and_both}
+use Rattle.grid_moves.specs.Grid.{cell_numbered}
 use Rattle.joined_cells.specs.Both.{BothLabels, HasWalk, TellsBoth, are_joined_in}
 use Rattle.map_maker.specs.Words.{words_from}
 use Rattle.problem_maker.specs.declared.tries.ProblemEnds.{ProblemEnds}
 use Rattle.problem_maker.specs.Drawing.{Draws}
-use Rattle.problem_maker.specs.Free.{cell_with, free_below, free_cells}
+use Rattle.problem_maker.specs.Free.{free_below, free_cells}
 use Rattle.problem_maker.specs.Tries.{AreKept, cell_at, is_kept, kept_ends, most_tries, tries}
 use Rattle.problem_maker.specs.Tries.{tries_by}
 
 -- the cell of a column and a row has their number
-cell_with-number : (width x y : ℕ) → x < width → cell_with width (y * width + x) ≡ record { x = x; y = y }
-cell_with-number width x y h = rw (mod-mul-add y width x h, div-mul-add y width x h) refl
+numbered-cell : (width x y : ℕ) → x < width → cell_numbered width (y * width + x) ≡ record { x = x; y = y }
+numbered-cell width x y h = rw (mod-mul-add y width x h, div-mul-add y width x h) refl
 
 -- one cell more
 pub free_more : (ls : Layers) (x y n : ℕ) → x < ls.land.width → n ≡ y * ls.land.width + x
     → free_below ls (n + 1) ≡ free_below ls n
     ++ cond (is_free_ground ls (record { x = x; y = y })) (record { x = x; y = y } ∷ []) []
 free_more ls x y n h e =
-    let c : cell_with ls.land.width n ≡ record { x = x; y = y } =
-    ap (cell_with ls.land.width) e ∙ cell_with-number ls.land.width x y h in
-    filter_of_map_range_with_len_more (is_free_ground ls) (cell_with ls.land.width) 0 n n (omega arith)
+    let c : cell_numbered ls.land.width n ≡ record { x = x; y = y } =
+    ap (cell_numbered ls.land.width) e ∙ numbered-cell ls.land.width x y h in
+    filter_of_map_range_with_len_more (is_free_ground ls) (cell_numbered ls.land.width) 0 n n (omega arith)
     ∙ ap (λ (v : Cell). free_below ls n ++ cond (is_free_ground ls v) (v ∷ []) []) c
 
 same_ends : (e f : ProblemEnds) → e.start ≡ f.start → e.goal ≡ f.goal → e ≡ f

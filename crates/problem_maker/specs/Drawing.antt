@@ -6,12 +6,12 @@ use Rattle.grid_moves.specs.declared.Cell.{Cell}
 use Rattle.problem_maker.specs.declared.tries.ProblemEnds.{ProblemEnds}
 use Rattle.problem_maker.specs.Tries.{cell_at}
 
--- the cell was told by the next word
+-- the next word picked the cell
 pub record DrawsCell (cells : List Cell) (old : Lcg) (cell : Cell) (new : Lcg) : Type 0 where
   pub made : cell ≡ cell_at cells (pcg32 old).0
   pub left : new ≡ (pcg32 old).1
 
--- the ends were told by the next two words
+-- the next two words picked the ends
 pub record Draws (cells : List Cell) (old : Lcg) (ends : ProblemEnds) (new : Lcg) : Type 0 where
   pub start : ends.start ≡ cell_at cells (pcg32 old).0
   pub goal : ends.goal ≡ cell_at cells (pcg32 (pcg32 old).1).0

@@ -1,17 +1,14 @@
 -- The free cells of a map, land and water.
-use Rattle.std.specs.Prelude.{◌≡◌, ℕ, ◌*◌, ◌/◌, ◌%◌, refl, List, [], ◌∷◌, map, codes}
+use Rattle.std.specs.Prelude.{◌≡◌, ℕ, ◌*◌, refl, List, [], ◌∷◌, map, codes}
 use Rattle.std.specs.List.{filter, range_with_len}
 use Rattle.grid_moves.specs.declared.Cell.{Cell}
 use Rattle.grid_moves.specs.declared.Corner.TheVariants.{Never}
+use Rattle.grid_moves.specs.Grid.{cell_numbered}
 use Rattle.grid_moves.specs.Layers.{Layers, is_free_ground, layers_of}
-
--- the cell with this number on a map of this width
-abbrev pub cell_with : ℕ → ℕ → Cell
-cell_with width number = record { x = number % width; y = number / width }
 
 -- the cells with numbers below this one that are land or water, in the order of their numbers
 abbrev pub free_below : Layers → ℕ → List Cell
-free_below ls n = filter (is_free_ground ls) (map (cell_with ls.land.width) (range_with_len 0 n))
+free_below ls n = filter (is_free_ground ls) (map (cell_numbered ls.land.width) (range_with_len 0 n))
 
 -- all free cells
 abbrev pub free_cells : Layers → List Cell

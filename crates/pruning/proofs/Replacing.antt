@@ -1,7 +1,8 @@
 -- The first local fact: each turn that is not allowed has a replacement. It costs less, or the turn is from a
 -- straight direction to a diagonal one, which goes first.
 use Rattle.std.proofs.Common.{◌≡◌, refl, ap, sym, ◌∙◌, [], ◌∷◌, arith, Bool, true, false, not, ◌&&◌}
-use Rattle.std.proofs.Common.{◌||◌, ◌⊎◌, inl, inr, List}
+use Rattle.std.proofs.Common.{◌⊎◌, inl, inr, List}
+use Rattle.std.proofs.lemmas.Bool.{or_parts}
 use Rattle.root2_cost.specs.declared.Cost.{Cost}
 use Rattle.root2_cost.specs.Order.{IsLess}
 use Rattle.root2_cost.specs.Sums.{add_costs, no_cost}
@@ -180,9 +181,6 @@ module _ (g : GridData) (u v w : Cell) (d e : Dir) (l : Leads g u v d) (m : Lead
       }
 
 -- what walls would keep
-or_false : (a b : Bool) → (a || b) ≡ false → b ≡ false
-or_false a b h1 = grind arith
-
 shut : (a b : Bool) → a ≡ true → (a && b) ≡ false → b ≡ false
 shut a b h k = rw h at k
 
@@ -192,7 +190,8 @@ module _ (r : Corner) (b : Dir → Bool) (d : Dir) (s : Side) where
 
   eighth_walls : keeps_eighth r b d s ≡ false
       → (may_cut r ≡ false → b (rear s d) ≡ false) × (may_cut r ≡ true → b (quarter s d) ≡ false)
-  eighth_walls h = (λ e. or_false (is_diagonal d) _ (rw e at h), λ e. or_false (is_diagonal d) _ (rw e at h))
+  eighth_walls h =
+      (λ e. (or_parts (is_diagonal d) _ (rw e at h)).1, λ e. (or_parts (is_diagonal d) _ (rw e at h)).1)
 
   quarter_walls : keeps_quarter r b d s ≡ false
       → (is_diagonal d ≡ false → may_cut r ≡ false → b (rear s d) ≡ false)

@@ -1,4 +1,4 @@
--- What is allowed, and where a neighbour is forced, told by the cells around.
+-- What is allowed, and where a neighbour is forced, by the cells around.
 use Rattle.std.proofs.lemmas.Bool.Decides.{nat_tests}
 use Rattle.std.proofs.lemmas.Grind.{common_steps}
 use Rattle.std.proofs.Common.{arith}

@@ -7,7 +7,7 @@ use Rattle.grid_moves.specs.declared.Cell.{Cell}
 use Rattle.grid_moves.specs.declared.Dir.{Dir}
 use Rattle.grid_moves.specs.declared.Dir.TheVariants.{N, NE, E, SE, S, SW, W, NW}
 use Rattle.grid_moves.specs.Grid.{GridData, is_free}
-use Rattle.grid_moves.specs.Move.{ahead, legal_ahead}
+use Rattle.grid_moves.specs.Move.{ahead, cell_after, legal_ahead}
 use Rattle.grid_moves.specs.Walk.{is_walk, cost_of, last_of}
 use Rattle.grid_moves.specs.Points.{apart, steps_between, are_lined, toward, step_toward, segment}
 use Rattle.grid_moves.proofs.Legal.{legal_is, same_cell}
@@ -62,6 +62,10 @@ toward_moved t k a z b h1 h2 = grind (arith, nat_tests)
 abbrev pub AreMoved : Dir → ℕ → Cell → Cell → Type 0
 AreMoved d k u v = IsMoved (column_trend d) k u.x v.x × IsMoved (row_trend d) k u.y v.y
 
+-- the cell after so many moves
+pub moved_to : (d : Dir) (k : ℕ) (u v : Cell) → AreMoved d k u v → v ≡ cell_after d k u
+moved_to d k u v h = grind (arith, nat_tests)
+
 abbrev IsStepped : Dir → Cell → Option Cell → Type 0
 IsStepped d u None = ⊤
 IsStepped d u (Some v) = AreMoved d 1 u v
@@ -69,7 +73,7 @@ IsStepped d u (Some v) = AreMoved d 1 u v
 stepped : (x y : ℕ) (d : Dir) → IsStepped d (record { x = x; y = y }) (ahead d (record { x = x; y = y }))
 stepped x y d = grind (arith, nat_tests)
 
-ahead_moved : (d : Dir) (u v : Cell) → ahead d u ≡ Some v → AreMoved d 1 u v
+pub ahead_moved : (d : Dir) (u v : Cell) → ahead d u ≡ Some v → AreMoved d 1 u v
 ahead_moved d u v h = subst (λ (o : Option Cell). IsStepped d u o) h (stepped u.x u.y d)
 
 -- how far the ends of a run are apart

@@ -1,5 +1,6 @@
 -- Marks, stops and first stops are what their tests compute.
 use Rattle.std.proofs.Common.{◌≡◌, inl, inr, Bool, true, refl, ◌&&◌, ◌||◌, arith}
+use Rattle.std.proofs.lemmas.Bool.{or_right, or_cases}
 use Rattle.grid_moves.specs.declared.Cell.{Cell}
 use Rattle.grid_moves.specs.declared.Dir.{Dir}
 use Rattle.grid_moves.specs.Grid.{GridData}
@@ -14,12 +15,8 @@ use Rattle.pruning.specs.First.{holds_on_run, is_marked, is_stop, first_stop, fi
 use Rattle.pruning.specs.Laws.{MarksAreDecided, StopsAreDecided, FirstStopIsFirst, OneFirstStop}
 use Rattle.pruning.specs.Laws.{FirstMarkIsFirst}
 use Rattle.pruning.specs.Laws.{OneFirstMark}
-use Rattle.pruning.proofs.Table.{either_true}
 use Rattle.pruning.proofs.Firsts.{FindsLeast-once, FindsLeast-same, HoldsAfter, first_on_run-finds}
 use Rattle.pruning.proofs.Firsts.{on_run-sound, on_run-complete}
-
-or_true : (a b : Bool) → b ≡ true → (a || b) ≡ true
-or_true a b h = grind arith
 
 module _ (g : GridData) (d : Dir) (v : Cell) (test : Side → Cell → Bool) where
   -- d is diagonal, and the test of a component holds on the run in it
@@ -35,7 +32,7 @@ module _ (g : GridData) (d : Dir) (v : Cell) (test : Side → Cell → Bool) whe
   sees-sound : sees ≡ true → Sees
   sees-sound h =
       let both = and_both (is_diagonal d) _ h in
-      elim (either_true (holds_on_run g (turn Right d) (test Right) v) _ both.1) [
+      elim (or_cases (holds_on_run g (turn Right d) (test Right) v) _ both.1) [
         | inl r ↦ record
             { diagonal = both.0; side = Right; run = on_run-sound g (turn Right d) (test Right) v r }
         | inr r ↦ record
@@ -46,7 +43,7 @@ module _ (g : GridData) (d : Dir) (v : Cell) (test : Side → Cell → Bool) whe
       → sees ≡ true
   sees-complete h Right r = rw (h, on_run-complete g (turn Right d) (test Right) v r) refl
   sees-complete h Left r =
-      rw h (or_true _ _ (on_run-complete g (turn Left d) (test Left) v r))
+      rw h (or_right _ _ (on_run-complete g (turn Left d) (test Left) v r))
 
 -- what a component's run is looked through for
 abbrev is_forced_beside : GridData → Dir → Side → Cell → Bool
@@ -59,21 +56,21 @@ pub marks_are_decided : MarksAreDecided
 marks_are_decided g x d = record { sound = sound; complete = complete }
   where
     sound : is_marked g x d ≡ true → IsMarked g x d
-    sound h = elim (either_true (is_forced g x d) _ h) [
+    sound h = elim (or_cases (is_forced g x d) _ h) [
       | inl f ↦ forces f
       | inr l ↦ let r = sees-sound g d x (is_forced_beside g d) l in looks_out r.diagonal r.side r.run
     ]
 
     complete : IsMarked g x d → is_marked g x d ≡ true
     complete (forces f) = rw f refl
-    complete (looks_out h s r) = or_true _ _ (sees-complete g d x (is_forced_beside g d) h s r)
+    complete (looks_out h s r) = or_right _ _ (sees-complete g d x (is_forced_beside g d) h s r)
 
 pub stops_are_decided : StopsAreDecided
 stops_are_decided g goal d v = record { sound = sound; complete = complete }
   where
     sound : is_stop g goal d v ≡ true → IsStop g goal d v
-    sound h = elim (either_true (is_same v goal || is_marked g v d) _ h) [
-      | inl l ↦ elim (either_true (is_same v goal) _ l) [
+    sound h = elim (or_cases (is_same v goal || is_marked g v d) _ h) [
+      | inl l ↦ elim (or_cases (is_same v goal) _ l) [
         | inl e ↦ at_goal (is_same-cell v goal e)
         | inr m ↦ marked ((marks_are_decided g v d).sound m)
       ]
@@ -89,8 +86,8 @@ stops_are_decided g goal d v = record { sound = sound; complete = complete }
     complete : IsStop g goal d v → is_stop g goal d v ≡ true
     complete (at_goal e) = let k : is_same v goal ≡ true = rw e (is_same-itself goal) in rw k refl
     complete (marked m) =
-        rw (or_true (is_same v goal) (is_marked g v d) ((marks_are_decided g v d).complete m)) refl
-    complete (sees_goal h s r) = or_true (is_same v goal || is_marked g v d) _
+        rw (or_right (is_same v goal) (is_marked g v d) ((marks_are_decided g v d).complete m)) refl
+    complete (sees_goal h s r) = or_right (is_same v goal || is_marked g v d) _
         (sees-complete g d v (is_goal goal) h s (record {
           moves = r.moves;
           some = r.some;

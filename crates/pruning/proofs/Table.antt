@@ -1,13 +1,14 @@
 -- A test of all directions and sides, by computation.
 use Rattle.std.proofs.Common.{◌≡◌, Bool, true, false, ◌&&◌, ◌||◌, refl, ℕ, inl, inr, ◌⊎◌, arith, not}
-use Rattle.std.proofs.Common.{zero, suc}
 use Rattle.std.specs.Prelude.{◌+ℤ◌, if◌then◌else◌}
 use Rattle.std.specs.Ordering.{int_eq}
 use Rattle.std.proofs.lemmas.Int.{ints}
 use Rattle.std.proofs.lemmas.Bool.Decides.{Decides-int_eq, nat_tests}
+use Rattle.std.proofs.lemmas.Bool.{or_cases}
 use Rattle.grid_moves.specs.declared.Dir.{Dir}
 use Rattle.grid_moves.specs.declared.Dir.TheVariants.{N, NE, E, SE, S, SW, W, NW}
-use Rattle.grid_moves.specs.Move.{dir_number, is_dir, opposite}
+use Rattle.grid_moves.specs.Move.{is_dir, opposite}
+use Rattle.grid_moves.proofs.Dirs.{one_dir}
 use Rattle.grid_moves.proofs.Legal.{and_both}
 use Rattle.pruning.specs.Turns.{turn, quarter, rear, is_diagonal}
 use Rattle.pruning.specs.declared.turns.Side.{Side}
@@ -93,33 +94,8 @@ pub data Turned (d : Dir) : Dir → Type 0 where
   back : (s : Side) → Turned d (rear s d)
   about : Turned d (opposite d)
 
-dir_at : ℕ → Dir
-dir_at zero = N
-dir_at (suc zero) = NE
-dir_at (suc (suc zero)) = E
-dir_at (suc (suc (suc zero))) = SE
-dir_at (suc (suc (suc (suc zero)))) = S
-dir_at (suc (suc (suc (suc (suc zero))))) = SW
-dir_at (suc (suc (suc (suc (suc (suc zero)))))) = W
-dir_at (suc (suc (suc (suc (suc (suc (suc n))))))) = NW
-
-dir_at-number : (d : Dir) → dir_at (dir_number d) ≡ d
-unfolding dir_at
-dir_at-number N = refl
-dir_at-number NE = refl
-dir_at-number E = refl
-dir_at-number SE = refl
-dir_at-number S = refl
-dir_at-number SW = refl
-dir_at-number W = refl
-dir_at-number NW = refl
-
-pub either_true : (a b : Bool) → (a || b) ≡ true → (a ≡ true) ⊎ (b ≡ true)
-either_true true b h = inl refl
-either_true false b h = inr h
-
 pub same_dir : (e f : Dir) → is_dir e f ≡ true → e ≡ f
-same_dir e f h = grind (arith, nat_tests, dir_at-number, dir_at)
+same_dir e f h = grind (arith, nat_tests, one_dir)
 
 abbrev is_some_turn : Dir → Dir → Bool
 is_some_turn d e = is_dir e d || is_dir e (turn Right d) || is_dir e (turn Left d) || is_dir e
@@ -154,7 +130,7 @@ turned d e = elim (split _ _ all) [
 ]
   where
     split : (a b : Bool) → (a || b) ≡ true → (a ≡ true) ⊎ (b ≡ true)
-    split = either_true
+    split = or_cases
 
     all : is_some_turn d e ≡ true
     all = at_dir (is_some_turn d) (at_dir (λ d. each_dir (is_some_turn d)) each_pair d) e

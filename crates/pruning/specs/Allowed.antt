@@ -2,7 +2,7 @@
 -- Harabor and Grastien: AAAI 2011 where corners may be cut, SoCS 2012 where none is. What pruning keeps hangs
 -- on that alone, and on no other part of the corner rule.
 use Rattle.std.specs.Prelude.{◌≡◌, Bool, true, not, ◌&&◌, ◌||◌, refl, List, [], ◌∷◌, filter, is_some}
-use Rattle.std.specs.Prelude.{if◌then◌else◌}
+use Rattle.std.specs.Prelude.{if◌then◌else◌, Option, Some, None}
 use Rattle.grid_moves.specs.declared.Cell.{Cell}
 use Rattle.grid_moves.specs.declared.Corner.{Corner}
 use Rattle.grid_moves.specs.declared.Corner.TheVariants.{Never, One, Both}
@@ -17,6 +17,11 @@ use Rattle.pruning.specs.declared.turns.Side.{Side}
 use Rattle.pruning.specs.declared.turns.Side.TheVariants.{Right, Left}
 use Rattle.pruning.specs.Turns.{turn, quarter, rear, is_diagonal}
 
+-- how a search came to a cell, by the direction of its move, or none at the start
+abbrev pub come_to : Option Dir → Arrival
+come_to None = Start
+come_to (Some d) = By d
+
 -- the cell ahead is blocked; what lies outside the map is
 abbrev pub is_blocked : GridData → Cell → Dir → Bool
 is_blocked g x d = not (is_open g x d)
@@ -26,7 +31,7 @@ abbrev pub can_move : GridData → Cell → Dir → Bool
 can_move g x d = is_some (legal_ahead g x d)
 
 -- After a move in d pruning keeps d itself, and a turn to a side where a wall stands there, since else some
--- walk that turns earlier is as short. Which cells around are blocked is told by the direction to them.
+-- walk that turns earlier is as short. Which cells around are blocked is given by the direction to them.
 
 -- a turn by an eighth to that side: after a diagonal it is a component, and kept; after a straight move it is
 -- kept where the cell behind on that side is blocked, or, where a corner may be cut, the cell at that side

@@ -1,27 +1,24 @@
 -- The cells around a cell as eight bits.
-use Rattle.std.specs.Prelude.{◌≡◌, ℕ, ◌/◌, ◌%◌, Bool, nat_eq, refl, [], ◌∷◌}
+use Rattle.std.specs.Prelude.{◌≡◌, ℕ, refl, [], ◌∷◌}
+use Rattle.grid_moves.specs.Bits.{is_set}
 use Rattle.grid_moves.specs.declared.Corner.TheVariants.{Never, One}
 use Rattle.grid_moves.specs.declared.Dir.TheVariants.{N, NE, E, SE, S, SW, W, NW}
 use Rattle.grid_moves.specs.declared.ring.Ring.{Ring}
 use Rattle.pruning.specs.declared.Arrival.TheVariants.{Start, By}
 use Rattle.pruning.specs.Ring.{allowed_on}
 
--- the bit of this weight is set
-abbrev pub has_bit : ℕ → ℕ → Bool
-has_bit eight weight = nat_eq (eight / weight % 2) 1
-
--- The cells around a cell, told by eight bits: from the lowest three of the row above, from the west, two of
+-- The cells around a cell, by eight bits: from the lowest three of the row above, from the west, two of
 -- the cell's own row, and three of the row below. A set bit is a free cell.
 abbrev pub ring_of : ℕ → Ring
 ring_of eight = record {
-  n = has_bit eight 2;
-  ne = has_bit eight 4;
-  e = has_bit eight 16;
-  se = has_bit eight 128;
-  s = has_bit eight 64;
-  sw = has_bit eight 32;
-  w = has_bit eight 8;
-  nw = has_bit eight 1;
+  n = is_set eight 1;
+  ne = is_set eight 2;
+  e = is_set eight 4;
+  se = is_set eight 7;
+  s = is_set eight 6;
+  sw = is_set eight 5;
+  w = is_set eight 3;
+  nw = is_set eight 0;
 }
 
 -- in the map's upper left corner, with a blocked cell below: the cells to the east (16) and to the south-east

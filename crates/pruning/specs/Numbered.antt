@@ -1,20 +1,17 @@
 -- Arrivals by numbers, and the lists of allowed directions by places.
 -- No public clause cites a definition of this module.
-use Rattle.std.specs.Prelude.{◌≡◌, ℕ, ◌/◌, ◌%◌, ◌<◌, nat_eq, if◌then◌else◌, List, [], length, get_or}
+use Rattle.std.specs.Prelude.{◌≡◌, ℕ, ◌/◌, ◌%◌, ◌<◌, List, [], length, get_or}
 use Rattle.grid_moves.specs.declared.Corner.{Corner}
 use Rattle.grid_moves.specs.declared.Dir.{Dir}
-use Rattle.grid_moves.specs.declared.Dir.TheVariants.{N, NE, E, SE, S, SW, W, NW}
+use Rattle.grid_moves.specs.Move.{dir_of_number}
 use Rattle.pruning.specs.declared.Arrival.{Arrival}
-use Rattle.pruning.specs.declared.Arrival.TheVariants.{Start, By}
+use Rattle.pruning.specs.Allowed.{come_to}
 use Rattle.pruning.specs.Eight.{ring_of}
 use Rattle.pruning.specs.Ring.{allowed_on}
 
 -- by a move in the direction of this number, or the start
 abbrev pub arrival_of : ℕ → Arrival
-arrival_of n =
-    if nat_eq n 0 then By N else if nat_eq n 1 then By NE else if nat_eq n 2 then By E
-    else if nat_eq n 3 then By SE else if nat_eq n 4 then By S else if nat_eq n 5 then By SW
-    else if nat_eq n 6 then By W else if nat_eq n 7 then By NW else Start
+arrival_of n = come_to (dir_of_number n)
 
 -- the allowed directions at a place: 256 lists for each arrival, by the eight bits
 abbrev pub allowed_at : Corner → ℕ → List Dir

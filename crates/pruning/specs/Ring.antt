@@ -1,4 +1,4 @@
--- What the rule says of a cell, told by the cells around it.
+-- What the rule says of a cell, by the cells around it.
 use Rattle.std.specs.Prelude.{Bool, ◌&&◌, ◌||◌, List, filter}
 use Rattle.grid_moves.specs.declared.Corner.{Corner}
 use Rattle.grid_moves.specs.declared.Dir.{Dir}

@@ -1,7 +1,7 @@
 //! The allowed directions by the cells around, looked up.
 //!
 //! Eight bits around a cell and its arrival are all that the rule asks for. So 2304 lists answer for every
-//! cell under one corner rule, and whoever has the bits looks one up faster than it could be told.
+//! cell under one corner rule, and whoever has the bits looks one up faster than by working it out.
 
 ghost use Rattle.std.specs.Prelude.{◌≡◌, ◌<◌, IfOk};
 ghost use Rattle.pruning.specs.Eight as spec;
@@ -9,7 +9,7 @@ ghost use Rattle.pruning.specs.Numbered as numbered;
 
 use crate::rule::arrival_of;
 use crate::{Arrival, Packed, allowed_on};
-use grid_moves::{Corner, NoMemory, Ring, dir_number};
+use grid_moves::{Corner, NoMemory, Ring, dir_number, is_set};
 use std::alloc::Global;
 use std::marker::Model;
 
@@ -40,30 +40,22 @@ impl Model for AllowedTable {
     ghost invariant = { λ t. AreAllowed t.corner 2304 t.lists.items };
 }
 
-// Whether the bit of this weight is set.
-#[inline(always)]
-fn has_bit(eight: usize, weight: usize) -> bool
-    requires { 0 < weight }
-    ensures { result ≡ spec.has_bit eight weight }
-{
-    eight / weight % 2 == 1
-}
-
-/// The cells around a cell, told by eight bits: from the lowest three of the row above, from the west, two of
+/// The cells around a cell, by eight bits: from the lowest three of the row above, from the west, two of
 /// its own row, and three of the row below. A set bit is a free cell.
 #[inline(always)]
 pub fn ring_of(eight: usize) -> Ring
     ensures { result ≡ spec.ring_of eight }
 {
+    let bits = eight as u64;
     Ring {
-        n: has_bit(eight, 2),
-        ne: has_bit(eight, 4),
-        e: has_bit(eight, 16),
-        se: has_bit(eight, 128),
-        s: has_bit(eight, 64),
-        sw: has_bit(eight, 32),
-        w: has_bit(eight, 8),
-        nw: has_bit(eight, 1),
+        n: is_set(bits, 1),
+        ne: is_set(bits, 2),
+        e: is_set(bits, 4),
+        se: is_set(bits, 7),
+        s: is_set(bits, 6),
+        sw: is_set(bits, 5),
+        w: is_set(bits, 3),
+        nw: is_set(bits, 0),
     }
 }
 
@@ -103,7 +95,7 @@ impl AllowedTable {
         Ok(AllowedTable { corner, lists })
     }
 
-    /// The same table once more, copied and not told anew.
+    /// The same table once more, copied and not worked out anew.
     pub fn copied(&self, alloc: Global) -> Result<AllowedTable, NoMemory>
         ensures { IfOk result (λ table. table ≡ self.now) }
     {

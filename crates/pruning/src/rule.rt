@@ -31,7 +31,9 @@ use crate::Arrival;
 use crate::packed::Packed;
 use crate::turns::{Side, is_diagonal, quarter, rear, turn};
 use arrayvec::ArrayVec;
-use grid_moves::{Cell, Corner, Dir, Ring, Terrain, dir_number, may_cut, rule_of_number};
+use grid_moves::{
+    Cell, Corner, Dir, Ring, Terrain, dir_number, dir_of_number, may_cut, rule_of_number,
+};
 
 /// Whether the directions are one.
 #[inline(always)]
@@ -124,22 +126,23 @@ fn put_allowed(rule: Corner, ring: Ring, by: Arrival, d: Dir, others: Packed) ->
     }
 }
 
+/// How a search came to a cell, by the direction of its move, or `None` at the start.
+#[inline(always)]
+pub fn come_to(dir: Option<Dir>) -> Arrival
+    ensures { result ≡ spec.come_to dir }
+{
+    match dir {
+        Some(d) => Arrival::By(d),
+        None => Arrival::Start,
+    }
+}
+
 /// The arrival of this number: a direction's, or 8 for the start.
 #[inline(always)]
 pub(crate) fn arrival_of(number: usize) -> Arrival
     ensures { result ≡ numbered.arrival_of number }
 {
-    match number {
-        0 => Arrival::By(Dir::N),
-        1 => Arrival::By(Dir::NE),
-        2 => Arrival::By(Dir::E),
-        3 => Arrival::By(Dir::SE),
-        4 => Arrival::By(Dir::S),
-        5 => Arrival::By(Dir::SW),
-        6 => Arrival::By(Dir::W),
-        7 => Arrival::By(Dir::NW),
-        _ => Arrival::Start,
-    }
+    come_to(dir_of_number(number))
 }
 
 // All directions that are allowed, for a rule and an arrival that the compiler knows.

@@ -22,7 +22,7 @@ pub trait JumpSource {
     ghost StandsFor: { Self → GridData → Type 0 };
 
     /// How many steps one call of `stop` makes at most, and one of `allowed` or `allowed_word`, if that is
-    /// told.
+    /// known.
     ghost most: { Self → Option StepsByCall };
 
     /// How many steps each of these calls makes at least.

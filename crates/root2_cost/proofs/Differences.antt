@@ -162,8 +162,8 @@ down_below z n h = grind (arith, nat_tests)
 short_sum : (p q : Signed) → HasShortSides p → HasShortSides q → HasShortParts (add_costs (gain p) (loss q))
 short_sum p q h i = grind (arith, nat_tests, up_below, down_below)
 
-rank_of-sum : (p q : Cost) → rank_of (add_costs p q) ≡ rank_of p + rank_of q
-rank_of-sum p q = omega arith
+pub rank-add_costs : (p q : Cost) → rank_of (add_costs p q) ≡ rank_of p + rank_of q
+rank-add_costs p q = omega arith
 
 -- sums of two numbers and their differences
 crossed : (m n : ℤ) (i j k l : ℕ) → m ≡ pos i -ℤ pos j → n ≡ pos k -ℤ pos l → i + l < k + j → m <ℤ n
@@ -182,8 +182,8 @@ signed_ranks p q s t h =
     (short_sum p q s t) less in
     crossed (signed_rank p) (signed_rank q) (rank_of (gain p)) (rank_of (loss p)) (rank_of (gain q))
     (rank_of (loss q)) (signed_rank_is p) (signed_rank_is q)
-    (subst (λ (n : ℕ). rank_of (gain p) + rank_of (loss q) < n) (rank_of-sum (gain q) (loss p))
-    (subst (λ (n : ℕ). n < rank_of (add_costs (gain q) (loss p))) (rank_of-sum (gain p) (loss q)) ranks))
+    (subst (λ (n : ℕ). rank_of (gain p) + rank_of (loss q) < n) (rank-add_costs (gain q) (loss p))
+    (subst (λ (n : ℕ). n < rank_of (add_costs (gain q) (loss p))) (rank-add_costs (gain p) (loss q)) ranks))
 
 pub signed_ranks_less : (p q : Signed) → HasShortSides p → HasShortSides q → signed_rank p <ℤ signed_rank q
     → IsSignedLess p q
@@ -192,8 +192,8 @@ signed_ranks_less p q s t h =
     (rank_of (gain q))
     (rank_of (loss q)) (signed_rank_is p) (signed_rank_is q) h in
     let ranks : rank_of (add_costs (gain p) (loss q)) < rank_of (add_costs (gain q) (loss p)) =
-    subst (λ (n : ℕ). n < rank_of (add_costs (gain q) (loss p))) (sym (rank_of-sum (gain p) (loss q)))
-    (subst (λ (n : ℕ). rank_of (gain p) + rank_of (loss q) < n) (sym (rank_of-sum (gain q) (loss p))) sums) in
+    subst (λ (n : ℕ). n < rank_of (add_costs (gain q) (loss p))) (sym (rank-add_costs (gain p) (loss q)))
+    (subst (λ (n : ℕ). rank_of (gain p) + rank_of (loss q) < n) (sym (rank-add_costs (gain q) (loss p))) sums) in
     less_is p q (gain p) (loss p) (gain q) (loss q) (is_parted p) (is_parted q)
     ∙ ranks_less (add_costs (gain p) (loss q)) (add_costs (gain q) (loss p)) (short_sum p q s t)
     (short_sum q p t s) ranks

@@ -1,16 +1,23 @@
 -- Laws of the strict order of costs.
-use Rattle.std.proofs.Common.{◌≡◌, ℕ, suc, ◌⊎◌, inl, inr, arith, refl, true}
-use Rattle.std.proofs.Common.{false}
+use Rattle.std.proofs.Common.{◌≡◌, ℕ, suc, ◌⊎◌, inl, inr, arith, refl, subst, true, false}
 use Rattle.std.specs.Prelude.{ℤ, pos, negsuc, ◌-ℤ◌, nat_eq, ◌&&◌}
 use Rattle.std.proofs.lemmas.Int.{ints}
 use Rattle.std.proofs.lemmas.Bool.Decides.{nat_tests}
 use Rattle.root2_cost.specs.declared.Cost.{Cost}
 use Rattle.root2_cost.specs.Order.{is_positive, is_less, IsLess}
+use Rattle.root2_cost.specs.Sums.{is_same_cost}
 use Rattle.root2_cost.proofs.Gaps.{Gap, both, first, second, Gap-trans, Gap-total, Gap-irreflexive}
 
 -- two costs with the same parts are one
 pub same_cost : (p q : Cost) → p.a ≡ q.a → p.b ≡ q.b → p ≡ q
 same_cost p q e f = grind (arith, nat_tests)
+
+-- the test says that they are one
+pub is_same_cost-tells : (p q : Cost) → is_same_cost p q ≡ true → p ≡ q
+is_same_cost-tells p q h = same_cost p q (grind (arith, nat_tests)) (grind (arith, nat_tests))
+
+pub is_same_cost-of : (p q : Cost) → p ≡ q → is_same_cost p q ≡ true
+is_same_cost-of p q e = subst (λ (c : Cost). is_same_cost p c ≡ true) e (grind (arith, nat_tests))
 
 -- where c - a is x and d - b is y
 pub positive_gap : (x y : ℤ) (a b c d : ℕ) → pos c -ℤ pos a ≡ x → pos d -ℤ pos b ≡ y

@@ -46,7 +46,7 @@ pub record IsHalf (n : ℕ) (v : Cost) : Type 0 where
   pub over : IsLess (twice (whole n)) (one_more (twice v))
   pub under : IsLess (twice v) (one_more (twice (whole n)))
 
--- with s for the root of 8k², rounded down, such a number is told
+-- with s for the root of 8k², rounded down, such a number is found
 half_over : (a k s t : ℕ) → s * s ≤ 8 * (k * k) → 2 * t ≤ s + 1
     → IsLess (twice (whole (a + t))) (one_more (twice (record { a = a; b = k })))
 half_over a k s zero h l =

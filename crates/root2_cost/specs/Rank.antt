@@ -1,4 +1,4 @@
--- The order of costs told by one whole number.
+-- The order of costs by one whole number.
 use Rattle.std.specs.Prelude.{◌≡◌, ℕ, ◌+◌, ◌-◌, ◌*◌, ◌/◌, ◌%◌, nat_lt, true, refl, ℤ, pos, ◌+ℤ◌, ◌*ℤ◌}
 use Rattle.root2_cost.specs.declared.Cost.{Cost}
 use Rattle.root2_cost.specs.declared.Signed.{Signed}

@@ -1,5 +1,5 @@
 -- Sums of costs, and the octile distance.
-use Rattle.std.specs.Prelude.{◌≡◌, ℕ, ◌+◌, ◌-◌, max, min, refl}
+use Rattle.std.specs.Prelude.{◌≡◌, ℕ, ◌+◌, ◌-◌, ◌&&◌, Bool, max, min, nat_eq, refl}
 use Rattle.root2_cost.specs.declared.Cost.{Cost}
 
 -- the cost of no move
@@ -9,6 +9,10 @@ no_cost = record { a = 0; b = 0 }
 -- part by part
 abbrev pub add_costs : Cost → Cost → Cost
 add_costs p q = record { a = p.a + q.a; b = p.b + q.b }
+
+-- the costs are one
+abbrev pub is_same_cost : Cost → Cost → Bool
+is_same_cost p q = nat_eq p.a q.a && nat_eq p.b q.b
 
 -- what dx columns and dy rows cost where nothing is in the way
 abbrev pub octile_cost : ℕ → ℕ → Cost

@@ -1,7 +1,7 @@
 //! The length of eight decimals that stands for a cost, and the bucket that a cost belongs to, as scenarios
 //! tell them.
 //!
-//! Both are told by squares, within 128 bits: with k = 10^8·b, twice k√2 is the root of 8k², so the whole
+//! Both are found by squares, within 128 bits: with k = 10^8·b, twice k√2 is the root of 8k², so the whole
 //! number nearest to k√2 is the half of that root rounded down and 1, rounded down. It is never as near as
 //! another, as k√2 is no half of a whole number.
 
@@ -25,8 +25,8 @@ pub fn nearest_length(cost: Cost) -> Decimal
     }
 }
 
-/// The bucket of a cost: the quotient of its value, rounded down, by 4. It is told by the cost, as a length
-/// may be rounded up to a four. There is exactly one (`laws::bucket_is_one`).
+/// The bucket of a cost: the quotient of its value, rounded down, by 4. It is found from the cost, as a
+/// length may be rounded up to a four. There is exactly one (`laws::bucket_is_one`).
 pub fn bucket(cost: Cost) -> u32
     ensures { IsBucket cost result }
 {

@@ -12,7 +12,7 @@ use Rattle.grid_moves.specs.Grid.{GridData, is_free}
 use Rattle.grid_moves.specs.Move.{is_same, all_dirs}
 use Rattle.grid_moves.specs.Points.{estimate}
 use Rattle.pruning.specs.declared.Arrival.{Arrival}
-use Rattle.pruning.specs.Allowed.{is_allowed, allowed_dirs}
+use Rattle.pruning.specs.Allowed.{is_allowed, allowed_dirs, come_to}
 use Rattle.pruning.specs.Source.{StepsByCall, IsWithin, CanArrive}
 use Rattle.pruning.proofs.Packing.{few_kept}
 use Rattle.best_first.specs.declared.node.Node.{Node}
@@ -23,7 +23,7 @@ use Rattle.best_first.specs.State.{state_number, state_of_place}
 use Rattle.best_first.specs.Table.{Table, closed_at, IsFirstNode, NoneOpen}
 use Rattle.best_first.specs.Trace.{node_cell}
 use Rattle.search_core.specs.Counting.{IsCounted}
-use Rattle.search_core.specs.Jumps.{come_to, jump_links}
+use Rattle.search_core.specs.Jumps.{jump_links}
 use Rattle.search_core.specs.Jumping.{last_at, jumped, IsOffering, HasReached}
 use Rattle.search_core.specs.Answer.{IsExhausted}
 use Rattle.search_core.specs.Serving.{OnSome, OnEach}

@@ -1,4 +1,4 @@
--- What the jump engines' run answers is told by a function.
+-- What the jump engines' run answers is given by a function.
 use Rattle.grid_moves.specs.declared.Cell.{Cell}
 use Rattle.grid_moves.specs.Grid.{GridData}
 use Rattle.best_first.specs.declared.state.Layout.{Layout}

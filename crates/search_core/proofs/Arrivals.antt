@@ -5,6 +5,7 @@ use Rattle.grid_moves.specs.declared.Cell.{Cell}
 use Rattle.grid_moves.specs.declared.Dir.{Dir}
 use Rattle.grid_moves.specs.Grid.{GridData, is_free}
 use Rattle.grid_moves.specs.Move.{legal_ahead}
+use Rattle.pruning.specs.Allowed.{come_to}
 use Rattle.pruning.specs.Marked.{run_end}
 use Rattle.pruning.specs.Source.{CanArrive}
 use Rattle.pruning.proofs.Running.{run_walked}
@@ -13,7 +14,7 @@ use Rattle.search_run.proofs.Leastness.{least_offer-from}
 use Rattle.best_first.specs.declared.state.Layout.{Layout}
 use Rattle.best_first.specs.declared.state.State.{State}
 use Rattle.best_first.specs.State.{start_at, arrived_in}
-use Rattle.search_core.specs.Jumps.{come_to, jump_rule}
+use Rattle.search_core.specs.Jumps.{jump_rule}
 use Rattle.search_core.proofs.Links.{step_is, allowed_free, start_arrived}
 
 -- the last move of a run

@@ -2,6 +2,7 @@
 -- a least sum, and every such search ends right.
 use Rattle.std.proofs.Common.{◌≡◌, ℕ, inl, inr, refl, ap, sym, ◌∙◌, subst, true, false, List, [], ◌∷◌}
 use Rattle.std.specs.Prelude.{Option, Some, None, map, reverse}
+use Rattle.std.proofs.lemmas.Bool.{or_parts}
 use Rattle.root2_cost.specs.declared.Cost.{Cost}
 use Rattle.root2_cost.specs.Sums.{add_costs, no_cost}
 use Rattle.root2_cost.proofs.Most.{Most-then, Most-same, Most-add_right}
@@ -13,13 +14,14 @@ use Rattle.grid_moves.specs.Points.{estimate}
 use Rattle.grid_moves.specs.Walk.{NoWalk}
 use Rattle.grid_moves.specs.Reply.{StandsForLeast}
 use Rattle.grid_moves.proofs.Legal.{is_same-itself}
+use Rattle.pruning.specs.Allowed.{come_to}
 use Rattle.pruning.specs.Chain.{run_cost}
 use Rattle.pruning.specs.Explored.{Reached, IsOneOf, here, there, LeadsTo}
 use Rattle.pruning.proofs.Running.{run_walked}
 use Rattle.pruning.proofs.Stopping.{only_one_first_stop}
 use Rattle.search_run.specs.Run.{Rule, Taken, IsIn, IsNext, IsRun, has_goal, is_taken}
 use Rattle.search_run.specs.Run as run
-use Rattle.search_run.proofs.Leastness.{least_offer-from, no_goal, is_taken-member, relaxed, WaitsAt, or_false}
+use Rattle.search_run.proofs.Leastness.{least_offer-from, no_goal, is_taken-member, relaxed, WaitsAt}
 use Rattle.path_points.specs.declared.points.Walk.{Walk}
 use Rattle.best_first.specs.declared.found.Found.{Found}
 use Rattle.best_first.specs.declared.state.Layout.TheVariants.{ByCell}
@@ -27,7 +29,7 @@ use Rattle.best_first.specs.declared.state.State.{State}
 use Rattle.best_first.specs.State.{start_at, arrived_in, state_number}
 use Rattle.search_core.specs.AnyTies.{HasCell, IsOffered, IsLeastOffered, AreTaken, begun, further, IsBySuch}
 use Rattle.search_core.specs.Answer.{IsFound, IsExhausted, IsJumpRun}
-use Rattle.search_core.specs.Jumps.{come_in, come_to, jump_rule, state_at}
+use Rattle.search_core.specs.Jumps.{come_in, jump_rule, state_at}
 use Rattle.search_core.proofs.AnyTies.{any_ties_end_right}
 use Rattle.search_core.proofs.Arrivals.{shown}
 use Rattle.search_core.proofs.Links.{step_is, link_step, jump_is_link, allowed_free, run_arrived_so, start_arrived}
@@ -149,7 +151,7 @@ module _ (g : GridData) (s t : Cell) where
         least = λ z o.
             let w = offer_waits run is none z o in
             (Most-then (record {
-              is = (or_false _ _ (next.first (start_at z.state.cell) w.offer w.waits.untaken w.waits.offered)).0;
+              is = (or_parts _ _ (next.first (start_at z.state.cell) w.offer w.waits.untaken w.waits.offered)).0;
             })
             (Most-add_right (estimate z.state.cell t) w.offer.cost z.cost w.most)).is;
       }

@@ -15,7 +15,7 @@ use Rattle.grid_moves.specs.Points.{estimate}
 use Rattle.grid_moves.proofs.Legal.{and_both, free_inside, legal_is, is_same-cell, is_same-itself}
 use Rattle.grid_moves.proofs.Dirs.{dir_number-few}
 use Rattle.pruning.specs.declared.Arrival.{Arrival}
-use Rattle.pruning.specs.Allowed.{is_allowed}
+use Rattle.pruning.specs.Allowed.{is_allowed, come_to}
 use Rattle.pruning.specs.Chain.{run_cost}
 use Rattle.pruning.specs.First.{first_stop}
 use Rattle.pruning.specs.Marked.{run_end}
@@ -30,7 +30,7 @@ use Rattle.best_first.specs.declared.state.State.{State}
 use Rattle.best_first.specs.State.{start_at, state_in, arrived_in, is_seen, is_same_state, heading, arrival_number}
 use Rattle.best_first.proofs.States.{same_state, is_same_state-itself, is_same_state-state}
 use Rattle.best_first.specs.Rule.{AreLinks}
-use Rattle.search_core.specs.Jumps.{come_to, landing, jump_in, jump_link, jump_links}
+use Rattle.search_core.specs.Jumps.{landing, jump_in, jump_link, jump_links}
 
 -- what an option led on to
 passed : {A B : Type 0} (o : Option A) (f : A → Option B) (b : B) → option_and_then f o ≡ Some b
@@ -175,7 +175,7 @@ run_arrived_so ByCell u d k v h m =
     ap (λ (a : Option Dir). let s : State = record { cell = v; arrival = a } in s)
     (moved_heading d k u.cell v h m)
 
--- whether it is told by the state or by where it lies
+-- whether it is read from the state or from where it lies
 pub kept_arrived : (layout : Layout) (u s : State)
     → arrived_in layout u (state_in layout s) ≡ arrived_in layout u s
 kept_arrived ByArrival u s = refl

@@ -9,19 +9,20 @@ use Rattle.std.specs.Option.{option_map_or}
 use Rattle.std.proofs.lemmas.Option.{same_Some}
 use Rattle.root2_cost.specs.declared.Cost.{Cost}
 use Rattle.root2_cost.specs.Rank.{rank_of}
+use Rattle.root2_cost.proofs.Differences.{rank-add_costs}
 use Rattle.grid_moves.specs.declared.Cell.{Cell}
 use Rattle.grid_moves.specs.declared.Dir.{Dir}
-use Rattle.grid_moves.specs.declared.Dir.TheVariants.{N, NE, E, SE, S, SW, W, NW}
 use Rattle.grid_moves.specs.Grid.{GridData, IsGrid, is_free}
 use Rattle.grid_moves.specs.Move.{all_dirs, is_same}
+use Rattle.grid_moves.proofs.Dirs.{In, first as here_is, later as there_is, in_all}
 use Rattle.grid_moves.proofs.Legal.{free_inside, same_cell}
 use Rattle.grid_moves.proofs.Places.{number_below}
 use Rattle.pruning.specs.declared.Arrival.{Arrival}
-use Rattle.pruning.specs.Allowed.{is_allowed, allowed_dirs}
+use Rattle.pruning.specs.Allowed.{is_allowed, allowed_dirs, come_to}
 use Rattle.pruning.specs.Chain.{run_cost}
 use Rattle.pruning.specs.First.{first_stop}
 use Rattle.pruning.specs.Marked.{run_end}
-use Rattle.pruning.proofs.Running.{AreMoved, run_walked}
+use Rattle.pruning.proofs.Running.{AreMoved, moved_to, run_walked}
 use Rattle.pruning.proofs.Runs.{run_short}
 use Rattle.search_run.specs.Run.{Taken, here, least_offer}
 use Rattle.best_first.specs.declared.state.State.{State}
@@ -33,13 +34,12 @@ use Rattle.best_first.specs.Space.{SpaceData, IsPlaced}
 use Rattle.best_first.specs.Table.{Table, node_for, offered, ClosedBelow}
 use Rattle.best_first.specs.Ways.{Onward, IsAmong, first, later, with_onward, with_all}
 use Rattle.best_first.proofs.Links.{on_near}
-use Rattle.best_first.proofs.Offering.{rank-add_costs}
 use Rattle.best_first.proofs.Searching.{IsOver, closed_below, key_rises, one_more}
 use Rattle.best_first.specs.State.{state_in, arrived_in, is_same_state}
 use Rattle.best_first.proofs.States.{same_state, is_same_state-itself}
 use Rattle.best_first.proofs.Ways.{of_among, AreOfLinks, AreEnough, offers_after}
-use Rattle.search_core.specs.Jumps.{come_to, jump_link, jump_links, jump_rule}
-use Rattle.search_core.specs.Jumping.{offer_after, column_after, row_after, jumped_in, jumped, IsAt}
+use Rattle.search_core.specs.Jumps.{jump_link, jump_links, jump_rule}
+use Rattle.search_core.specs.Jumping.{offer_after, jumped_in, jumped, IsAt}
 use Rattle.search_core.specs.Jumping.{IsOffering}
 use Rattle.search_core.specs.declared.jumping.Last.{Last}
 use Rattle.search_core.proofs.Links.{IsLink, first_is, step_is, link_step, jump_is_link, jumps_are_links, allowed_free}
@@ -47,45 +47,25 @@ use Rattle.search_core.proofs.Links.{kept_of, kept_seen, kept_arrived, run_arriv
 use Rattle.search_core.proofs.Passing.{run_moves}
 use Rattle.search_core.proofs.Passing as passing
 
--- where the moves of a run lead to
-after_moved : (d : Dir) (k : ℕ) (u v : Cell) → AreMoved d k u v
-    → (column_after d k u.x ≡ v.x) × (row_after d k u.y ≡ v.y)
-after_moved d k u v h1 = grind (arith, nat_tests, common_steps)
-
--- the direction is one of these
-pub data IsOneOf (d : Dir) : List Dir → Type 0 where
-  now : (dirs : List Dir) → IsOneOf d (d ∷ dirs)
-  then : (e : Dir) (dirs : List Dir) → IsOneOf d dirs → IsOneOf d (e ∷ dirs)
-
-in_all : (d : Dir) → IsOneOf d all_dirs
-in_all N = now _
-in_all NE = then _ _ (now _)
-in_all E = then _ _ (then _ _ (now _))
-in_all SE = then _ _ (then _ _ (then _ _ (now _)))
-in_all S = then _ _ (then _ _ (then _ _ (then _ _ (now _))))
-in_all SW = then _ _ (then _ _ (then _ _ (then _ _ (then _ _ (now _)))))
-in_all W = then _ _ (then _ _ (then _ _ (then _ _ (then _ _ (then _ _ (now _))))))
-in_all NW = then _ _ (then _ _ (then _ _ (then _ _ (then _ _ (then _ _ (then _ _ (now _)))))))
-
 module _ (p : Dir → Bool) where
   -- those that pass a test pass it
   all_filter : (dirs : List Dir) → AllByRecursion (λ d. p d ≡ true) (filter p dirs)
   all_filter [] = tt
   all_filter (d ∷ dirs) = grind (arith, nat_tests, common_steps, all_filter dirs)
 
-  in_filter : (d : Dir) (dirs : List Dir) → p d ≡ true → IsOneOf d dirs → IsOneOf d (filter p dirs)
+  in_filter : (d : Dir) (dirs : List Dir) → p d ≡ true → In d dirs → In d (filter p dirs)
   in_filter d [] e i = elim i [ ]
-  in_filter d (c ∷ dirs) e (now _) = rw e (now (filter p dirs))
-  in_filter d (c ∷ dirs) e (then _ _ i) = by_test (p c) refl (in_filter d dirs e i)
+  in_filter d (c ∷ dirs) e (here_is _) = rw e (here_is (filter p dirs))
+  in_filter d (c ∷ dirs) e (there_is _ _ i) = by_test (p c) refl (in_filter d dirs e i)
     where
-      by_test : (b : Bool) → p c ≡ b → IsOneOf d (filter p dirs) → IsOneOf d (filter p (c ∷ dirs))
-      by_test true f j = rw f (then c (filter p dirs) j)
+      by_test : (b : Bool) → p c ≡ b → In d (filter p dirs) → In d (filter p (c ∷ dirs))
+      by_test true f j = rw f (there_is c (filter p dirs) j)
       by_test false f j = rw f j
 
 -- these are the allowed directions: each is allowed, and each allowed one is one of them
 pub record AreAllAllowed (g : GridData) (x : Cell) (by : Arrival) (dirs : List Dir) : Type 0 where
   pub each : AllByRecursion (λ d. is_allowed g x by d ≡ true) dirs
-  pub all : (d : Dir) → is_allowed g x by d ≡ true → IsOneOf d dirs
+  pub all : (d : Dir) → is_allowed g x by d ≡ true → In d dirs
 
 pub all_allowed : (g : GridData) (x : Cell) (by : Arrival) (dirs : List Dir) → dirs ≡ allowed_dirs g x by
     → AreAllAllowed g x by dirs
@@ -134,7 +114,7 @@ module _ (layout : Layout) (g : GridData) (s t : Cell) where
         let free = allowed_free g last.state d a in
         let run = run_walked g d n last.state.cell stop.cell free stop.reached in
         let moved = run.moved in
-        let after = after_moved d n last.state.cell stop.cell run.moved in
+        let after = moved_to d n last.state.cell stop.cell run.moved in
         grind (arith, nat_tests, common_steps, free_inside, same_state, same_cell, run_short)
 
     -- the state that was taken last, as it was come to
@@ -185,10 +165,10 @@ module _ (layout : Layout) (g : GridData) (s t : Cell) where
     ways_in (d ∷ dirs) = with_jump d (first_stop g t last.state.cell d) (ways_in dirs)
 
     each_among : (dirs : List Dir) (d : Dir) (n : ℕ) → first_stop g t last.state.cell d ≡ Some n
-        → IsOneOf d dirs → IsAmong (way_after d n) (ways_in dirs)
+        → In d dirs → IsAmong (way_after d n) (ways_in dirs)
     each_among [] d n e i = elim i [ ]
-    each_among (c ∷ dirs) d n e (now _) = rw e (first (ways_in dirs))
-    each_among (c ∷ dirs) d n e (then _ _ i) =
+    each_among (c ∷ dirs) d n e (here_is _) = rw e (first (ways_in dirs))
+    each_among (c ∷ dirs) d n e (there_is _ _ i) =
         by_stop (first_stop g t last.state.cell c) (each_among dirs d n e i)
       where
         by_stop : (o : Option ℕ) → IsAmong (way_after d n) (ways_in dirs)

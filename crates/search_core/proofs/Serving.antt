@@ -10,7 +10,7 @@ use Rattle.grid_moves.specs.declared.Dir.{Dir}
 use Rattle.grid_moves.specs.Grid.{GridData, is_free}
 use Rattle.grid_moves.specs.Move.{is_same}
 use Rattle.grid_moves.proofs.Legal.{is_same-cell}
-use Rattle.pruning.specs.Allowed.{is_allowed}
+use Rattle.pruning.specs.Allowed.{is_allowed, come_to}
 use Rattle.pruning.specs.First.{first_stop}
 use Rattle.pruning.specs.Source.{StepsByCall, IsWithin}
 use Rattle.pruning.specs.Stop.{IsFirstStop}
@@ -23,7 +23,6 @@ use Rattle.best_first.specs.Trace.{node_cell}
 use Rattle.best_first.specs.declared.node.Node.{Node}
 use Rattle.best_first.proofs.Mirrors.{some_node}
 use Rattle.best_first.specs.Ways.{with_all}
-use Rattle.search_core.specs.Jumps.{come_to}
 use Rattle.search_core.specs.Jumping.{offer_after, jumped_in, jumped, HasPlaces, IsSpaceOf, IsAt, IsOffering}
 use Rattle.search_core.specs.Serving.{OnSome, OnEach}
 use Rattle.search_core.specs.declared.jumping.Last.{Last}

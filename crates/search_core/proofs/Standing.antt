@@ -7,13 +7,14 @@ use Rattle.std.specs.Prelude.{Some, slice_get}
 use Rattle.std.proofs.lemmas.Option.{same_Some}
 use Rattle.root2_cost.specs.declared.Cost.{Cost}
 use Rattle.root2_cost.specs.Rank.{rank_of}
+use Rattle.root2_cost.proofs.Differences.{rank-add_costs}
 use Rattle.grid_moves.specs.declared.Cell.{Cell}
 use Rattle.grid_moves.specs.declared.Dir.{Dir}
 use Rattle.grid_moves.specs.Grid.{GridData, IsGrid}
 use Rattle.grid_moves.specs.Move.{is_same}
 use Rattle.grid_moves.specs.Points.{estimate}
 use Rattle.grid_moves.proofs.Legal.{free_inside}
-use Rattle.pruning.specs.Allowed.{allowed_dirs}
+use Rattle.pruning.specs.Allowed.{allowed_dirs, come_to}
 use Rattle.search_run.specs.Run.{here, least_offer}
 use Rattle.best_first.specs.declared.node.Node.{Node}
 use Rattle.best_first.specs.declared.state.State.{State}
@@ -26,10 +27,10 @@ use Rattle.best_first.specs.Trace.{HasBack, IsWayTo, node_cell}
 use Rattle.best_first.specs.Ways.{with_all}
 use Rattle.best_first.proofs.Answering.{found_back}
 use Rattle.best_first.specs.Node.{state_of}
-use Rattle.best_first.proofs.Offering.{rank-add_costs, in_cell}
+use Rattle.best_first.proofs.Offering.{in_cell}
 use Rattle.best_first.proofs.Searching.{taken_key}
 use Rattle.best_first.proofs.Progress.{has_begun, next_taken, exhausted, taken_fits, has_back, last_led}
-use Rattle.search_core.specs.Jumps.{come_to, jump_links, jump_rule}
+use Rattle.search_core.specs.Jumps.{jump_links, jump_rule}
 use Rattle.search_core.specs.Answer.{IsFound, IsExhausted}
 use Rattle.search_core.specs.Jumping.{IsSpaceOf, last_at, jumped, IsAt, IsOffering, HasReached}
 use Rattle.search_core.specs.Room.{HasPlaces}

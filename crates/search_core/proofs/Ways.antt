@@ -11,7 +11,7 @@ use Rattle.grid_moves.specs.declared.Cell.{Cell}
 use Rattle.grid_moves.specs.declared.Dir.{Dir}
 use Rattle.grid_moves.specs.Grid.{GridData}
 use Rattle.pruning.specs.declared.Arrival.{Arrival}
-use Rattle.pruning.specs.Allowed.{is_allowed}
+use Rattle.pruning.specs.Allowed.{is_allowed, come_to}
 use Rattle.pruning.specs.Chain.{start_state, run_cost, IsJump, IsChain, stays, jumps, last_state}
 use Rattle.pruning.specs.Chain.{State as Stop}
 use Rattle.pruning.proofs.Stopping.{only_one_first_stop}
@@ -24,7 +24,7 @@ use Rattle.best_first.specs.declared.state.State.{State}
 use Rattle.best_first.specs.State.{is_same_state, start_at, arrived_in}
 use Rattle.best_first.proofs.Links.{consistent}
 use Rattle.best_first.proofs.States.{is_same_state-state, is_same_state-itself}
-use Rattle.search_core.specs.Jumps.{come_to, come_in, state_at, jump_link, jump_links, jump_rule}
+use Rattle.search_core.specs.Jumps.{come_in, state_at, jump_link, jump_links, jump_rule}
 use Rattle.search_core.proofs.Arrivals.{shown}
 use Rattle.search_core.proofs.Links.{IsLink, step_is, jump_is_link, jumps_are_links, start_arrived}
 

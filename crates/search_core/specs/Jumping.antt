@@ -5,8 +5,8 @@ use Rattle.std.specs.Option.{option_map_or}
 use Rattle.root2_cost.specs.Rank.{rank_of}
 use Rattle.grid_moves.specs.declared.Cell.{Cell}
 use Rattle.grid_moves.specs.declared.Dir.{Dir}
-use Rattle.grid_moves.specs.declared.Dir.TheVariants.{N, NE, E, SE, S, SW, W, NW}
 use Rattle.grid_moves.specs.Grid.{GridData, IsGrid}
+use Rattle.grid_moves.specs.Move.{cell_after}
 use Rattle.pruning.specs.Chain.{run_cost}
 use Rattle.pruning.specs.First.{first_stop}
 use Rattle.search_run.specs.Run.{Taken}
@@ -36,34 +36,13 @@ pub record IsSpaceOf (layout : Layout) (g : GridData) (space : SpaceData) : Type
 abbrev pub last_at : Cell → ℕ → Node → Last
 last_at goal at n = record { at = at; rank = rank_left goal n; state = state_of_place n.place }
 
--- the column and the row after k moves
-abbrev pub column_after : Dir → ℕ → ℕ → ℕ
-column_after N k x = x
-column_after NE k x = x + k
-column_after E k x = x + k
-column_after SE k x = x + k
-column_after S k x = x
-column_after SW k x = x - k
-column_after W k x = x - k
-column_after NW k x = x - k
-
-abbrev pub row_after : Dir → ℕ → ℕ → ℕ
-row_after N k y = y - k
-row_after NE k y = y - k
-row_after E k y = y
-row_after SE k y = y + k
-row_after S k y = y + k
-row_after SW k y = y + k
-row_after W k y = y
-row_after NW k y = y - k
-
 -- the offer of the state that k moves in d lead to
 abbrev pub offer_after : Last → Dir → ℕ → Way
 offer_after last d k = record {
   rank = last.rank + rank_of (run_cost d k);
   parent = last.at;
   to = record {
-    cell = record { x = column_after d k last.state.cell.x; y = row_after d k last.state.cell.y };
+    cell = cell_after d k last.state.cell;
     arrival = Some d;
   };
 }

@@ -11,7 +11,7 @@ use Rattle.grid_moves.specs.Move.{is_same}
 use Rattle.grid_moves.specs.Examples.{pillar}
 use Rattle.pruning.specs.declared.Arrival.{Arrival}
 use Rattle.pruning.specs.declared.Arrival.TheVariants.{Start, By}
-use Rattle.pruning.specs.Allowed.{is_allowed}
+use Rattle.pruning.specs.Allowed.{come_to, is_allowed}
 use Rattle.pruning.specs.Chain.{run_cost}
 use Rattle.pruning.specs.Chain.{State as Stop}
 use Rattle.pruning.specs.First.{first_stop}
@@ -22,11 +22,6 @@ use Rattle.best_first.specs.declared.state.Layout.TheVariants.{ByCell}
 use Rattle.best_first.specs.declared.state.State.{State}
 use Rattle.best_first.specs.Rule.{Links, search_rule}
 use Rattle.best_first.specs.State.{start_at, state_in, arrived_in, is_seen, is_same_state}
-
--- how a search came to a state
-abbrev pub come_to : Option Dir → Arrival
-come_to None = Start
-come_to (Some d) = By d
 
 -- a state of a chain of jumps as a search has it
 abbrev pub come_in : Arrival → Option Dir
@@ -125,8 +120,8 @@ to_the_mark = refl
 pub mark_to_goal : jump_link gap_above (cell 3 3) (by SE 1 1) (by SE 3 3) ≡ Some (record { a = 0; b = 2 })
 mark_to_goal = refl
 
--- with one state for each cell the same jumps lead from cell to cell: how a cell was come to is told by where it
--- lies from the one before
+-- with one state for each cell the same jumps lead from cell to cell: how a cell was come to follows from
+-- where it lies from the one before
 pub on_by_cell : (jump_links ByCell (pillar Never) (cell 2 2)).step (start_at (cell 0 0)) (start_at (cell 2 0))
     (start_at (cell 2 2))
     ≡ Some (record { a = 2; b = 0 })

@@ -3,19 +3,19 @@
 ghost use Rattle.std.specs.Prelude.{◌≡◌, ℕ, ◌+◌, ◌-◌, ◌*◌, ◌<◌, ◌≤◌, ◌^◌, true, Some, length, slice_get, MatchOption};
 ghost use Rattle.std.specs.List.{AllByRecursion};
 ghost use Rattle.root2_cost.specs.Rank.{rank_of};
+ghost use Rattle.grid_moves.specs.Move.{column_after, row_after};
 ghost use Rattle.grid_moves.specs.Points.{estimate};
-ghost use Rattle.pruning.specs.Allowed.{is_allowed};
+ghost use Rattle.pruning.specs.Allowed.{come_to, is_allowed};
 ghost use Rattle.pruning.specs.Chain as chain;
 ghost use Rattle.pruning.specs.Source.{IsWithin};
 ghost use Rattle.best_first.specs.Space.{KeepsShape, layout_by};
 ghost use Rattle.best_first.specs.Trace.{node_cell};
-ghost use Rattle.search_core.specs.Jumps as jumps;
 ghost use Rattle.search_core.specs.Jumping as spec;
 ghost use Rattle.search_core.specs.Serving.{OnSome, OnEach};
 
 use best_first::{Layout, Offer, Space, State};
 use grid_moves::{Cell, Dir, dir_number};
-use pruning::{Arrival, JumpSource, Packed, is_diagonal};
+use pruning::{JumpSource, Packed, is_diagonal};
 use root2_cost::Cost;
 use std::sync::ledger::Ledger;
 use steps::Steps;
@@ -34,16 +34,6 @@ pub struct Last {
     pub at: u32,
     pub rank: u64,
     pub state: State,
-}
-
-// How a search came to a state.
-pub(crate) fn come_to(arrival: Option<Dir>) -> Arrival
-    ensures { result ≡ jumps.come_to arrival }
-{
-    match arrival {
-        Some(d) => Arrival::By(d),
-        None => Arrival::Start,
-    }
 }
 
 // What k moves in d cost.
@@ -73,7 +63,7 @@ const ROWS_AND_ONE: [u32; 8] = [0, 0, 1, 2, 2, 2, 1, 0];
 // One more than the columns by which a move in d leads to the east: the column after it, from column 1.
 #[inline(always)]
 fn columns_and_one(d: Dir) -> u32
-    ensures { result ≡ spec.column_after d 1 1 }
+    ensures { result ≡ column_after d 1 1 }
 {
     COLUMNS_AND_ONE[dir_number(d) as usize]
 }
@@ -81,7 +71,7 @@ fn columns_and_one(d: Dir) -> u32
 // One more than the rows by which a move in d leads to the south: the row after it, from row 1.
 #[inline(always)]
 fn rows_and_one(d: Dir) -> u32
-    ensures { result ≡ spec.row_after d 1 1 }
+    ensures { result ≡ row_after d 1 1 }
 {
     ROWS_AND_ONE[dir_number(d) as usize]
 }
@@ -90,7 +80,7 @@ fn rows_and_one(d: Dir) -> u32
 #[inline(always)]
 fn column_after(d: Dir, k: u16, x: u16) -> u16
     requires { x + k < 65536 }
-    ensures { result ≡ spec.column_after d k x }
+    ensures { result ≡ column_after d k x }
 {
     let k = u32::from(k);
     (u32::from(x) + k * columns_and_one(d)).saturating_sub(k) as u16
@@ -100,7 +90,7 @@ fn column_after(d: Dir, k: u16, x: u16) -> u16
 #[inline(always)]
 fn row_after(d: Dir, k: u16, y: u16) -> u16
     requires { y + k < 65536 }
-    ensures { result ≡ spec.row_after d k y }
+    ensures { result ≡ row_after d k y }
 {
     let k = u32::from(k);
     (u32::from(y) + k * rows_and_one(d)).saturating_sub(k) as u16
@@ -160,7 +150,7 @@ fn offer_jump<const BY_CELL: bool, J: JumpSource, L: Ledger, M: Ledger>(
     requires offering { OnEach (J.StandsFor j.now) query.from query.to
         (λ g. spec.IsOffering (layout_by BY_CELL) g query.from query.to last space.old) }
     requires allowed { OnEach (J.StandsFor j.now) query.from query.to
-        (λ g. is_allowed g last.state.cell (jumps.come_to last.state.arrival) d ≡ true) }
+        (λ g. is_allowed g last.state.cell (come_to last.state.arrival) d ≡ true) }
     requires room { 1 ≤ space.old.spare }
     ensures jumped { OnEach (J.StandsFor j.now) query.from query.to
         (λ g. space.new.table ≡ spec.jumped_in (layout_by BY_CELL) g query.to last d space.old.table) }
@@ -188,7 +178,7 @@ fn offer_all<const BY_CELL: bool, J: JumpSource, L: Ledger, M: Ledger>(
     requires offering { OnEach (J.StandsFor j.now) query.from query.to
         (λ g. spec.IsOffering (layout_by BY_CELL) g query.from query.to last space.old) }
     requires allowed { OnEach (J.StandsFor j.now) query.from query.to (λ g. AllByRecursion
-        (λ d. is_allowed g last.state.cell (jumps.come_to last.state.arrival) d ≡ true) dirs) }
+        (λ d. is_allowed g last.state.cell (come_to last.state.arrival) d ≡ true) dirs) }
     requires room { length dirs ≤ space.old.spare }
     ensures jumped { OnEach (J.StandsFor j.now) query.from query.to
         (λ g. space.new.table ≡ spec.jumped (layout_by BY_CELL) g query.to last dirs space.old.table) }
@@ -218,7 +208,7 @@ pub(crate) fn offer_jumps<J: JumpSource, L: Ledger, M: Ledger>(
     requires offering { OnEach (J.StandsFor j.now) query.from query.to
         (λ g. spec.IsOffering query.layout g query.from query.to last space.old) }
     requires allowed { OnEach (J.StandsFor j.now) query.from query.to (λ g. AllByRecursion
-        (λ d. is_allowed g last.state.cell (jumps.come_to last.state.arrival) d ≡ true) dirs) }
+        (λ d. is_allowed g last.state.cell (come_to last.state.arrival) d ≡ true) dirs) }
     requires room { length dirs ≤ space.old.spare }
     ensures jumped { OnEach (J.StandsFor j.now) query.from query.to
         (λ g. space.new.table ≡ spec.jumped query.layout g query.to last dirs space.old.table) }

@@ -23,11 +23,11 @@ ghost use Rattle.search_core.specs.Jumping.{IsSpaceOf, HasReached, GoesOnFrom};
 ghost use Rattle.search_core.specs.Room.{HasPlaces};
 ghost use Rattle.search_core.specs.Serving.{OnSome, OnEach};
 
-use crate::jumping::{Query, come_to, last_at, offer_jumps};
+use crate::jumping::{Query, last_at, offer_jumps};
 use crate::{NoMemory, Taken};
 use best_first::{Found, Layout, Node, Space, State};
 use grid_moves::Cell;
-use pruning::JumpSource;
+use pruning::{JumpSource, come_to};
 use std::alloc::Global;
 use std::marker::Brand;
 use std::sync::ledger::{Blank, Ledger};

@@ -5,6 +5,7 @@ use Rattle.std.proofs.Common.{false, ◌||◌, ◌&&◌, List, [], ◌∷◌, le
 use Rattle.std.proofs.lemmas.Bool.Decides.{nat_tests}
 use Rattle.std.specs.Prelude.{Option, Some, None, if◌then◌else◌, nat_eq, nat_lt}
 use Rattle.std.specs.Option.{option_map_or}
+use Rattle.std.proofs.lemmas.Bool.{false_from_ne_true}
 use Rattle.root2_cost.specs.declared.Cost.{Cost}
 use Rattle.root2_cost.specs.Order.{is_less, IsLess}
 use Rattle.root2_cost.proofs.Less.{IsLess-irreflexive, IsLess-trans, same_cost}
@@ -52,21 +53,17 @@ before-irreflexive : (p : Cost) (n : ℕ) → IsBefore p p n n → ⊥
 before-irreflexive p n (by_sum l) = IsLess-irreflexive p l
 before-irreflexive p n (by_number e l) = omega arith
 
-not_true : (b : Bool) → (b ≡ true → ⊥) → b ≡ false
-not_true true h = absurd (h refl)
-not_true false h = refl
-
 module _ {S : Type 0} (r : Rule S) where
   -- no state goes before itself
   not_before_itself : (s : S) (c : Cost) → goes_before r s c s c ≡ false
-  not_before_itself s c = not_true (goes_before r s c s c) (λ h.
+  not_before_itself s c = false_from_ne_true (goes_before r s c s c) (λ h.
       before-irreflexive (sum_at r s c) (r.number s)
       (is_before (sum_at r s c) (sum_at r s c) (r.number s) (r.number s) h))
 
   -- what does not go before the later state does not go before the earlier
   not_before_earlier : (s t u : S) (c d e : Cost) → goes_before r t d u e ≡ true
       → goes_before r s c u e ≡ false → goes_before r s c t d ≡ false
-  not_before_earlier s t u c d e h n = not_true (goes_before r s c t d) (λ g.
+  not_before_earlier s t u c d e h n = false_from_ne_true (goes_before r s c t d) (λ g.
       let all : goes_before r s c u e ≡ true =
       before-is (sum_at r s c) (sum_at r u e) (r.number s) (r.number u)
       (before-trans (sum_at r s c) (sum_at r t d) (sum_at r u e) (r.number s) (r.number t) (r.number u)

@@ -3,6 +3,7 @@
 use Rattle.std.proofs.Common.{◌≡◌, ◌⊎◌, inl, inr, refl, ap, sym, ◌∙◌, subst, Bool, true, false, ◌||◌, List}
 use Rattle.std.proofs.Common.{[], ◌∷◌}
 use Rattle.std.specs.Prelude.{Option, Some, None}
+use Rattle.std.proofs.lemmas.Bool.{or_parts, or_right}
 use Rattle.root2_cost.specs.declared.Cost.{Cost}
 use Rattle.root2_cost.specs.Order.{IsAtMost, IsLess}
 use Rattle.root2_cost.proofs.AtMost.{IsAtMost-not_more}
@@ -47,15 +48,6 @@ abbrev pub IsRelaxed : {S : Type 0} → Rule S → List (Taken S) → Type 0
 IsRelaxed {S} r run = (u : Taken S) (v : S) (c : Cost) → IsIn u run → r.is_goal u.state ≡ false
     → r.link u.parent u.state v ≡ Some c → IsKnown r run v (add_costs u.cost c)
 
-pub or_false : (a b : Bool) → (a || b) ≡ false → (a ≡ false) × (b ≡ false)
-or_false true b e = absurd (cc)
-or_false false true e = absurd (cc)
-or_false false false e = (refl, refl)
-
-pub or_true : (a b : Bool) → b ≡ true → (a || b) ≡ true
-or_true true b e = refl
-or_true false b e = e
-
 offer_cost : {S : Type 0} → Option (Offer S) → Cost
 offer_cost None = no_cost
 offer_cost (Some o) = o.cost
@@ -87,7 +79,7 @@ module _ {S : Type 0} (r : Rule S) (fit : IsConsistent r) where
   is_taken-member [] u m = elim m [ ]
   is_taken-member (x ∷ earlier) u (here e) = rw (fit.itself x.state) refl
   is_taken-member (x ∷ earlier) u (there z e m) =
-      or_true (r.is_same x.state u.state) (is_taken r earlier u.state) (is_taken-member earlier u m)
+      or_right (r.is_same x.state u.state) (is_taken r earlier u.state) (is_taken-member earlier u m)
 
   -- a state that is among the taken ones was taken
   pub taken_state : (run : List (Taken S)) (s : S) → is_taken r run s ≡ true
@@ -105,9 +97,9 @@ module _ {S : Type 0} (r : Rule S) (fit : IsConsistent r) where
   pub no_goal : (run : List (Taken S)) (u : Taken S) → has_goal r run ≡ false → IsIn u run
       → r.is_goal u.state ≡ false
   no_goal [] u g m = elim m [ ]
-  no_goal (x ∷ earlier) u g (here e) = (or_false (r.is_goal x.state) (has_goal r earlier) g).0
+  no_goal (x ∷ earlier) u g (here e) = (or_parts (r.is_goal x.state) (has_goal r earlier) g).0
   no_goal (x ∷ earlier) u g (there z e m) =
-      no_goal earlier u (or_false (r.is_goal x.state) (has_goal r earlier) g).1 m
+      no_goal earlier u (or_parts (r.is_goal x.state) (has_goal r earlier) g).1 m
 
   -- a link never lowers the sum
   pub link_rises : (p u v : S) (b c : Cost) → r.link p u v ≡ Some c
@@ -127,7 +119,7 @@ module _ {S : Type 0} (r : Rule S) (fit : IsConsistent r) where
     -- the next state, where sums rose so far
     next_taken : SumsRise r earlier → IsNext r earlier x → IsTakenNext
     next_taken rise n = record {
-      first = λ s o w. record { is = (or_false _ _ (n.first s o w.untaken w.offered)).0 };
+      first = λ s o w. record { is = (or_parts _ _ (n.first s o w.untaken w.offered)).0 };
       at_least_offer = λ o w. one_cost (least_offer r earlier x.state) o
           (record { cost = x.cost; from = x.parent }) w.offered n.offered;
       rises = λ u m. rise u x.state (record { cost = x.cost; from = x.parent }) m
@@ -139,7 +131,7 @@ module _ {S : Type 0} (r : Rule S) (fit : IsConsistent r) where
         → Waits r earlier s o ⊎ ((c : Cost) × (r.link x.parent x.state s ≡ Some c) × (o.cost ≡ add_costs x.cost c))
     waited s o w = elim (lesser-one (least_offer r earlier s) (offer r x s) o w.offered) [
       | inl e ↦ inl (record {
-        untaken = (or_false (r.is_same x.state s) (is_taken r earlier s) w.untaken).1;
+        untaken = (or_parts (r.is_same x.state s) (is_taken r earlier s) w.untaken).1;
         offered = e;
       })
       | inr e ↦ inr (let m = offer-made r x s o e in (m.step, m.linked, m.total))
@@ -377,7 +369,7 @@ module _ {S : Type 0} (r : Rule S) (fit : IsConsistent r) where
   lower_taken start t x (y ∷ earlier) d is chain less = by_test (is_taken r (y ∷ earlier) t) refl
     where
       by_test : (b : Bool) → is_taken r (y ∷ earlier) t ≡ b → is_taken r (x ∷ y ∷ earlier) t ≡ true
-      by_test true e = or_true (r.is_same x.state t) (is_taken r (y ∷ earlier) t) e
+      by_test true e = or_right (r.is_same x.state t) (is_taken r (y ∷ earlier) t) e
       by_test false e = absurd (IsAtMost-not_more (sum_at r x.state x.cost) (sum_at r t d)
           (next_below start t x (y ∷ earlier) d is.0 is.1 is.2 e chain).is less)
 

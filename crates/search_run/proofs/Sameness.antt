@@ -3,12 +3,13 @@ use Rattle.std.proofs.Common.{◌≡◌, ℕ, ◌⊎◌, inl, inr, refl, ap, sym
 use Rattle.std.proofs.Common.{[], ◌∷◌, arith}
 use Rattle.std.specs.Prelude.{Option, Some, None, nat_eq, nat_lt}
 use Rattle.std.proofs.lemmas.Bool.Decides.{nat_tests}
+use Rattle.std.proofs.lemmas.Bool.{or_parts}
 use Rattle.root2_cost.specs.declared.Cost.{Cost}
 use Rattle.root2_cost.proofs.AtMost.{IsAtMost-antisymmetric}
 use Rattle.search_run.specs.Run.{Rule, Taken, Offer, IsNext, IsRun, least_offer, sum_at}
 use Rattle.search_run.specs.Ended.{IsEnded}
 use Rattle.search_run.specs.Laws.{NumbersTellStates}
-use Rattle.search_run.proofs.Leastness.{least_offer-from, or_false}
+use Rattle.search_run.proofs.Leastness.{least_offer-from}
 
 -- the second list is the first with more before it
 data Extends {X : Type 0} (xs : List X) : List X → Type 0 where
@@ -54,8 +55,8 @@ module _ {S : Type 0} (r : Rule S) (tell : NumbersTellStates r) where
   -- one state is next
   same_next : (earlier : List (Taken S)) (x y : Taken S) → IsNext r earlier x → IsNext r earlier y → x ≡ y
   same_next earlier x y n m =
-      let a = or_false _ _ (n.first y.state (record { cost = y.cost; from = y.parent }) m.waits m.offered) in
-      let b = or_false _ _ (m.first x.state (record { cost = x.cost; from = x.parent }) n.waits n.offered) in
+      let a = or_parts _ _ (n.first y.state (record { cost = y.cost; from = y.parent }) m.waits m.offered) in
+      let b = or_parts _ _ (m.first x.state (record { cost = x.cost; from = x.parent }) n.waits n.offered) in
       let sums : sum_at r x.state x.cost ≡ sum_at r y.state y.cost =
       IsAtMost-antisymmetric (sum_at r x.state x.cost) (sum_at r y.state y.cost) a.0 b.0 in
       let numbers : r.number x.state ≡ r.number y.state = equal_numbers (r.number x.state) (r.number y.state)

@@ -1,4 +1,4 @@
-//! What small maps on squared paper are told by.
+//! What small maps on squared paper are written with.
 
 use grid_moves::{Cell, Corner};
 

@@ -61,8 +61,8 @@ fn is_answer(
     )
 }
 
-// The same with one state for each cell, where it is told by the number of the arrival that it has when it is
-// taken.
+// The same with one state for each cell, where it is named by the number of the arrival that it has when
+// it is taken.
 fn is_answer_by_cell(
     alloc: Global,
     grid: &Grid,

@@ -32,7 +32,7 @@ first_other-below place (entry ∷ entries) bytes found is =
     (λ later. let less = first_other-below (place + 1) entries (drop 2 bytes) found later in omega arith)
     (omega arith) is
 
--- the first entry that differs, told by the tables' entries
+-- the first entry that differs, by the tables' entries
 pub compared_by : (land water g : GridData) (t : TablesData) (layer : Ground) (bytes : List ℕ)
     → g ≡ (if is_ground Water layer then water else land) → AreTablesOf t g → IsWhole t → (entries : List ℤ)
     → entries ≡ t.entries → (found : Option ℕ) → found ≡ first_other 0 entries bytes

@@ -18,7 +18,7 @@ by_test : (b : Bool) (tell : ℕ → Spot) (s : Spot) (place : ℕ) (x : Option 
     → x ≡ option_map tell y → (if b then x else Some s) ≡ option_map tell (if b then y else Some place)
 by_test b tell s place x y h i = grind (arith, nat_tests)
 
--- what the first entry that differs is for is told by its place
+-- what the first entry that differs is for follows from its place
 pub wrong_named : (tell : ℕ → Spot) (entry : Spot → ℤ) (place : ℕ) (spots : List Spot) (bytes : List ℕ)
     → AreNumbered tell place spots
     → first_wrong entry spots bytes ≡ option_map tell (first_other place (map entry spots) bytes)

@@ -7,12 +7,12 @@ use Rattle.std.proofs.lemmas.Bool.Decides.{nat_tests}
 use Rattle.grid_moves.specs.declared.Dir.TheVariants.{N}
 use Rattle.grid_moves.specs.declared.Ground.{Ground}
 use Rattle.grid_moves.specs.declared.Ground.TheVariants.{Water}
-use Rattle.grid_moves.specs.Grid.{GridData, is_ground, is_inside}
+use Rattle.grid_moves.specs.Grid.{GridData, cell_numbered, is_ground, is_inside}
 use Rattle.grid_moves.specs.Move.{all_dirs}
 use Rattle.plus_tables.specs.Entry.{table_entry}
 use Rattle.plus_tables.specs.Tables.{TablesData, AreTablesOf, IsWhole, entry_place}
 use Rattle.table_file.specs.Encoding.{entry_for}
-use Rattle.table_file.specs.Order.{cell_of, cells_from, spots_at, spots_on}
+use Rattle.table_file.specs.Order.{cells_from, spots_at, spots_on}
 use Rattle.table_file.specs.Reading.{spot_of}
 
 -- the list is what a function of the place tells, from a place on
@@ -32,14 +32,14 @@ numbered-append tell place (x ∷ xs) ys first second =
     )
 
 spots_at-numbered : (layer : Ground) (width n place : ℕ) → place ≡ n * 8
-    → AreNumbered (spot_of layer width) place (spots_at layer (cell_of width n))
+    → AreNumbered (spot_of layer width) place (spots_at layer (cell_numbered width n))
 spots_at-numbered layer width n place is = grind (arith, nat_tests)
 
 pub spots-numbered : (layer : Ground) (width n place count : ℕ) → place ≡ n * 8
     → AreNumbered (spot_of layer width) place (spots_on layer (cells_from width n count))
 spots-numbered layer width n place zero is = tt
 spots-numbered layer width n place (suc count) is =
-    numbered-append (spot_of layer width) place (spots_at layer (cell_of width n))
+    numbered-append (spot_of layer width) place (spots_at layer (cell_numbered width n))
     (spots_on layer (cells_from width (n + 1) count)) (spots_at-numbered layer width n place is)
     (spots-numbered layer width (n + 1) (place + 8) count (omega arith))
 
@@ -47,10 +47,10 @@ pub length-spots : (layer : Ground) (width n count : ℕ)
     → length (spots_on layer (cells_from width n count)) ≡ count * 8
 length-spots layer width n zero = refl
 length-spots layer width n (suc count) =
-    length-append (spots_at layer (cell_of width n)) (spots_on layer (cells_from width (n + 1) count))
+    length-append (spots_at layer (cell_numbered width n)) (spots_on layer (cells_from width (n + 1) count))
     ∙ (let others = length-spots layer width (n + 1) count in omega arith)
 
--- a list whose elements are told by what stands at their places in the other list is its image
+-- a list whose elements follow from what stands at their places in the other list is its image
 pub listed : {A B : Type 0} → (tell : ℕ → A) (f : A → B) (d : B) (list : List B) (place : ℕ) (spots : List A)
     → AreNumbered tell place spots → place + length spots ≡ length list
     → ((k : ℕ) → k < length list → slice_index_or list k d ≡ f (tell k)) → drop place list ≡ map f spots
@@ -62,14 +62,14 @@ listed {B = B} tell f d list place (s ∷ spots) numbered all stands =
     ∙ ap (λ (bs : List B). f s ∷ bs) (listed tell f d list (place + 1) spots numbered.1 (omega arith) stands)
 
 place_back : (width place : ℕ)
-    → entry_place width (cell_of width (place / 8)) (slice_index_or all_dirs (place % 8) N) ≡ place
+    → entry_place width (cell_numbered width (place / 8)) (slice_index_or all_dirs (place % 8) N) ≡ place
 place_back width place = grind (arith, nat_tests)
 
 number_inside : (place cells : ℕ) → place < cells * 8 → place / 8 < cells
 number_inside place cells below = omega arith
 
 inside_of : (g : GridData) (number : ℕ) → 0 < g.width → number < g.height * g.width
-    → is_inside g (cell_of g.width number) ≡ true
+    → is_inside g (cell_numbered g.width number) ≡ true
 inside_of g number some below = grind (arith, nat_tests)
 
 entry_there : (t : TablesData) (g : GridData) → AreTablesOf t g → (layer : Ground) (place : ℕ)

@@ -1,9 +1,10 @@
 -- The order of the entries in a table file.
-use Rattle.std.specs.Prelude.{ℕ, zero, suc, ◌+◌, ◌*◌, ◌/◌, ◌%◌, List, [], ◌∷◌, ◌++◌, map, flat_map}
+use Rattle.std.specs.Prelude.{ℕ, zero, suc, ◌+◌, ◌*◌, List, [], ◌∷◌, ◌++◌, map, flat_map}
 use Rattle.grid_moves.specs.declared.Cell.{Cell}
 use Rattle.grid_moves.specs.declared.Dir.{Dir}
 use Rattle.grid_moves.specs.declared.Ground.{Ground}
 use Rattle.grid_moves.specs.declared.Ground.TheVariants.{Land, Water}
+use Rattle.grid_moves.specs.Grid.{cell_numbered}
 use Rattle.grid_moves.specs.Move.{all_dirs}
 
 -- what an entry is for: one of a map's two grids, a cell and a direction
@@ -15,14 +16,10 @@ pub record Spot : Type 0 where
 abbrev pub spot : Ground → Cell → Dir → Spot
 spot layer cell dir = record { layer = layer; cell = cell; dir = dir }
 
--- the cell with this number
-abbrev pub cell_of : ℕ → ℕ → Cell
-cell_of width number = record { x = number % width; y = number / width }
-
 -- so many cells by their numbers, from one on
 abbrev pub cells_from : ℕ → ℕ → ℕ → List Cell
 cells_from width number zero = []
-cells_from width number (suc count) = cell_of width number ∷ cells_from width (number + 1) count
+cells_from width number (suc count) = cell_numbered width number ∷ cells_from width (number + 1) count
 
 -- for a cell, each direction in increasing order
 abbrev pub spots_at : Ground → Cell → List Spot

@@ -5,8 +5,9 @@ use Rattle.std.specs.Str.{bytes_eq}
 use Rattle.grid_moves.specs.declared.Dir.TheVariants.{N}
 use Rattle.grid_moves.specs.declared.Ground.{Ground}
 use Rattle.grid_moves.specs.Move.{all_dirs}
+use Rattle.grid_moves.specs.Grid.{cell_numbered}
 use Rattle.table_file.specs.Encoding.{entry_bytes}
-use Rattle.table_file.specs.Order.{Spot, cell_of, spot}
+use Rattle.table_file.specs.Order.{Spot, spot}
 
 -- the place, where the first has this one, of the first entry whose two bytes are others than the next two
 abbrev pub first_other : ℕ → List ℤ → List ℕ → Option ℕ
@@ -18,4 +19,4 @@ first_other place (entry ∷ entries) bytes =
 -- what the entry at a place, from 0, of a grid's tables is for
 abbrev pub spot_of : Ground → ℕ → ℕ → Spot
 spot_of layer width place =
-    spot layer (cell_of width (place / 8)) (slice_index_or all_dirs (place % 8) N)
+    spot layer (cell_numbered width (place / 8)) (slice_index_or all_dirs (place % 8) N)

@@ -4,6 +4,7 @@ use Rattle.std.proofs.Common.{sym, ◌∙◌}
 use Rattle.std.proofs.Common.{◌||◌, List, [], ◌∷◌, ◌++◌, length}
 use Rattle.std.specs.Prelude.{Option, Some, None, option_and_then}
 use Rattle.std.specs.Option.{option_to_list}
+use Rattle.std.proofs.lemmas.Bool.{or_parts, or_left, or_right, or_from, or_cases}
 use Rattle.grid_moves.specs.declared.Cell.{Cell}
 use Rattle.grid_moves.specs.declared.Dir.{Dir}
 use Rattle.grid_moves.specs.Grid.{GridData}
@@ -17,7 +18,6 @@ use Rattle.table_repair.specs.Mending.{cell_after}
 use Rattle.table_repair.proofs.Lines.{after_before}
 use Rattle.table_repair.proofs.Mends.{mends_wider, mends_then, nothing_mended, still_mended, right_stays}
 use Rattle.table_repair.proofs.Mends.{ready_stays, follow_more}
-use Rattle.table_repair.proofs.Walking.{or_false, false_or, or_left, or_right}
 
 -- `||` of three, none of which holds
 or_joined : (a b c : Bool) → (a || (b || c)) ≡ false → ((a || b) || c) ≡ false
@@ -62,10 +62,6 @@ at_next next w a = is_same-cell w next.at (first (is_same w next.at) a)
     first : (a : Bool) → (a || false) ≡ true → a ≡ true
     first true h = refl
     first false h = h
-
-pub or_either : (a b : Bool) → (a || b) ≡ true → (a ≡ true) ⊎ (b ≡ true)
-or_either true b h = inl refl
-or_either false b h = inr h
 
 -- what lies behind a cell that was reached lies behind its start
 mended_further : {h : GridData} {d : Dir} {starts piece : Cell → Bool} {now new : TablesData} {n m : ℕ}
@@ -121,7 +117,7 @@ module _ {h : GridData} {d : Dir} (v : Cell) {old new : TablesData} (walks : Lis
     (onward : (next : WalkBack) → on ≡ Some next → IsOnward h new d v next.at) where
   either_one : (w : Cell) → is_at_one (walks ++ option_to_list on) w ≡ true
       → (is_at_one walks w ≡ true) ⊎ (is_at_one (option_to_list on) w ≡ true)
-  either_one w k = or_either (is_at_one walks w) (is_at_one (option_to_list on) w)
+  either_one w k = or_cases (is_at_one walks w) (is_at_one (option_to_list on) w)
       (sym (at_both walks (option_to_list on) w) ∙ k)
 
   onward_at : (o : Option WalkBack) → ((next : WalkBack) → o ≡ Some next → IsOnward h new d v next.at)
@@ -197,7 +193,7 @@ pub abreast_ends : {h : GridData} {d : Dir} {starts : Cell → Bool} {old now : 
     {walks : List WalkBack} {n : ℕ}
     → KeepAbreast h d starts old now walks no_cell n → walks ≡ [] → Sweeps h d starts old now
 abreast_ends {walks = walks} abreast e later f =
-    follow_more (λ w k. false_or (is_at_one walks w) (later w) (none w) k) (abreast.follows later f)
+    follow_more (λ w k. or_from (is_at_one walks w) (later w) (none w) k) (abreast.follows later f)
   where
     none : (w : Cell) → is_at_one walks w ≡ false
     none w = rw e refl
@@ -221,10 +217,10 @@ abreast_then {walks = walks} {left = left} {piece = piece} {rest = rest} first r
     wider : (w : Cell) (later : Cell → Bool) → (piece w || (rest w || later w)) ≡ false
         → (is_at_one walks w || (left w || later w)) ≡ false
     wider w later k =
-        let p = or_false (piece w) (rest w || later w) k in
-        let q = or_false (rest w) (later w) p.1 in
-        let r = or_false (is_at_one walks w) (left w) (split w p.0 q.0) in
-        false_or (is_at_one walks w) (left w || later w) r.0 (false_or (left w) (later w) r.1 q.1)
+        let p = or_parts (piece w) (rest w || later w) k in
+        let q = or_parts (rest w) (later w) p.1 in
+        let r = or_parts (is_at_one walks w) (left w) (split w p.0 q.0) in
+        or_from (is_at_one walks w) (left w || later w) r.0 (or_from (left w) (later w) r.1 q.1)
 
 -- a stretch beside which other cells wait
 pub abreast_beside : {h : GridData} {d : Dir} {starts : Cell → Bool} (row : Cell → Bool)
@@ -249,9 +245,9 @@ left_less {left = left} {rest = rest} {walks = walks} abreast less = record {
   mended = abreast.mended;
   mends = abreast.mends;
   follows = λ later f. follow_more (λ w k.
-      let p = or_false (is_at_one walks w) (rest w || later w) k in
-      let q = or_false (rest w) (later w) p.1 in
-      false_or (is_at_one walks w) (left w || later w) p.0 (false_or (left w) (later w) (less w q.0) q.1))
+      let p = or_parts (is_at_one walks w) (rest w || later w) k in
+      let q = or_parts (rest w) (later w) p.1 in
+      or_from (is_at_one walks w) (left w || later w) p.0 (or_from (left w) (later w) (less w q.0) q.1))
       (abreast.follows later f);
 }
 
@@ -267,7 +263,7 @@ enter_next {h} {d} {all} {row} {left} {rest} {old} {now} {new} {walks} {onward} 
     abreast_then abreast reached apart second
   where
     reached : (w : Cell) → (is_at_one walks w || row w) ≡ true → IsMended h now d all n w
-    reached w k = elim (or_either (is_at_one walks w) (row w) k) [
+    reached w k = elim (or_cases (is_at_one walks w) (row w) k) [
       | inl i ↦ abreast.mended w i
       | inr i ↦ begins w (right w i) (within w i)
     ]
@@ -275,8 +271,8 @@ enter_next {h} {d} {all} {row} {left} {rest} {old} {now} {new} {walks} {onward} 
     apart : (w : Cell) → (is_at_one walks w || row w) ≡ false → rest w ≡ false
         → (is_at_one walks w || left w) ≡ false
     apart w k r =
-        let p = or_false (is_at_one walks w) (row w) k in
-        false_or (is_at_one walks w) (left w) p.0 (split w p.1 r)
+        let p = or_parts (is_at_one walks w) (row w) k in
+        or_from (is_at_one walks w) (left w) p.0 (split w p.1 r)
 
 -- nothing has begun
 pub enter_none : {h : GridData} {d : Dir} {all : Cell → Bool} {t : TablesData} {walks : List WalkBack}
@@ -294,4 +290,4 @@ pub enter_ends : {h : GridData} {d : Dir} {all left : Cell → Bool} {old now ne
     → ((w : Cell) → left w ≡ false) → KeepAbreast h d (is_at_one walks) now new onward no_cell m
     → KeepAbreast h d all old new onward no_cell (n + m)
 enter_ends {left = left} {walks = walks} first none second =
-    abreast_then first first.mended (λ w k l. false_or (is_at_one walks w) (left w) k (none w)) second
+    abreast_then first first.mended (λ w k l. or_from (is_at_one walks w) (left w) k (none w)) second

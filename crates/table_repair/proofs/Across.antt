@@ -2,6 +2,7 @@
 use Rattle.std.proofs.lemmas.Bool.Decides.{nat_tests}
 use Rattle.std.proofs.Common.{◌≡◌, ℕ, ◌+◌, ◌<◌, ◌≤◌, arith, Bool, true, false, refl, sym, ◌∙◌, ◌&&◌}
 use Rattle.std.specs.Prelude.{Some, nat_eq, if◌then◌else◌}
+use Rattle.std.proofs.lemmas.Bool.{and_from, false_from_ne_true}
 use Rattle.grid_moves.specs.declared.Cell.{Cell}
 use Rattle.grid_moves.specs.declared.Dir.{Dir}
 use Rattle.grid_moves.specs.Grid.{GridData, IsGrid, is_inside}
@@ -15,7 +16,7 @@ use Rattle.table_repair.specs.Lines.{is_on_line, is_across}
 use Rattle.table_repair.specs.Mending.{Mends, CanSweep, Sweeps, is_among, is_in}
 use Rattle.table_repair.proofs.Mends.{mends_wider, follow_more}
 use Rattle.table_repair.proofs.Sweeping.{IsTaken, among_parts, among_from, same_number, number_same}
-use Rattle.table_repair.proofs.Walking.{and_true, not_true, true_false}
+use Rattle.table_repair.proofs.Walking.{true_false}
 
 pub line_inside : (h : GridData) (d : Dir) (w : Cell) → is_inside h w ≡ true → line_of d w < lines_of h d
 line_inside h d w i = by_way (is_sideways d)
@@ -74,7 +75,7 @@ on_map h d line places w low narrow i =
 module _ (d : Dir) (line place : ℕ) (places : Span) {v : Cell} (is : v ≡ cell_on d line place) where
   -- the cell at a place
   pub cell_there : is_among places place ≡ true → is_on_line d line places v ≡ true
-  cell_there i = rw is (and_true (nat_eq (line_of d (cell_on d line place)) line)
+  cell_there i = rw is (and_from (nat_eq (line_of d (cell_on d line place)) line)
       (is_among places (place_of d (cell_on d line place))) (rw line_there (same_number line))
       (rw place_there i))
     where
@@ -96,11 +97,11 @@ module _ (d : Dir) (line place : ℕ) (places : Span) {v : Cell} (is : v ≡ cel
   pub place_or_rest : (w : Cell) → is_same w v ≡ false
       → is_on_line d line (from_place (place + 1) places) w ≡ false
       → is_on_line d line (from_place place places) w ≡ false
-  place_or_rest w s r = not_true (is_on_line d line (from_place place places) w) (λ i.
+  place_or_rest w s r = false_from_ne_true (is_on_line d line (from_place place places) w) (λ i.
       let p = on_parts d line (from_place place places) w i in
       let q = among_parts (from_place place places) (place_of d w) p.1 in
       by_place (nat_eq (place_of d w) place) (λ f. one_cell w p.0 (number_same (place_of d w) place f))
-      (λ a. and_true (nat_eq (line_of d w) line) (is_among (from_place (place + 1) places) (place_of d w))
+      (λ a. and_from (nat_eq (line_of d w) line) (is_among (from_place (place + 1) places) (place_of d w))
       (rw p.0 (same_number line)) (among_from (from_place (place + 1) places) (place_of d w) a q.1)) refl q.0)
     where
       by_place : (b : Bool) → (nat_eq (place_of d w) place ≡ true → w ≡ v)
@@ -111,7 +112,7 @@ module _ (d : Dir) (line place : ℕ) (places : Span) {v : Cell} (is : v ≡ cel
 -- past the last place none is left
 pub none_after : (d : Dir) (line place : ℕ) (places : Span) (w : Cell) → places.end ≤ place
     → is_on_line d line (from_place place places) w ≡ false
-none_after d line place places w past = not_true (is_on_line d line (from_place place places) w) (λ i.
+none_after d line place places w past = false_from_ne_true (is_on_line d line (from_place place places) w) (λ i.
     let p = on_parts d line (from_place place places) w i in
     let q = among_parts (from_place place places) (place_of d w) p.1 in
     let l = q.0 in let m = q.1 in omega arith)
@@ -121,7 +122,7 @@ pub line_of_block : (d : Dir) (lines places : Span) (line : ℕ) → is_among li
     → is_on_line d line places w ≡ true → is_across d lines places w ≡ true
 line_of_block d lines places line i w on =
     let p = on_parts d line places w on in
-    and_true (is_among lines (line_of d w)) (is_among places (place_of d w)) (rw p.0 i) p.1
+    and_from (is_among lines (line_of d w)) (is_among places (place_of d w)) (rw p.0 i) p.1
 
 -- what was left is in that line, or in those that are left
 pub line_or_rest : {rise : Bool} {left rest : Span} {line : ℕ} → IsTaken rise left line rest

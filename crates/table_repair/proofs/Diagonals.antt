@@ -1,6 +1,7 @@
 -- The two sweeps for a diagonal direction.
 use Rattle.std.proofs.lemmas.Bool.Decides.{nat_tests}
 use Rattle.std.proofs.Common.{◌≡◌, ℕ, ◌+◌, ◌*◌, ◌≤◌, arith, Bool, true, false, refl, mul-le-mul}
+use Rattle.std.proofs.lemmas.Bool.{or_parts}
 use Rattle.grid_moves.specs.declared.Dir.{Dir}
 use Rattle.grid_moves.specs.Grid.{GridData}
 use Rattle.pruning.specs.Turns.{is_diagonal}
@@ -10,7 +11,6 @@ use Rattle.table_repair.specs.Mending.{AreRight, FollowBut, Mends, Sweeps, CanSw
 use Rattle.table_repair.specs.Mending.{either, is_in, is_in_reach, widened, span_next, span_length}
 use Rattle.table_repair.specs.Mending.{goes_right, goes_down}
 use Rattle.table_repair.proofs.Mends.{mends_both, mends_wider, follow_more}
-use Rattle.table_repair.proofs.Walking.{or_false}
 use Rattle.table_repair.proofs.Directions.{none_waits}
 use Rattle.table_repair.proofs.Reach.{rear_behind}
 
@@ -30,7 +30,7 @@ module _ (h : GridData) (rows columns : Span) {wide rear : Span} (by : ℕ) (d :
       → Sweeps h d (is_in rows wide) t now → CanSweep h now d (is_in rear columns)
   second_waits f sweeps = record {
     later = λ w. false;
-    follow = follow_more (λ w k. (or_false (is_in rear columns w) false k).0)
+    follow = follow_more (λ w k. (or_parts (is_in rear columns w) false k).0)
         (sweeps (is_in rear columns) (both_parts f));
     none_ahead = λ v w k here r. refl;
   }
@@ -38,7 +38,7 @@ module _ (h : GridData) (rows columns : Span) {wide rear : Span} (by : ℕ) (d :
   pub both_right : {t now new : TablesData} → FollowBut h t d (is_in_reach h rows columns by d)
       → Sweeps h d (is_in rows wide) t now → Sweeps h d (is_in rear columns) now new → AreRight h new d
   both_right {new = new} f first second = none_waits h new d (λ w. false) (λ w. refl)
-      (second (λ w. false) (follow_more (λ w k. (or_false (is_in rear columns w) false k).0)
+      (second (λ w. false) (follow_more (λ w k. (or_parts (is_in rear columns w) false k).0)
       (first (is_in rear columns) (both_parts f))))
 
   pub both_mend : {t now new : TablesData} {m n : ℕ} → Mends h d (is_in rows wide) t now m

@@ -3,12 +3,13 @@ use Rattle.std.proofs.lemmas.Bool.Decides.{nat_tests}
 use Rattle.std.proofs.Common.{◌≡◌, ℕ, suc, ◌+◌, ◌<◌, ◌≤◌, inl, inr, arith, Bool, true, false}
 use Rattle.std.proofs.Common.{◌||◌, List, []}
 use Rattle.std.specs.Prelude.{Some, ◌&&◌}
+use Rattle.std.proofs.lemmas.Bool.{or_left, or_right, or_from, false_from_ne_true, or_cases}
 use Rattle.grid_moves.specs.declared.Cell.{Cell}
 use Rattle.grid_moves.specs.declared.Dir.{Dir}
 use Rattle.grid_moves.specs.Grid.{GridData}
 use Rattle.grid_moves.specs.Move.{is_same}
 use Rattle.grid_moves.proofs.Legal.{and_both, is_same-cell}
-use Rattle.pruning.proofs.Running.{AreMoved}
+use Rattle.pruning.proofs.Running.{AreMoved, ahead_moved}
 use Rattle.plus_tables.specs.Tables.{TablesData}
 use Rattle.table_repair.specs.declared.span.Span.{Span}
 use Rattle.table_repair.specs.declared.walks.WalkBack.{WalkBack}
@@ -17,13 +18,11 @@ use Rattle.table_repair.specs.Lines.{line_of, place_of, cell_on, lines_of, place
 use Rattle.table_repair.specs.Lines.{is_on_line, is_across}
 use Rattle.table_repair.specs.Mending.{IsRight, CanSweep, either, is_among}
 use Rattle.table_repair.specs.Mending.{cell_after}
-use Rattle.table_repair.proofs.Abreast.{enter_next, or_either}
+use Rattle.table_repair.proofs.Abreast.{enter_next}
 use Rattle.table_repair.proofs.Across.{on_map, on_parts, line_of_block, line_or_rest, from_place, cell_there}
 use Rattle.table_repair.proofs.Across.{place_or_rest}
 use Rattle.table_repair.proofs.Lines.{after_moved, right_ahead}
-use Rattle.table_repair.proofs.Moving.{ahead_moved}
 use Rattle.table_repair.proofs.Sweeping.{IsTaken, among_parts}
-use Rattle.table_repair.proofs.Walking.{false_or, or_left, or_right, not_true}
 
 -- the line is one of those that are left, or lies behind them
 abbrev pub IsPast : Bool → Span → ℕ → Type 0
@@ -83,10 +82,10 @@ module _ {h : GridData} {d : Dir} (lines places : Span) {left rest : Span} {line
   enter_right low narrow can v here =
       right_ahead h now d (either (is_at_one walks) (either (is_across d left places) can.later))
       (abreast.follows can.later can.follow) v (on_map h d line places v (line_low low) narrow here)
-      (λ w k r. false_or (is_at_one walks w) (is_across d left places w || can.later w)
-      (not_true (is_at_one walks w) (λ i. not_past w k r (past w i)))
-      (false_or (is_across d left places w) (can.later w)
-      (not_true (is_across d left places w) (λ i. not_past w k r
+      (λ w k r. or_from (is_at_one walks w) (is_across d left places w || can.later w)
+      (false_from_ne_true (is_at_one walks w) (λ i. not_past w k r (past w i)))
+      (or_from (is_across d left places w) (can.later w)
+      (false_from_ne_true (is_across d left places w) (λ i. not_past w k r
       (among_past (lines_rise d) left (line_of d w)
       (and_both (is_among left (line_of d w)) (is_among places (place_of d w)) i).0)))
       (can.none_ahead v w k
@@ -105,7 +104,7 @@ module _ {h : GridData} {d : Dir} (lines places : Span) {left rest : Span} {line
   pub enter_past : (w : Cell) → IsBehindOne d (either (is_at_one walks) (is_on_line d line places)) w
       → IsPast (lines_rise d) rest (line_of d w)
   enter_past w b = behind_past d w b.from taken (ahead_moved d w b.from b.behind)
-      (elim (or_either (is_at_one walks b.from) (is_on_line d line places b.from) b.stood) [
+      (elim (or_cases (is_at_one walks b.from) (is_on_line d line places b.from) b.stood) [
         | inl i ↦ past b.from i
         | inr i ↦ (let e = (on_parts d line places b.from i).0 in
             rw e (among_past (lines_rise d) left line taken.member))

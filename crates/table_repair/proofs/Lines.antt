@@ -9,9 +9,10 @@ use Rattle.grid_moves.specs.Move.{ahead}
 use Rattle.grid_moves.proofs.Places.{inside_is}
 use Rattle.pruning.proofs.Bridging.{one_of}
 use Rattle.pruning.proofs.Running.{Trend, rising, level, falling, column_trend, row_trend, IsMoved, AreMoved}
+use Rattle.pruning.proofs.Running.{ahead_moved}
 use Rattle.plus_tables.specs.Tables.{TablesData}
 use Rattle.table_repair.specs.Mending.{IsRight, cell_after, behind_on, FollowBut}
-use Rattle.table_repair.proofs.Moving.{ahead_moved, ahead_behind, behind_ahead, moved_nowhere}
+use Rattle.table_repair.proofs.Moving.{ahead_behind, behind_ahead, moved_nowhere}
 
 -- so many moves ahead
 pub after_moved : (d : Dir) (k : ℕ) (u w : Cell) → cell_after d k u ≡ Some w → AreMoved d k u w

@@ -1,26 +1,13 @@
 -- Cells ahead and behind: how columns and rows change along a line.
-use Rattle.std.proofs.Common.{◌≡◌, ℕ, ◌+◌, ◌≤◌, arith, true, subst}
-use Rattle.std.specs.Prelude.{⊤, Option, Some, None}
+use Rattle.std.proofs.Common.{◌≡◌, ℕ, ◌+◌, ◌≤◌, arith, true}
+use Rattle.std.specs.Prelude.{Some}
 use Rattle.std.proofs.lemmas.Bool.Decides.{nat_tests}
 use Rattle.grid_moves.specs.declared.Cell.{Cell}
 use Rattle.grid_moves.specs.declared.Dir.{Dir}
 use Rattle.grid_moves.specs.Move.{ahead, opposite}
 use Rattle.pruning.proofs.Running.{Trend, rising, level, falling, column_trend, row_trend, IsMoved, AreMoved}
+use Rattle.pruning.proofs.Running.{ahead_moved}
 use Rattle.table_repair.specs.Differ.{is_near}
-
-abbrev cell : ℕ → ℕ → Cell
-cell x y = record { x = x; y = y }
-
--- one move
-abbrev IsStepped : Dir → Cell → Option Cell → Type 0
-IsStepped d u None = ⊤
-IsStepped d u (Some v) = AreMoved d 1 u v
-
-stepped : (x y : ℕ) (d : Dir) → IsStepped d (cell x y) (ahead d (cell x y))
-stepped x y d = grind (arith, nat_tests)
-
-pub ahead_moved : (d : Dir) (u v : Cell) → ahead d u ≡ Some v → AreMoved d 1 u v
-ahead_moved d u v h = subst (λ (o : Option Cell). IsStepped d u o) h (stepped u.x u.y d)
 
 -- a cell one move away is the one ahead
 pub moved_ahead : (d : Dir) (u v : Cell) → AreMoved d 1 u v → ahead d u ≡ Some v

@@ -2,7 +2,7 @@
 use Rattle.std.proofs.Common.{◌≡◌, ℕ, zero, suc, ◌+◌, ◌*◌, ◌<◌, ◌≤◌, ◌⊎◌, inl, inr, arith, Bool, true, false}
 use Rattle.std.proofs.Common.{refl, ap, ◌∙◌, ◌||◌, List, [], ◌∷◌, length, take, get_or}
 use Rattle.std.specs.Prelude.{not}
-use Rattle.std.proofs.lemmas.Bool.{cases_Bool}
+use Rattle.std.proofs.lemmas.Bool.{cases_Bool, or_parts, or_right}
 use Rattle.std.proofs.lemmas.Bool.Decides.{nat_tests}
 use Rattle.grid_moves.specs.declared.Cell.{Cell}
 use Rattle.grid_moves.specs.declared.Dir.{Dir}
@@ -15,7 +15,6 @@ use Rattle.plus_tables.specs.Tables.{TablesData}
 use Rattle.table_repair.specs.Mending.{AreRight, AreReady, AreSound, CanSweep, FollowBut, Mends, MendsKind}
 use Rattle.table_repair.specs.Mending.{Sweeps, is_listed, is_straight}
 use Rattle.table_repair.proofs.Mends.{all_stay, follow_more}
-use Rattle.table_repair.proofs.Walking.{or_false, or_right}
 use Rattle.table_repair.proofs.Directions.{kind_more, none_waits, right_follows, follow_stays}
 
 itself : (d : Dir) → is_dir d d ≡ true
@@ -90,7 +89,7 @@ pub nothing_later : {h : GridData} {t : TablesData} {d : Dir} {here : Cell → B
     → CanSweep h t d here
 nothing_later {here = here} f = record {
   later = λ w. false;
-  follow = follow_more (λ w k. (or_false (here w) false k).0) f;
+  follow = follow_more (λ w k. (or_parts (here w) false k).0) f;
   none_ahead = λ v w k i r. refl;
 }
 

@@ -2,6 +2,7 @@
 use Rattle.std.proofs.lemmas.Bool.Decides.{nat_tests}
 use Rattle.std.proofs.Common.{◌≡◌, ℕ, ◌+◌, ◌<◌, ◌≤◌, ◌⊎◌, arith, Bool, true, false}
 use Rattle.std.specs.Prelude.{suc}
+use Rattle.std.proofs.lemmas.Bool.{or_right, and_from, false_from_ne_true}
 use Rattle.grid_moves.specs.declared.Cell.{Cell}
 use Rattle.grid_moves.specs.declared.Dir.{Dir}
 use Rattle.grid_moves.specs.declared.Dir.TheVariants.{N, NE, E, SE, S, SW, W, NW}
@@ -17,8 +18,6 @@ use Rattle.table_repair.specs.Mending.{is_among, is_in, span_beside, widened, sp
 use Rattle.table_repair.specs.Mending.{goes_right, goes_down, NoneAhead}
 use Rattle.table_repair.proofs.Lines.{after_moved}
 use Rattle.table_repair.proofs.Sweeping.{among_parts, among_from}
-use Rattle.table_repair.proofs.Walking.{and_true, not_true}
-use Rattle.table_repair.proofs.Walking.{or_right}
 
 wide_before : (s : Span) (by side a b k : ℕ) → is_among s b ≡ true → b ≡ a + k → k ≤ by
     → is_among (widened true s by side) a ≡ true
@@ -55,7 +54,7 @@ module _ (h : GridData) (rows columns : Span) (by : ℕ) (d : Dir) (v : Cell) (i
   in_column : is_among columns v.x ≡ true
       → (is_among rows v.y ≡ true) ⊎ (is_among (span_next (goes_down d) rows by h.height) v.y ≡ true)
       → is_in_reach h rows columns by d v ≡ true
-  in_column p q = grind (arith, nat_tests, block_reached, and_true, or_right)
+  in_column p q = grind (arith, nat_tests, block_reached, and_from, or_right)
 
 -- and so is what lies that far behind it in a component
 pub line_reached : (h : GridData) (rows columns : Span) (by : ℕ) (d : Dir) (s : Side) → is_diagonal d ≡ true
@@ -105,7 +104,7 @@ line_reached h rows columns by d s diagonal v start k l m j i = by_dir d s diago
 pub rear_behind : (d : Dir) (rows columns wide : Span) (by side : ℕ) → is_diagonal d ≡ true
     → NoneAhead d (is_in rows wide) (is_in (span_next (goes_down d) rows by side) columns)
 rear_behind d rows columns wide by side diagonal v w k here r =
-    not_true (is_in (span_next (goes_down d) rows by side) columns w) (λ there.
+    false_from_ne_true (is_in (span_next (goes_down d) rows by side) columns w) (λ there.
     let p = and_both (is_among rows v.y) (is_among wide v.x) here in
     let q = and_both (is_among (span_next (goes_down d) rows by side) w.y) (is_among columns w.x) there in
     beyond d diagonal (after_moved d (suc k) v w r) (among_parts rows v.y p.0)

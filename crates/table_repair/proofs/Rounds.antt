@@ -6,6 +6,7 @@ use Rattle.std.proofs.Common.{get_or, drop}
 use Rattle.std.proofs.lemmas.List.{append-nil, drop_more}
 use Rattle.std.specs.Prelude.{Option, Some, None, if◌then◌else◌}
 use Rattle.std.specs.Option.{option_to_list}
+use Rattle.std.proofs.lemmas.Bool.{or_from}
 use Rattle.grid_moves.specs.declared.Cell.{Cell}
 use Rattle.grid_moves.specs.declared.Dir.{Dir}
 use Rattle.grid_moves.specs.Grid.{GridData, IsGrid, is_inside}
@@ -24,8 +25,7 @@ use Rattle.table_repair.proofs.Abreast.{stand_still}
 use Rattle.table_repair.proofs.Abreast.{step_on, step_behind}
 use Rattle.table_repair.proofs.Across.{line_inside, lines_few}
 use Rattle.table_repair.proofs.Mends.{right_stays}
-use Rattle.table_repair.proofs.Moving.{ahead_moved}
-use Rattle.table_repair.proofs.Walking.{false_or}
+use Rattle.pruning.proofs.Running.{ahead_moved}
 
 pub room_both : (h : GridData) (d : Dir) (xs ys : List WalkBack)
     → room_of h d (xs ++ ys) ≡ room_of h d xs + room_of h d ys
@@ -142,7 +142,7 @@ module _ {h : GridData} {d : Dir} {old now : TablesData} {first steps : ℕ} {he
   split : (w : Cell) → is_same w its_cell ≡ false → is_at_one (drop (i + 1) here) w ≡ false
       → is_at_one (drop i here) w ≡ false
   split w s r = rw (drop_more here i v l)
-      (false_or (is_same w its_cell) (is_at_one (drop (i + 1) here) w) s r)
+      (or_from (is_same w its_cell) (is_at_one (drop (i + 1) here) w) s r)
 
   pub round_next : {new : TablesData} {counted : ℕ} {on : Option WalkBack}
       → Mends h d (λ w. is_same w (get_or here i v).at) now new (length (option_to_list on))

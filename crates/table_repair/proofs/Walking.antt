@@ -3,7 +3,7 @@ use Rattle.std.proofs.Common.{◌≡◌, ◌≢◌, ℕ, ◌+◌, ◌<◌, ◌�
 use Rattle.std.proofs.lemmas.Bool.Decides.{nat_tests}
 use Rattle.std.proofs.Common.{◌∙◌, ◌&&◌, ◌||◌, length, length-set, get_or, ap}
 use Rattle.std.specs.Prelude.{Some, None, ℤ, pos, [], ◌∷◌}
-use Rattle.std.proofs.lemmas.Bool.{cases_Bool}
+use Rattle.std.proofs.lemmas.Bool.{cases_Bool, or_from}
 use Rattle.grid_moves.specs.declared.Cell.{Cell}
 use Rattle.grid_moves.specs.declared.Dir.{Dir}
 use Rattle.grid_moves.specs.declared.Dir.TheVariants.{N, NE, E, SE, S, SW, W, NW}
@@ -32,28 +32,6 @@ use Rattle.table_repair.proofs.Mends.{on_inside}
 abbrev pub or_later : Cell → (Cell → Bool) → Cell → Bool
 or_later v later w = is_same w v || later w
 
-pub or_false : (a b : Bool) → (a || b) ≡ false → (a ≡ false) × (b ≡ false)
-or_false true b h = absurd (cc)
-or_false false b h = (refl, h)
-
-pub or_left : (a b : Bool) → a ≡ true → (a || b) ≡ true
-or_left true b h = refl
-or_left false b h = absurd (cc)
-
-pub or_right : (a b : Bool) → b ≡ true → (a || b) ≡ true
-or_right true b h = refl
-or_right false b h = h
-
-pub false_or : (a b : Bool) → a ≡ false → b ≡ false → (a || b) ≡ false
-false_or true b h k = h
-false_or false b h k = k
-
-pub and_true : (a b : Bool) → a ≡ true → b ≡ true → (a && b) ≡ true
-and_true a b h k = grind arith
-
-pub not_true : (b : Bool) → (b ≡ true → ⊥) → b ≡ false
-not_true b h = grind (arith, nat_tests)
-
 pub true_false : (b : Bool) → b ≡ true → b ≡ false → ⊥
 true_false b h k = cc
 
@@ -79,7 +57,7 @@ passed : {h : GridData} {d : Dir} {t : TablesData} {at_cell : Cell} (later : Cel
 passed {at_cell = at_cell} later g right = record {
   next = λ p w j k l m q. elim (cases_Bool (is_same w at_cell)) [
     | inl s ↦ right p j (rw (← is_same-cell w at_cell s) k)
-    | inr s ↦ g.next p w j k l (false_or (is_same w at_cell) (later w) s m) q
+    | inr s ↦ g.next p w j k l (or_from (is_same w at_cell) (later w) s m) q
   ];
   last = g.last;
 }
@@ -150,7 +128,7 @@ module _ {h : GridData} {d : Dir} (v : Cell) {t : TablesData} (ready : AreReady 
               rw same set_right
           | inr s ↦
               let both = either_of (is_same w u) (later w) m in
-              right_kept p j (f.next p w j k l (false_or (is_same w v) (later w) s both.1)
+              right_kept p j (f.next p w j k l (or_from (is_same w v) (later w) s both.1)
               (sym (stays w d l (λ x y. apart w u both.0 x)) ∙ q))
         ]
 

@@ -13,10 +13,10 @@ use std::sync::ledger::{Blank, Ledger};
 use std::test::*;
 use steps::Steps;
 
-// Four numbers: the columns and rows of two ends, or what is told of a reply.
+// Four numbers: the columns and rows of two ends, or what is noted of a reply.
 type Four = (u32, u32, u32, u32);
 
-// A line of a script with its reply: of a query the ends, and what is told of its reply; of an edit
+// A line of a script with its reply: of a query the ends, and what is noted of its reply; of an edit
 // the cell and its ground.
 #[derive(Clone, Copy)]
 enum Line {
@@ -43,7 +43,7 @@ fn four_of(reply: &Reply) -> Four {
     }
 }
 
-// What is told of the reply to a query.
+// What is noted of the reply to a query.
 fn ask<L: Ledger>(
     alloc: Global,
     session: &mut Session,

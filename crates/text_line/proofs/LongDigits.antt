@@ -18,7 +18,7 @@ too_great ds i value digits inside is great =
     let least : 2 ^ 64 ≤ value_of ds = omega (arith, more, value_of_part ds (i + 1)) in
     rw (le-ltb (value_of ds) (2 ^ 64) least) refl
 
--- where all digits are read, their value is told
+-- where all digits are read, the value is theirs
 pub all_read : (ds : List ℕ) (i value : ℕ) → length ds ≤ i → value ≡ value_of (take i ds) → value < 2 ^ 64
     → Some value ≡ value_below ds
 all_read ds i value past is small = grind (arith, take_all, lt-ltb)

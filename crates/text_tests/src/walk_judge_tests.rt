@@ -1,6 +1,6 @@
 //! Walks round a pillar, judged by hand.
 
-ghost use Rattle.walk_judge.specs.Telling.{IsFit};
+ghost use Rattle.walk_judge.specs.Claims.{IsFit};
 
 use grid_moves::{Cell, Corner, Grid, Terrain};
 use root2_cost::Cost;

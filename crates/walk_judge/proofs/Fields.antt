@@ -8,10 +8,10 @@ use Rattle.std.proofs.lemmas.Bool.{cases_Bool}
 use Rattle.std.proofs.lemmas.Slice.Eq.{bytes_eq-Decides}
 use Rattle.grid_moves.specs.declared.Cell.{Cell}
 use Rattle.text_line.specs.Fields.{is_nothing}
-use Rattle.walk_judge.specs.declared.telling.Claimed.{Claimed}
-use Rattle.walk_judge.specs.declared.telling.Claimed.TheVariants as claimed
+use Rattle.walk_judge.specs.declared.claims.Claimed.{Claimed}
+use Rattle.walk_judge.specs.declared.claims.Claimed.TheVariants as claimed
 use Rattle.cell_lines.specs.Parts.{point_of, points_in}
-use Rattle.walk_judge.specs.Telling.{is_none, walk_of, claimed_in, AreFieldsOf}
+use Rattle.walk_judge.specs.Claims.{is_none, walk_of, claimed_in, AreFieldsOf}
 
 -- each point, where it is one
 abbrev pub some_points : List Cell → List (Option Cell)

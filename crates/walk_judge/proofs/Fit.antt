@@ -11,9 +11,9 @@ use Rattle.text_line.specs.Places.{room_of}
 use Rattle.text_line.specs.Reading.{SpellInOrder}
 use Rattle.text_line.proofs.Placing.{length-without_cr, room_of_pieces, room_onto}
 use Rattle.walk_judge.specs.declared.fault.WalkFault.{WalkFault}
-use Rattle.walk_judge.specs.declared.telling.Claimed.{Claimed}
-use Rattle.walk_judge.specs.declared.telling.Claimed.TheVariants as claimed
-use Rattle.walk_judge.specs.Telling.{IsFit}
+use Rattle.walk_judge.specs.declared.claims.Claimed.{Claimed}
+use Rattle.walk_judge.specs.declared.claims.Claimed.TheVariants as claimed
+use Rattle.walk_judge.specs.Claims.{IsFit}
 use Rattle.walk_judge.specs.Walks.{IsBlank, IsLineOf, Spells}
 use Rattle.walk_judge.proofs.Fields.{as_many}
 

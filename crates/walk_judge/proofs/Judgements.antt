@@ -1,8 +1,9 @@
 -- Judgements: each claimed walk has one, and accepted are the legal least walks.
-use Rattle.std.proofs.Common.{◌≡◌, ℕ, arith, refl, ap, sym, ◌∙◌, subst, true, false, List, ◌∷◌}
-use Rattle.std.specs.Prelude.{Option, Some}
+use Rattle.std.proofs.Common.{◌≡◌, ℕ, arith, refl, ap, sym, ◌∙◌, subst, Bool, true, false, List, ◌∷◌}
+use Rattle.std.specs.Prelude.{Option, Some, None, Result, Ok, Err, if◌then◌else◌, ◌↔◌, ◌≢◌}
 use Rattle.root2_cost.specs.declared.Cost.{Cost}
 use Rattle.root2_cost.specs.Order.{IsAtMost}
+use Rattle.root2_cost.specs.Sums.{is_same_cost}
 use Rattle.grid_moves.specs.declared.Cell.{Cell}
 use Rattle.grid_moves.specs.Grid.{GridData, IsGrid, is_free}
 use Rattle.grid_moves.specs.Reply.{StandsForLeast}
@@ -10,99 +11,95 @@ use Rattle.grid_moves.specs.Walk.{NoWalk, cost_of}
 use Rattle.plain_search.specs.Costs.{IsCostTo}
 use Rattle.plain_search.specs.Lists.{IsLeastCost}
 use Rattle.plain_search.proofs.Closing.{one_least}
-use Rattle.potential_check.specs.Accepted.{is_cost}
-use Rattle.potential_check.specs.Walks.{IsBadPoint, IsRightWalk}
-use Rattle.potential_check.proofs.Walks.{has_answer, is_cost-itself, is_cost-same}
+use Rattle.potential_check.specs.Walks.{IsRightWalk, IsWalkAnswer, walk_answer}
+use Rattle.root2_cost.proofs.Less.{is_same_cost-of, is_same_cost-tells}
+use Rattle.potential_check.proofs.Walks.{walks_are_answered}
 use Rattle.walk_judge.specs.declared.judging.Judged.{Judged}
 use Rattle.walk_judge.specs.declared.judging.Judged.TheVariants.{Least, NoWalk as Nothing, BadWalk, Longer}
 use Rattle.walk_judge.specs.declared.judging.Judged.TheVariants.{Exists}
-use Rattle.walk_judge.specs.declared.telling.Claimed.{Claimed}
-use Rattle.walk_judge.specs.declared.telling.Claimed.TheVariants as claimed
-use Rattle.walk_judge.specs.Judgement.{IsJudgement}
+use Rattle.walk_judge.specs.declared.claims.Claimed.{Claimed}
+use Rattle.walk_judge.specs.declared.claims.Claimed.TheVariants as claimed
+use Rattle.walk_judge.specs.Judgement.{IsJudgement, JudgementsAreMade, judged_by, judgement_of}
 use Rattle.grid_moves.proofs.Short.{least_is_short}
 use Rattle.grid_moves.proofs.Walks.{end_free}
 
-pub is_cost-other : (p q : Cost) → is_cost q p ≡ false → p ≡ q → ⊥
-is_cost-other p q off e = let same : is_cost q p ≡ true = rw e (is_cost-itself q) in cc
+pub other_cost : (p q : Cost) → is_same_cost q p ≡ false → p ≡ q → ⊥
+other_cost p q off e = let same : is_same_cost q p ≡ true = rw e (is_same_cost-of q q refl) in cc
 
 -- to a cell that is not free no walk leads
 pub none_to_blocked : (g : GridData) (s t : Cell) → is_free g t ≡ false → NoWalk g s t
 none_to_blocked g s t blocked cells w = let free = end_free g s t cells w in cc
 
 module _ (g : GridData) (s t : Cell) where
-  -- points stand for a right walk of one cost
-  right_one : (points : List Cell) (p q : Cost) → IsRightWalk g s t p points → IsRightWalk g s t q points
-      → p ≡ q
-  right_one points p q one other =
-      let answer = (has_answer g s t points).1 in
-      let first = answer.ok p one in
-      let second = answer.ok q other in
-      cc
+  -- a legal walk is judged by the least cost
+  module _ (points : List Cell) (paid : Cost) (right : IsRightWalk g s t paid points) where
+    abbrev IsHow : Judged → Type 0
+    IsHow how = IsJudgement g s t (claimed.Walk points) how
 
-  -- or are bad
-  right_not_bad : (points : List Cell) (paid : Cost) (i : ℕ) → IsRightWalk g s t paid points
-      → IsBadPoint g s t points i → ⊥
-  right_not_bad points paid i right bad =
-      let answer = (has_answer g s t points).1 in
-      let first = answer.ok paid right in
-      let second = answer.err i bad in
-      cc
+    right_judged : (least : Option Cost) → IsCostTo g s t least → IsHow (judged_by (Ok paid) least)
+    right_judged None none = absurd (none right.cells right.walk)
+    right_judged (Some least) known = by_cost (is_same_cost least paid) refl
+      where
+        by_cost : (b : Bool) → is_same_cost least paid ≡ b → IsHow (if b then Least paid else Longer paid least)
+        by_cost true same =
+            (right, subst (λ (c : Cost). IsLeastCost g s t c) (is_same_cost-tells least paid same) known)
+        by_cost false other = (right, known, λ e. other_cost paid least other e)
 
-  -- by one number
-  bad_one : (points : List Cell) (i k : ℕ) → IsBadPoint g s t points i → IsBadPoint g s t points k → i ≡ k
-  bad_one points i k one other =
-      let answer = (has_answer g s t points).1 in
-      let first = answer.err i one in
-      let second = answer.err k other in
-      cc
+    least_only : (least : Option Cost) → IsCostTo g s t least → IsLeastCost g s t paid
+        → Least paid ≡ judged_by (Ok paid) least
+    least_only None none is = absurd (none right.cells right.walk)
+    least_only (Some least) known is =
+        let same = one_least g s t least paid known is in
+        let e : is_same_cost least paid ≡ true =
+        ap (λ (c : Cost). is_same_cost c paid) same ∙ is_same_cost-of paid paid refl in
+        rw e refl
 
-  -- what is claimed has one judgement
-  pub one_judgement : (what : Claimed) (j k : Judged) → IsJudgement g s t what j → IsJudgement g s t what k
-      → j ≡ k
-  one_judgement claimed.None Nothing Nothing one other = refl
-  one_judgement claimed.None Nothing (Exists q) none least = absurd (none least.cells least.least.walk)
-  one_judgement claimed.None (Exists p) Nothing least none = absurd (none least.cells least.least.walk)
-  one_judgement claimed.None (Exists p) (Exists q) one other = ap
-      (λ (c : Cost). let j : Judged = Exists c in j)
-      (one_least g s t p q one other)
-  one_judgement claimed.None Nothing (Least q) one other = absurd other
-  one_judgement claimed.None Nothing (BadWalk n) one other = absurd other
-  one_judgement claimed.None Nothing (Longer q r) one other = absurd other
-  one_judgement claimed.None (Exists p) (Least q) one other = absurd other
-  one_judgement claimed.None (Exists p) (BadWalk n) one other = absurd other
-  one_judgement claimed.None (Exists p) (Longer q r) one other = absurd other
-  one_judgement claimed.None (Least p) k one other = absurd one
-  one_judgement claimed.None (BadWalk i) k one other = absurd one
-  one_judgement claimed.None (Longer p q) k one other = absurd one
-  one_judgement (claimed.Walk points) Nothing k one other = absurd one
-  one_judgement (claimed.Walk points) (Exists p) k one other = absurd one
-  one_judgement (claimed.Walk points) (BadWalk i) (BadWalk n) one other =
-      ap (λ (m : ℕ). let j : Judged = BadWalk m in j) (bad_one points i n one other)
-  one_judgement (claimed.Walk points) (BadWalk i) (Longer q r) one other =
-      absurd (right_not_bad points q i other.0 one)
-  one_judgement (claimed.Walk points) (BadWalk i) (Least q) one other =
-      absurd (right_not_bad points q i other.0 one)
-  one_judgement (claimed.Walk points) (BadWalk i) Nothing one other = absurd other
-  one_judgement (claimed.Walk points) (BadWalk i) (Exists q) one other = absurd other
-  one_judgement (claimed.Walk points) (Longer p l) (BadWalk n) one other =
-      absurd (right_not_bad points p n one.0 other)
-  one_judgement (claimed.Walk points) (Longer p l) (Longer q r) one other =
-      let paid : p ≡ q = right_one points p q one.0 other.0 in
-      let least : l ≡ r = one_least g s t l r one.1 other.1 in
-      ap (λ (c : Cost). let j : Judged = Longer c l in j) paid
-      ∙ ap (λ (c : Cost). let j : Judged = Longer q c in j) least
-  one_judgement (claimed.Walk points) (Longer p l) (Least q) one other =
-      absurd (one.2 (right_one points p q one.0 other.0 ∙ sym (one_least g s t l q one.1 other.1)))
-  one_judgement (claimed.Walk points) (Longer p l) Nothing one other = absurd other
-  one_judgement (claimed.Walk points) (Longer p l) (Exists q) one other = absurd other
-  one_judgement (claimed.Walk points) (Least p) (BadWalk n) one other =
-      absurd (right_not_bad points p n one.0 other)
-  one_judgement (claimed.Walk points) (Least p) (Longer q r) one other =
-      absurd (other.2 (right_one points q p other.0 one.0 ∙ sym (one_least g s t r p other.1 one.1)))
-  one_judgement (claimed.Walk points) (Least p) (Least q) one other =
-      ap (λ (c : Cost). let j : Judged = Least c in j) (right_one points p q one.0 other.0)
-  one_judgement (claimed.Walk points) (Least p) Nothing one other = absurd other
-  one_judgement (claimed.Walk points) (Least p) (Exists q) one other = absurd other
+    longer_only : (least : Option Cost) → IsCostTo g s t least → (cost : Cost) → IsLeastCost g s t cost
+        → paid ≢ cost → Longer paid cost ≡ judged_by (Ok paid) least
+    longer_only None none cost is apart = absurd (none right.cells right.walk)
+    longer_only (Some least) known cost is apart = by_cost (is_same_cost least paid) refl
+      where
+        same : least ≡ cost
+        same = one_least g s t least cost known is
+
+        by_cost : (b : Bool) → is_same_cost least paid ≡ b
+            → Longer paid cost ≡ (if b then Least paid else Longer paid least)
+        by_cost true e = absurd (apart (sym (is_same_cost-tells least paid e) ∙ same))
+        by_cost false e = ap (λ (c : Cost). let j : Judged = Longer paid c in j) (sym same)
+
+  -- what is claimed is judged as the function says
+  is_judgement : (what : Claimed) (least : Option Cost) → IsCostTo g s t least
+      → IsJudgement g s t what (judgement_of g s t what least)
+  is_judgement claimed.None None none = none
+  is_judgement claimed.None (Some least) known = known
+  is_judgement (claimed.Walk points) least known = by_answer (walk_answer g s t points)
+      ((walks_are_answered g s t points (walk_answer g s t points)).1 refl)
+    where
+      by_answer : (answer : Result Cost ℕ) → IsWalkAnswer g s t points answer
+          → IsJudgement g s t (claimed.Walk points) (judged_by answer least)
+      by_answer (Ok paid) right = right_judged points paid right least known
+      by_answer (Err i) bad = bad
+
+  -- and in no other way
+  only_judgement : (what : Claimed) (least : Option Cost) → IsCostTo g s t least → (how : Judged)
+      → IsJudgement g s t what how → how ≡ judgement_of g s t what least
+  only_judgement claimed.None None none Nothing is = refl
+  only_judgement claimed.None None none (Exists p) is = absurd (none is.cells is.least.walk)
+  only_judgement claimed.None (Some least) known Nothing none =
+      absurd (none known.cells known.least.walk)
+  only_judgement claimed.None (Some least) known (Exists p) is =
+      ap (λ (c : Cost). let j : Judged = Exists c in j) (one_least g s t p least is known)
+  only_judgement claimed.None least known (Least p) is = absurd is
+  only_judgement claimed.None least known (BadWalk i) is = absurd is
+  only_judgement claimed.None least known (Longer p q) is = absurd is
+  only_judgement (claimed.Walk points) least known (BadWalk i) bad =
+      rw ((walks_are_answered g s t points (Err i)).0 bad) refl
+  only_judgement (claimed.Walk points) least known (Least p) is =
+      rw ((walks_are_answered g s t points (Ok p)).0 is.0) (least_only points p is.0 least known is.1)
+  only_judgement (claimed.Walk points) least known (Longer p q) is =
+      rw ((walks_are_answered g s t points (Ok p)).0 is.0) (longer_only points p is.0 least known q is.1 is.2)
+  only_judgement (claimed.Walk points) least known Nothing is = absurd is
+  only_judgement (claimed.Walk points) least known (Exists p) is = absurd is
 
   -- an accepted walk is legal and least
   accepted_least : (points : List Cell) (cost : Cost) → IsJudgement g s t (claimed.Walk points) (Least cost)
@@ -132,17 +129,18 @@ module _ (g : GridData) (s t : Cell) where
     record { cells = stands.cells; least = stands.least; priced = stands.priced },
   )
 
-  pub accepted_exactly : IsGrid g → (what : Claimed) (j : Judged) → IsJudgement g s t what j
-      → (points : List Cell) (cost : Cost) → what ≡ claimed.Walk points
-      → (j ≡ Least cost → StandsForLeast g s t points cost)
-      × (StandsForLeast g s t points cost → j ≡ Least cost)
-  accepted_exactly grid what j judged points cost is =
-      let here : IsJudgement g s t (claimed.Walk points) j =
-      subst (λ (w : Claimed). IsJudgement g s t w j) is judged in (
-        λ e. accepted_least points cost
-            (subst (λ (k : Judged). IsJudgement g s t (claimed.Walk points) k) e here),
-        λ stands. one_judgement (claimed.Walk points) j (Least cost) here
-            (least_accepted grid points cost stands),
+  pub accepted_exactly : IsGrid g → (what : Claimed) (least : Option Cost) → IsCostTo g s t least
+      → (how : Judged) → how ≡ judgement_of g s t what least → (points : List Cell) (cost : Cost)
+      → what ≡ claimed.Walk points → (how ≡ Least cost) ↔ StandsForLeast g s t points cost
+  accepted_exactly grid what least known how e points cost is =
+      let here : IsJudgement g s t (claimed.Walk points) how =
+      subst (λ (w : Claimed). IsJudgement g s t w how) is
+      (subst (λ (k : Judged). IsJudgement g s t what k) (sym e) (is_judgement what least known)) in (
+        λ same. accepted_least points cost
+            (subst (λ (k : Judged). IsJudgement g s t (claimed.Walk points) k) same here),
+        λ stands. e ∙ sym (only_judgement what least known (Least cost)
+            (subst (λ (w : Claimed). IsJudgement g s t w (Least cost)) (sym is)
+            (least_accepted grid points cost stands))),
       )
 
   -- points of a least walk tell the least cost
@@ -151,17 +149,14 @@ module _ (g : GridData) (s t : Cell) where
   stands_costs points cost stands =
       record { cells = stands.cells; least = stands.least; priced = stands.priced }
 
-  -- a legal walk, where the least cost is known
-  pub judged_same : (points : List Cell) (paid least : Cost) (found : Option Cost) → found ≡ Some least
-      → IsCostTo g s t found → IsRightWalk g s t paid points → is_cost least paid ≡ true
-      → IsJudgement g s t (claimed.Walk points) (Least paid)
-  judged_same points paid least found is given_least right same =
-      let here : IsLeastCost g s t least = subst (λ (o : Option Cost). IsCostTo g s t o) is given_least in
-      (right, subst (λ (c : Cost). IsLeastCost g s t c) (is_cost-same least paid same) here)
+pub judgements_are_made : JudgementsAreMade
+judgements_are_made g s t what least known how = (
+  only_judgement g s t what least known how,
+  λ e. subst (λ (k : Judged). IsJudgement g s t what k) (sym e) (is_judgement g s t what least known),
+)
 
-  pub judged_longer : (points : List Cell) (paid least : Cost) (found : Option Cost) → found ≡ Some least
-      → IsCostTo g s t found → IsRightWalk g s t paid points → is_cost least paid ≡ false
-      → IsJudgement g s t (claimed.Walk points) (Longer paid least)
-  judged_longer points paid least found is given_least right other =
-      let here : IsLeastCost g s t least = subst (λ (o : Option Cost). IsCostTo g s t o) is given_least in
-      (right, here, λ e. is_cost-other paid least other e)
+-- so there is only one where the least cost is known
+pub one_judgement : (g : GridData) (s t : Cell) (what : Claimed) (least : Option Cost) → IsCostTo g s t least
+    → (how why : Judged) → IsJudgement g s t what how → IsJudgement g s t what why → how ≡ why
+one_judgement g s t what least known how why is also =
+    only_judgement g s t what least known how is ∙ sym (only_judgement g s t what least known why also)

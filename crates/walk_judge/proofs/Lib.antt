@@ -1,6 +1,5 @@
 pub mod Fields
 pub mod Progress
-pub mod Laws
+pub mod Spelling
 pub mod Fit
 pub mod Judgements
-pub mod Existing

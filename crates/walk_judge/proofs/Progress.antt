@@ -7,7 +7,7 @@ use Rattle.text_line.specs.Lines.{lines_of, pieces_of, without_cr}
 use Rattle.text_line.specs.Reading.{read_behind}
 use Rattle.text_line.specs.Places.{room_of}
 use Rattle.text_line.proofs.Placing.{room_of_pieces}
-use Rattle.walk_judge.specs.declared.telling.Claimed.{Claimed}
+use Rattle.walk_judge.specs.declared.claims.Claimed.{Claimed}
 use Rattle.walk_judge.specs.Walks.{place_read, places_from, walks_of}
 
 -- a text has no more lines than bytes and one

@@ -1,4 +1,4 @@
-pub mod Telling
+pub mod Claims
 pub mod Walks
 pub mod Judgement
 pub mod Worked

@@ -8,8 +8,8 @@ use Rattle.text_line.specs.Reading as lines
 use Rattle.text_line.specs.Reading.{read_lines, fault_on, SpellInOrder}
 use Rattle.walk_judge.specs.declared.fault.WalkFault.{WalkFault}
 use Rattle.walk_judge.specs.declared.fault.WalkFault.TheVariants.{Line, Count, NoMemory}
-use Rattle.walk_judge.specs.declared.telling.Claimed.{Claimed}
-use Rattle.walk_judge.specs.Telling.{claimed_in, AreFieldsOf}
+use Rattle.walk_judge.specs.declared.claims.Claimed.{Claimed}
+use Rattle.walk_judge.specs.Claims.{claimed_in, AreFieldsOf}
 
 -- a place of a text: a line with its number, from 1, how many lines before it are not blank, and its bytes;
 -- or the end, with the number that a further line would have, and how many lines are not blank

@@ -1,7 +1,7 @@
 -- Worked rows of the form, by computing.
 use Rattle.std.specs.Prelude.{◌≡◌, [], ◌∷◌, codes, refl, Ok, Err}
 use Rattle.walk_judge.specs.declared.fault.WalkFault.TheVariants.{Line, Count}
-use Rattle.walk_judge.specs.declared.telling.Claimed.TheVariants as claimed
+use Rattle.walk_judge.specs.declared.claims.Claimed.TheVariants as claimed
 use Rattle.cell_lines.specs.Parts.{point_of}
 use Rattle.walk_judge.specs.Walks.{walks_of}
 

@@ -3,7 +3,7 @@
 ghost use Rattle.std.specs.Prelude.{◌≡◌};
 ghost use Rattle.walk_judge.specs.declared.fault.WalkFault.TheVariants.{NoMemory};
 
-use crate::telling::Claimed;
+use crate::claims::Claimed;
 use std::alloc::AllocFailed;
 use thiserror::Error;
 

@@ -1,20 +1,20 @@
 //! Judging what is claimed of the walks between two cells.
 
-ghost use Rattle.std.specs.Prelude.{◌≡◌, ◌↔◌, List, true, IfOk};
+ghost use Rattle.std.specs.Prelude.{◌≡◌, ◌↔◌, List, Ok, true, IfOk};
 ghost use Rattle.root2_cost.specs.declared.Cost.{Cost};
+ghost use Rattle.root2_cost.specs.Sums.{is_same_cost};
 ghost use Rattle.grid_moves.specs.declared.Cell.{Cell};
 ghost use Rattle.grid_moves.specs.Grid.{is_free};
 ghost use Rattle.grid_moves.specs.Reply.{StandsForLeast};
 ghost use Rattle.plain_search.specs.Costs.{IsCostTo};
-ghost use Rattle.potential_check.specs.Accepted as checks;
 ghost use Rattle.potential_check.specs.Walks.{IsRightWalk};
-ghost use Rattle.walk_judge.specs.Judgement.{IsJudgement};
-ghost use Rattle.walk_judge.specs.Telling.{IsFit, walk_of};
+ghost use Rattle.walk_judge.specs.Judgement.{IsJudgement, judged_by, judgement_of};
+ghost use Rattle.walk_judge.specs.Claims.{IsFit, walk_of};
 ghost use Rattle.walk_judge.specs.declared.judging.Judged.{Judged};
 ghost use Rattle.walk_judge.specs.declared.judging.Judged.TheVariants.{Least};
 
 use crate::NoMemory;
-use crate::telling::Claimed;
+use crate::claims::Claimed;
 use grid_moves::{Cell, Terrain};
 use path_points::Points;
 use plain_search::{Found, Workspace, least_in};
@@ -27,7 +27,7 @@ use std::alloc::Global;
 pub enum Judged {
     /// The claimed walk is legal and least, and costs this.
     Least(Cost),
-    /// Claimed is that no walk exists, and none does.
+    /// The claim is that no walk exists, and none does.
     NoWalk,
     /// The claimed points are no legal walk from start to goal. The number is 0 where the first point is
     /// not the start; else that of the first later point, counted from 0, to which no legal run of at
@@ -36,7 +36,7 @@ pub enum Judged {
     BadWalk(u32),
     /// The claimed walk is legal and costs the first, and the least cost is the second, another pair.
     Longer(Cost, Cost),
-    /// Claimed is that no walk exists, and the least cost is this.
+    /// The claim is that no walk exists, and the least cost is this.
     Exists(Cost),
 }
 
@@ -76,6 +76,7 @@ pub fn judge_claimed<T: Terrain>(
 ) -> Judged
     requires fit { IsFit claimed.now }
     requires least { IsCostTo (T.grid t.now) from to least }
+    ensures is { result ≡ judgement_of (T.grid t.now) from to claimed.now least }
     ensures judged { IsJudgement (T.grid t.now) from to claimed.now result }
     ensures only { (judged : Judged) → IsJudgement (T.grid t.now) from to claimed.now judged
         → result ≡ judged }
@@ -87,7 +88,7 @@ pub fn judge_claimed<T: Terrain>(
     judgement(t, from, to, claimed, least)
 }
 
-/// The same, whose clause is the relation alone.
+/// The same, whose clause is the function alone.
 fn judgement<T: Terrain>(
     t: &T,
     from: Cell,
@@ -97,7 +98,7 @@ fn judgement<T: Terrain>(
 ) -> Judged
     requires fit { IsFit claimed.now }
     requires least { IsCostTo (T.grid t.now) from to least }
-    ensures { IsJudgement (T.grid t.now) from to claimed.now result }
+    ensures { result ≡ judgement_of (T.grid t.now) from to claimed.now least }
 {
     match claimed {
         Claimed::Walk(points) => match walk_between(t, from, to, points) {
@@ -113,7 +114,7 @@ fn judgement<T: Terrain>(
 
 /// Whether the pairs are one.
 fn is_same(p: Cost, q: Cost) -> bool
-    ensures { result ≡ checks.is_cost p q }
+    ensures { result ≡ is_same_cost p q }
 {
     p == q
 }
@@ -129,7 +130,7 @@ fn compared<T: Terrain>(
 ) -> Judged
     requires right { IsRightWalk (T.grid _t.now) from to paid points.now }
     requires least { IsCostTo (T.grid _t.now) from to least }
-    ensures { IsJudgement (T.grid _t.now) from to (walk_of points.now) result }
+    ensures { result ≡ judged_by (Ok paid) least }
 {
     match least {
         Some(least) => {

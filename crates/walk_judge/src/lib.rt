@@ -15,14 +15,15 @@
 //! The form of the lines and the order of the reasons are this project's.
 #![tactic(auto)]
 
+mod claims;
 mod fault;
 mod judging;
+pub mod laws;
 mod point;
 mod reading;
-mod telling;
 
+pub use claims::Claimed;
 pub use fault::WalkFault;
 pub use judging::{Judged, judge_claimed, judge_walk};
 pub use reading::read_walks;
 pub use std::alloc::AllocError as NoMemory;
-pub use telling::Claimed;

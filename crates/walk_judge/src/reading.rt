@@ -3,13 +3,13 @@
 ghost use Rattle.std.specs.Prelude.{◌≡◌, ◌≤◌, ◌+◌, ◌^◌, ℕ, length, slice_get, Some, IfOk};
 ghost use Rattle.text_line.specs.Reading.{IsRightReading};
 ghost use Rattle.walk_judge.specs.declared.fault.WalkFault.TheVariants.{NoMemory};
-ghost use Rattle.walk_judge.specs.declared.telling.Claimed.{Claimed};
-ghost use Rattle.walk_judge.specs.Telling.{IsFit};
+ghost use Rattle.walk_judge.specs.declared.claims.Claimed.{Claimed};
+ghost use Rattle.walk_judge.specs.Claims.{IsFit};
 ghost use Rattle.walk_judge.specs.Walks.{at_line, BreaksFirst, Spells, Tells, TellsLine, place_read, walks_of};
 
+use crate::claims::Claimed;
 use crate::fault::WalkFault;
 use crate::point::points_on;
-use crate::telling::Claimed;
 use std::alloc::Global;
 use text_line::{Fields, Lines};
 

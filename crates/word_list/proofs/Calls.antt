@@ -36,7 +36,7 @@ names_first name words h = grind (arith, nat_tests, stops_behind, ends_at_once, 
 abbrev call_with : Asked → Settings → Call
 call_with request settings = record { request = request; settings = settings }
 
--- what is told of the settings of some words is told of these words
+-- what is true of the settings of some words is true of these words
 pub served_as : (words : List (List ℕ)) {set : Settings} {b : Bool} → set ≡ settings_of words
     → b ≡ are_served set.pick words → is_complete words ≡ b
 served_as words same is = ap (λ (set : Settings). are_served set.pick words) (sym same) ∙ sym is
@@ -48,7 +48,7 @@ sound_by words {tables} {set} named same complete =
     ap (λ (t : Option (List ℕ)). can_load t set) named
     ∙ ap (λ (s : Settings). can_load (tables_of words) s) same ∙ loads words complete
 
--- what is asked for is told by the same words and the same table file
+-- the same words and the same table file ask for the same
 pub asks_same : {command : Command} {words same : List (List ℕ)} {tables named : Option (List ℕ)} → words ≡ same
     → tables ≡ named → ◌≡◌ {A = Asked} (record { command = command; words = words; tables = tables })
     (record { command = command; words = same; tables = named })

@@ -75,7 +75,7 @@ pub enum SmallEngine {
 /// What an answer shows of a walk.
 #[derive(Clone, Copy, Debug, Default, PartialEq, Eq)]
 pub enum Show {
-    /// Points that a walk is told by: by `plain`, `boxes` and `moves` the ends of its straight pieces, by the
+    /// Points that stand for a walk: by `plain`, `boxes` and `moves` the ends of its straight pieces, by the
     /// engines that jump the cells where the search stopped on the way, of which several may lie on one line.
     #[default]
     Points,

@@ -159,25 +159,25 @@ fn hear_end<O: Sink, L: Ledger>(
 fn answer_known<O: Sink, L: Ledger>(
     alloc: Global,
     job: &mut Answers,
-    known: Result<(), ScriptFault>,
+    fed: Result<(), ScriptFault>,
     got: &[ScriptCommand],
     out: &mut O,
     steps: &mut Steps<L>,
 ) -> Result<(), Stop>
-    ensures known { AnswersKnown job.old job.new known got.now (O.outflow out.old)
+    ensures known { AnswersKnown job.old job.new fed got.now (O.outflow out.old)
         (O.outflow out.new) result }
-    ensures all { OnOk result (known ≡ Ok tt) }
+    ensures all { OnOk result (fed ≡ Ok tt) }
     ensures rose { OnOk result (CountsMore HaveCounted job.old job.new got.now steps.old steps.new) }
 {
     work_more(alloc, job, got, out, steps)?;
-    refuse(alloc, known)
+    refuse(alloc, fed)
 }
 
 // Stops at a fault, with its line.
-fn refuse(alloc: Global, known: Result<(), ScriptFault>) -> Result<(), Stop>
-    ensures { Refuses known result }
+fn refuse(alloc: Global, fed: Result<(), ScriptFault>) -> Result<(), Stop>
+    ensures { Refuses fed result }
 {
-    match known {
+    match fed {
         Ok(()) => Ok(()),
         Err(fault) => Err(Stop::Text(script_line(alloc, fault)?)),
     }

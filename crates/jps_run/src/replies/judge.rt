@@ -1,7 +1,7 @@
 //! The rows of claimed walks, entry by entry.
 
 ghost use Rattle.std.specs.Prelude.{◌≡◌, length, IfOk};
-ghost use Rattle.walk_judge.specs.Telling.{IsFit};
+ghost use Rattle.walk_judge.specs.Claims.{IsFit};
 ghost use Rattle.scen_maker.specs.Settling.{IsSettled};
 ghost use Rattle.jps_run.specs.Judging.{IsReady, IsJudged};
 ghost use Rattle.jps_run.specs.Rulings.{IsRuling};

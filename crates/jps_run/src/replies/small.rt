@@ -5,7 +5,7 @@ ghost use Rattle.edit_replay.specs.Replies.{IsRightOn};
 ghost use Rattle.first_moves.specs.Row.{AreMoves};
 ghost use Rattle.goal_boxes.specs.Stored.{HoldsBoxes};
 ghost use Rattle.grid_moves.specs.Grid.{is_free};
-ghost use Rattle.jps_run.specs.Who.{IsBoxedReply, IsLedReply, IsReplyBy, IsReplyOn, by_small};
+ghost use Rattle.jps_run.specs.Who.{IsFoundReply, IsReplyBy, by_boxes, by_moves, by_small};
 
 use crate::NoMemory;
 use cell_lines::AskedEnds;
@@ -21,7 +21,7 @@ use steps::Steps;
 use word_list::SmallEngine;
 
 /// The reply of the boxed run between free cells of a grid, by its boxes.
-#[tactic(auto, using(edit_replay::proofs::Answering::found_right))]
+#[tactic(auto, using(edit_replay::proofs::Answering::found_right, crate::proofs::Replying::found_boxed))]
 pub fn search_boxed(
     alloc: Global,
     grid: &Grid,
@@ -33,14 +33,14 @@ pub fn search_boxed(
     requires from { is_free grid.now from ≡ true }
     requires to { is_free grid.now to ≡ true }
     ensures right { IfOk result (IsRightOn grid.now from to) }
-    ensures run { IfOk result (IsBoxedReply grid.now from to) }
+    ensures found { IfOk result (IsFoundReply by_boxes grid.now from to) }
 {
     let found = boxed_search(alloc, grid, boxes, from, to)?;
     Ok(Reply::found(found.walk, found.taken))
 }
 
 /// The reply of the walk of first moves between free cells of a small grid, by its first moves.
-#[tactic(auto, using(edit_replay::proofs::Answering::found_right))]
+#[tactic(auto, using(edit_replay::proofs::Answering::found_right, crate::proofs::Replying::found_led))]
 pub fn follow_moves<L: Ledger>(
     alloc: Global,
     grid: &Grid,
@@ -54,7 +54,7 @@ pub fn follow_moves<L: Ledger>(
     requires from { is_free grid.now from ≡ true }
     requires to { is_free grid.now to ≡ true }
     ensures right { IfOk result (IsRightOn grid.now from to) }
-    ensures run { IfOk result (IsLedReply grid.now from to) }
+    ensures found { IfOk result (IsFoundReply by_moves grid.now from to) }
     ensures later { OnOk result (steps.old ≤ steps.new) }
 {
     let taken = Taken::new(alloc);
@@ -64,7 +64,7 @@ pub fn follow_moves<L: Ledger>(
 
 // The reply between free cells of a grid of which nothing is kept: by the boxed run, with a pass for each
 // taken cell at most, or by the walk of first moves, with one pass, from the goal.
-#[tactic(auto, using(edit_replay::proofs::Answering::found_right))]
+#[tactic(auto, using(edit_replay::proofs::Answering::found_right, crate::proofs::Replying::found_boxed, crate::proofs::Replying::found_led))]
 fn reply_alone<L: Ledger>(
     alloc: Global,
     grid: &Grid,
@@ -79,7 +79,7 @@ fn reply_alone<L: Ledger>(
     requires from { is_free grid.now from ≡ true }
     requires to { is_free grid.now to ≡ true }
     ensures right { IfOk result (IsRightOn grid.now from to) }
-    ensures run { IfOk result (IsReplyOn (by_small engine) grid.now from to) }
+    ensures found { IfOk result (IsFoundReply (by_small engine) grid.now from to) }
 {
     let mut steps = Steps::<L>::new(blank);
     match engine {

@@ -1,6 +1,6 @@
 use Rattle.std.proofs.Common.{ap, ◌∙◌, sym, Bool, nat_eq}
 use Rattle.std.specs.Prelude.{if◌then◌else◌}
-use Rattle.bit_grid.specs.Bits.{is_set}
+use Rattle.grid_moves.specs.Bits.{is_set}
 use Rattle.bit_grid.proofs.Words.{set_with, set_without}
 use Rattle.bit_grid.proofs.lines.with_bit.Goals as goal
 

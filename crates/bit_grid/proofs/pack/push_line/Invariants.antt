@@ -1,5 +1,5 @@
 use Rattle.std.proofs.Common.{◌≡◌, ℕ, ◌+◌, ◌*◌, ◌<◌, length, Bool, slice_index_or}
-use Rattle.bit_grid.specs.Bits.{is_set}
+use Rattle.grid_moves.specs.Bits.{is_set}
 use Rattle.bit_grid.specs.Turn.{ArePackedSoFar}
 use Rattle.bit_grid.proofs.pack.push_line.Given as goal
 

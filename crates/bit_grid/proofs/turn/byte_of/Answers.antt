@@ -1,5 +1,6 @@
 use Rattle.std.proofs.Common.{◌*◌, ◌/◌, ◌^◌, ◌∙◌}
-use Rattle.bit_grid.proofs.Lanes.{set_in_byte, set_from}
+use Rattle.grid_moves.proofs.Bits.{set_from}
+use Rattle.bit_grid.proofs.Lanes.{set_in_byte}
 use Rattle.bit_grid.proofs.turn.byte_of.Goals as goal
 
 pub returns : goal.returns

@@ -8,7 +8,7 @@ pub returns-clause-ready : goal.returns-clause-ready
 returns-clause-ready g c =
     begun_by (g.T.Terrain.grid c.args.t.now) c.args.from c.width.ensures.whole c.requires.from
     c.args.ranks.now
-    c.args.firsts.now c.requires.ranked c.requires.begun c.requires.far c.requires.none
+    c.args.firsts.now c.requires.ranked c.requires.bytes c.requires.far c.requires.none
     (front_of c.spread.new.ranks c.spread.new.firsts c.spread.new.ahead) c.number_of-at.result
     c.clear.new.self.ahead.next.items c.clear.new.self.ahead.after.items
     (c.number_of-at.ensures ∙ ap (λ (n : ℕ). cell_number n c.args.from) c.width.ensures.is)

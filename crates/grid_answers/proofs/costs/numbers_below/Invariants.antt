@@ -1,5 +1,5 @@
 use Rattle.std.proofs.Common.{◌≡◌}
-use Rattle.grid_answers.specs.Telling.{numbers_below}
+use Rattle.grid_answers.specs.Distances.{numbers_below}
 use Rattle.grid_answers.proofs.costs.numbers_below.Given as goal
 
 -- the numbers below this one

@@ -1,4 +1,4 @@
-use Rattle.grid_answers.specs.Telling.{row_costs}
+use Rattle.grid_answers.specs.Printing.{row_costs}
 use Rattle.grid_answers.proofs.Waved.{fields-more}
 use Rattle.grid_answers.proofs.costs.put_fields.Goals as goal
 

@@ -1,6 +1,6 @@
 use Rattle.std.proofs.Common.{◌≡◌, ◌++◌}
 use Rattle.grid_answers.specs.Distances.{fields_to}
-use Rattle.grid_answers.specs.Telling.{row_costs}
+use Rattle.grid_answers.specs.Printing.{row_costs}
 use Rattle.grid_answers.proofs.costs.put_fields.Given as goal
 
 -- the fields up to this column are written

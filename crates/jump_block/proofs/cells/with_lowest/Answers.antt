@@ -1,6 +1,7 @@
 use Rattle.std.proofs.Common.{◌≡◌, suc, ◌*◌, ◌%◌, ◌∙◌, ap, arith, Bool, false, ◌||◌}
-use Rattle.bit_grid.specs.Bits.{is_set}
-use Rattle.bit_grid.proofs.Words.{set_or, set_raised, set_raised-lowest, set_flag, set_flag-above}
+use Rattle.grid_moves.specs.Bits.{is_set}
+use Rattle.grid_moves.proofs.Bits.{set_or}
+use Rattle.bit_grid.proofs.Words.{set_raised, set_raised-lowest, set_flag, set_flag-above}
 use Rattle.jump_block.proofs.cells.with_lowest.Goals as goal
 
 or_nothing : (a b : Bool) → b ≡ false → (a || b) ≡ a

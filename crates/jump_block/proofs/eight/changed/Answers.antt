@@ -1,8 +1,8 @@
 use Rattle.std.proofs.Common.{ℕ, ap, sym, ◌∙◌}
-use Rattle.bit_grid.specs.Bits.{is_set}
-use Rattle.bit_grid.proofs.Words.{set_none}
+use Rattle.grid_moves.specs.Bits.{is_set}
+use Rattle.grid_moves.proofs.Bits.{set_none, set_all}
 use Rattle.jump_block.specs.Eight.{last_bit}
-use Rattle.jump_block.proofs.Lanes.{all_alike, set_all}
+use Rattle.jump_block.proofs.Lanes.{all_alike}
 use Rattle.jump_block.proofs.eight.changed.Goals as goal
 use Rattle.jump_block.proofs.eight.changed.Goals.{then-ends_set, else-ends_set}
 

@@ -5,7 +5,7 @@ use Rattle.jump_block.specs.Trail.{IsClear, begun, trail_on}
 use Rattle.jump_block.specs.Scan.{MeetsMark, looked}
 use Rattle.jump_block.specs.Word.{far, moves_before}
 use Rattle.jump_block.proofs.Around.{found_some}
-use Rattle.jump_block.proofs.Scans.{on_same}
+use Rattle.jump_block.proofs.Scans.{on_same, stop_met}
 use Rattle.jump_block.proofs.marks.finds_next.Goals as goal
 
 pub returns-then-is_some-clause-finds : goal.returns-then-is_some-clause-finds
@@ -26,9 +26,17 @@ returns-then-is_some-clause-finds g c = λ free start.
       omega (arith, most),
     )
 
+pub mark_past-requires-clause-block : goal.mark_past-requires-clause-block
+mark_past-requires-clause-block g c = λ free start.
+    c.read-block.ensures.shown start.count start.positions free start.shows _ c.args.place
+
+pub mark_past-requires-clause-clear : goal.mark_past-requires-clause-clear
+mark_past-requires-clause-clear g c = λ free start. rw c.requires.rule at (c.requires.clear free start)
+
 pub returns-clause-finds : goal.returns-clause-finds
 returns-clause-finds g c = λ free start.
     let most = c.halt_next-found.ensures.most in
-    let found = c.finds_far.ensures.finds free start in
-    let far = found.2 in
-    (found.0, found.1, omega (arith, most, far))
+    let read = c.read-block.ensures.three_steps in
+    let met = stop_met _ _ _ _ _ (c.mark_past.ensures.stops free start) in
+    let far = met.2 in
+    rw (c.requires.rule, c.is_some-2.ensures) (met.0, met.1, omega (arith, most, read, far))

@@ -1,6 +1,6 @@
 use Rattle.std.proofs.Common.{◌≡◌, ℕ, ◌&&◌, ap, sym, subst, ◌∙◌}
 use Rattle.grid_moves.specs.Move.{is_passable}
-use Rattle.bit_grid.specs.Bits.{is_set}
+use Rattle.grid_moves.specs.Bits.{is_set}
 use Rattle.jump_block.specs.declared.word.Way.{Way}
 use Rattle.jump_block.specs.Near.{HasNextBit, next_bit, side_word}
 use Rattle.jump_block.specs.declared.straight.Axis.TheVariants.{Column}

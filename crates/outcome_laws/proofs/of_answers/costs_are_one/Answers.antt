@@ -1,4 +1,4 @@
-use Rattle.outcome_laws.proofs.Costs.{one_costs}
+use Rattle.outcome_laws.proofs.Texts.{one_costs}
 use Rattle.outcome_laws.proofs.of_answers.costs_are_one.Goals as goal
 
 pub returns : goal.returns

@@ -1,5 +1,5 @@
-use Rattle.outcome_laws.proofs.Printed.{alike_rows}
+use Rattle.outcome_laws.proofs.Rows.{rows_alike}
 use Rattle.outcome_laws.proofs.of_lines.rows_differ_in_taken.Goals as goal
 
 pub returns : goal.returns
-returns c = alike_rows
+returns c = λ who other entries rows others layers. rows_alike who other layers entries rows others

@@ -1,5 +1,5 @@
-use Rattle.outcome_laws.proofs.Replies.{one_gist}
+use Rattle.outcome_laws.proofs.Replies.{reply_found}
 use Rattle.outcome_laws.proofs.of_replies.replies_cost_the_same.Goals as goal
 
 pub returns : goal.returns
-returns c = one_gist
+returns c = reply_found

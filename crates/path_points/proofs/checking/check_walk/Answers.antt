@@ -1,21 +1,18 @@
 use Rattle.std.proofs.Common.{◌+◌, ◌≤◌, sym, ◌∙◌, ap, subst, arith, slice_index_or, drop}
-use Rattle.std.specs.Prelude.{Ok}
 use Rattle.root2_cost.specs.declared.Cost.{Cost}
 use Rattle.root2_cost.specs.Sums.{add_costs}
 use Rattle.grid_moves.specs.declared.Cell.{Cell}
-use Rattle.path_points.specs.Checked.{most_steps, starts_free}
-use Rattle.path_points.proofs.Checks.{bad_at, steps_of, checked_from, good_few, checked_off, checked_on}
-use Rattle.path_points.proofs.Checks.{checked_end, good_none, good_some, verdict_at_start, verdict_of}
+use Rattle.path_points.specs.Checked.{answer_from, most_steps, starts_free, steps_of}
+use Rattle.path_points.proofs.Checks.{answer_at_start, answer_of, good_few, checked_off, checked_on}
+use Rattle.path_points.proofs.Checks.{checked_end, good_none, good_some}
 use Rattle.path_points.proofs.checking.check_walk.Goals as goal
 
 pub returns-then-not-free : goal.returns-then-not-free
 returns-then-not-free g c =
     let grid = g.T.Terrain.grid c.args.t.now in
     let split = sym c.as_slice.ensures ∙ c.in-Some.ensures.cases.0 in
-    let v =
-    verdict_at_start grid c.args.p.now
-    (ap (λ points. starts_free grid points) split ∙ sym c.free.ensures ∙ c.if-not-free.true) in
-    record { walk = v.walk; ok = v.ok; bad = v.bad; err = v.err }
+    answer_at_start grid c.args.p.now
+    (ap (λ points. starts_free grid points) split ∙ sym c.free.ensures ∙ c.if-not-free.true)
 
 pub returns-in_default-run_cost : goal.returns-in_default-run_cost
 returns-in_default-run_cost g c =
@@ -29,13 +26,10 @@ returns-in_default-run_cost g c =
     let bad =
     good_none grid (steps_of c.loop-i.cost) last next
     (sym c.run_cost.ensures.cost ∙ c.in_default-run_cost.is) in
-    let answer =
-    c.loop-i.invariant.decides
-    ∙ checked_off grid i last others c.loop-i.cost origin c.loop-i-test.true bad in
-    let v =
-    verdict_of grid c.args.p.now c.in-Some.first.now others (bad_at (i + 1)) split
-    (sym c.free.ensures ∙ c.if-not-free.false) answer in
-    record { walk = v.walk; ok = v.ok; bad = v.bad; err = v.err }
+    sym (checked_off grid i last others c.loop-i.cost origin c.loop-i-test.true bad)
+    ∙ sym c.loop-i.invariant.decides
+    ∙ answer_of grid c.args.p.now c.in-Some.first.now others split
+    (sym c.free.ensures ∙ c.if-not-free.false)
 
 pub loop-i-preserved : goal.loop-i-preserved
 loop-i-preserved g c =
@@ -56,7 +50,7 @@ loop-i-preserved g c =
       decides =
           c.loop-i.invariant.decides
           ∙ checked_on grid i last others cost origin c.loop-i-test.true good.0
-          ∙ ap (λ (sum : Cost). checked_from grid (i + 1) next (drop (i + 1) others) sum) paid;
+          ∙ ap (λ (sum : Cost). answer_from grid (i + 1) next (drop (i + 1) others) sum) paid;
     }
 
 pub returns : goal.returns
@@ -64,10 +58,7 @@ returns g c =
     let grid = g.T.Terrain.grid c.args.t.now in
     let others = c.in-Some.others.now in
     let split = sym c.as_slice.ensures ∙ c.in-Some.ensures.cases.0 in
-    let answer =
-    c.loop-i.invariant.decides
-    ∙ checked_end grid c.loop-i.i c.loop-i.last others c.loop-i.cost (omega arith) in
-    let v =
-    verdict_of grid c.args.p.now c.in-Some.first.now others (Ok c.loop-i.cost) split
-    (sym c.free.ensures ∙ c.if-not-free.false) answer in
-    record { walk = v.walk; ok = v.ok; bad = v.bad; err = v.err }
+    sym (checked_end grid c.loop-i.i c.loop-i.last others c.loop-i.cost (omega arith))
+    ∙ sym c.loop-i.invariant.decides
+    ∙ answer_of grid c.args.p.now c.in-Some.first.now others split
+    (sym c.free.ensures ∙ c.if-not-free.false)

@@ -25,8 +25,8 @@ returns-in-Upwards g c =
     let around = seen_as (g.T.Terrain.grid c.args.t.now) c.args.heading c.args.y band.next.items
     band.here.items band.back.items _ _ _ c.deref.ensures.value c.deref-in-Upwards.ensures.value
     c.deref-in-Upwards-2.ensures.value c.requires.ready.1 in (
-      c.tell_one_along.ensures c.args.heading c.args.y around,
-      c.tell_one_along-in-Upwards.ensures c.args.heading c.args.y around,
+      c.make_one_along.ensures c.args.heading c.args.y around,
+      c.make_one_along-in-Upwards.ensures c.args.heading c.args.y around,
     )
 
 pub returns-in-Downwards : goal.returns-in-Downwards

@@ -15,7 +15,7 @@ loop-x-preserved c =
     let at = c.place_after-at.result in
     let long : x + 1 < length c.loop-x.out = omega arith in
     number_more c.loop-x.out x (to_z w16 (of_z w16 c.entry_from.result))
-    (λ k (z : ℤ). spec.IsToldAs c.args.corner rows.ahead.now rows.here.now rows.behind.now c.args.forced.now
+    (λ k (z : ℤ). spec.IsEntryAs c.args.corner rows.ahead.now rows.here.now rows.behind.now c.args.forced.now
     next.ahead.now next.right.now next.left.now c.args.d k z)
     long c.loop-x.invariant
     (rw (sym c.place_after-at.ensures.is)

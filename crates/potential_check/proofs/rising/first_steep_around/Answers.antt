@@ -13,7 +13,7 @@ pub returns : goal.returns
 returns c =
     let u = c.args.u in
     let from = c.args.middle.here in
-    let is = c.of-a.ensures.around in
+    let is = c.moves_around-a.ensures.around in
     let height : Dir → ℤ = towards c.args.left c.args.middle c.args.right in
     let ahead : Dir → Option Cell = legal_ahead c.args.g.now u in
     let to : Dir → Option Cell = λ d. steep_move u from (height d) (ahead d) in

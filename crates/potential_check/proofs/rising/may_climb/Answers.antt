@@ -1,8 +1,9 @@
 use Rattle.std.proofs.Common.{rules, ◌+◌, ℤ, FitsSigned, inl, refl, w64}
+use Rattle.std.proofs.lemmas.Bool.{or_parts}
 use Rattle.grid_moves.specs.declared.Dir.{Dir}
 use Rattle.grid_moves.specs.declared.Dir.TheVariants.{N, NE, E, SE, S, SW, W, NW}
 use Rattle.potential_check.specs.Rising.{towards}
-use Rattle.potential_check.proofs.Flat.{flat_ahead, flat_passed, neither, none_steep, one_before}
+use Rattle.potential_check.proofs.Flat.{flat_ahead, flat_passed, none_steep, one_before}
 use Rattle.potential_check.proofs.rising.may_climb.Goals as goal
 
 pub returns : goal.returns
@@ -13,13 +14,13 @@ returns c = λ g none.
     let fits : FitsSigned w64 from = search rules in
     let west = one_before u.x c.before-west.result c.before-west.ensures.is in
     let north = one_before u.y c.before-north.result c.before-north.ensures.is in
-    let but_nw = neither _ c.would_climb-nw.result none in
-    let but_w = neither _ c.would_climb-w.result but_nw.0 in
-    let but_sw = neither _ c.would_climb-sw.result but_w.0 in
-    let but_s = neither _ c.would_climb-s.result but_sw.0 in
-    let but_se = neither _ c.would_climb-se.result but_s.0 in
-    let but_e = neither _ c.would_climb-e.result but_se.0 in
-    let but_ne = neither c.would_climb-n.result c.would_climb-ne.result but_e.0 in
+    let but_nw = or_parts _ c.would_climb-nw.result none in
+    let but_w = or_parts _ c.would_climb-w.result but_nw.0 in
+    let but_sw = or_parts _ c.would_climb-sw.result but_w.0 in
+    let but_s = or_parts _ c.would_climb-s.result but_sw.0 in
+    let but_se = or_parts _ c.would_climb-se.result but_s.0 in
+    let but_e = or_parts _ c.would_climb-e.result but_se.0 in
+    let but_ne = or_parts c.would_climb-n.result c.would_climb-ne.result but_e.0 in
     none_steep g u from to
     (flat_ahead g u N u.x c.before-north.result from (to N) (inl refl) north
     (flat_passed _ from (to N) c.would_climb-n.result fits (search rules) c.would_climb-n.ensures but_ne.0))

@@ -1,5 +1,6 @@
 -- Each place adds a walk.
 use Rattle.std.proofs.Common.{true, inl, inr, arith}
+use Rattle.std.proofs.lemmas.Bool.{or_right}
 use Rattle.table_repair.specs.Lines.{is_on_line}
 use Rattle.table_repair.specs.Abreast.{is_at_one}
 use Rattle.table_repair.proofs.Abreast.{abreast_beside, left_less}
@@ -8,7 +9,6 @@ use Rattle.table_repair.proofs.Entering.{enter_place, beside_behind}
 use Rattle.table_repair.proofs.Mends.{right_stays}
 use Rattle.table_repair.proofs.Sweeping.{among_from}
 use Rattle.table_repair.proofs.Totals.{few_begun, counted_begun, more_begun, later_on}
-use Rattle.table_repair.proofs.Walking.{or_right}
 use Rattle.table_repair.proofs.sweep.enter_line.Goals as goal
 
 pub loop-place-init : goal.loop-place-init

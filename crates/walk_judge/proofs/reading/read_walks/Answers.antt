@@ -1,6 +1,6 @@
 use Rattle.walk_judge.specs.declared.fault.WalkFault.TheVariants.{NoMemory}
 use Rattle.text_line.proofs.Reading.{tells_found, right_reading}
-use Rattle.walk_judge.proofs.Laws.{walks_read}
+use Rattle.walk_judge.proofs.Spelling.{walks_read}
 use Rattle.walk_judge.proofs.Fit.{answer_fit}
 use Rattle.walk_judge.proofs.reading.read_walks.Goals as goal
 

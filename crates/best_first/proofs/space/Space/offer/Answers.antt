@@ -50,7 +50,7 @@ lower_parts-requires-clause-same g c = λ old h.
     c.requires.placed (ap (λ (n : Node). n.place) c.node_for-node.ensures) in
     ap (λ (n : Node). state_of s.layout n) (some_node old f.node (sym h ∙ f.node_is)) ∙ f.state ∙ sym made
 
--- what is told of the node's place is the state that is offered
+-- what stands in the node's place is the state that is offered
 offered_again : (goal : Cell) (o : Offer) (n : Node) → o.to.cell.x < 4096 → n ≡ node_for goal o
     → state_of_place n.place ≡ o.to
 offered_again goal o n column made = ap (λ (p : Place). state_of_place p) (ap (λ (n : Node). n.place) made)

@@ -1,7 +1,8 @@
 use Rattle.std.proofs.Common.{◌≡◌, ◌<◌, ◌+◌, ◌*◌, ◌/◌, ◌%◌, ℕ, arith, ap, sym, ◌∙◌, subst, nat_eq}
 use Rattle.std.specs.Prelude.{if◌then◌else◌}
 use Rattle.std.proofs.lemmas.List.{get_or_default}
-use Rattle.bit_grid.specs.Bits.{LineData, Shows, is_set}
+use Rattle.grid_moves.specs.Bits.{is_set}
+use Rattle.bit_grid.specs.Bits.{LineData, Shows}
 use Rattle.bit_grid.proofs.Showing.{set_shown, place_below}
 use Rattle.bit_grid.proofs.lines.Lines.set.Goals as goal
 

@@ -1,6 +1,7 @@
 use Rattle.std.proofs.Common.{arith, rules, ap, sym, ◌∙◌, subst, refl}
 use Rattle.grid_moves.specs.declared.Ground.TheVariants.{Land, Water}
-use Rattle.edit_replay.proofs.Following.{edited_by, found_by_bits, later_on, mended_both, no_less, on_bits}
+use Rattle.bit_grid.proofs.Showing.{on_map}
+use Rattle.edit_replay.proofs.Following.{edited_by, found_by_bits, later_on, mended_both, no_less}
 use Rattle.edit_replay.proofs.Following.{on_water, places_stay}
 use Rattle.edit_replay.specs.Kept.{as_layers, engine_of, engine_with}
 use Rattle.edit_replay.specs.Mended.{AreMended, IsEditCounted}
@@ -34,13 +35,13 @@ pub set-requires-in-Jumps-Bits-default-2 : goal.set-requires-in-Jumps-Bits-defau
 set-requires-in-Jumps-Bits-default-2 g c =
     let bits = c.in-Jumps-Bits-default in
     let found = found_by_bits c.args.self.now.grids _ _ _ _ bits.is bits.finder-is c.requires.kept.serves in
-    record { inside = on_bits _ _ _ found.0 c.requires.inside }
+    record { inside = on_map _ _ _ found.0 c.requires.inside }
 
 pub set-requires-in-Jumps-Bits-default-3 : goal.set-requires-in-Jumps-Bits-default-3
 set-requires-in-Jumps-Bits-default-3 g c =
     let bits = c.in-Jumps-Bits-default in
     let found = found_by_bits c.args.self.now.grids _ _ _ _ bits.is bits.finder-is c.requires.kept.serves in
-    record { inside = on_bits _ _ _ found.1 (on_water _ _ c.requires.kept.layers c.requires.inside) }
+    record { inside = on_map _ _ _ found.1 (on_water _ _ c.requires.kept.layers c.requires.inside) }
 
 pub returns-in-Jumps-Bits-default-clause-serves : goal.returns-in-Jumps-Bits-default-clause-serves
 returns-in-Jumps-Bits-default-clause-serves g c =

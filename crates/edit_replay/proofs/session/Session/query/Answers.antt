@@ -146,8 +146,8 @@ pub invariant_of-self-2 : goal.invariant_of-self-2
 invariant_of-self-2 g c =
     c.search.ensures.kept
 
-pub returns-clause-known : goal.returns-clause-known
-returns-clause-known g c =
+pub returns-clause-function : goal.returns-clause-function
+returns-clause-function g c =
     let whole : c.args.self.now ≡ stands_for c.deref_mut-parts.result.now =
     sym c.self.view_is ∙ ap stands_for (sym c.deref_mut-parts.ensures.value) in
     let are : AreLayers c.args.self.now.layers = subst (λ (d : SessionData). AreLayers d.layers)
@@ -155,8 +155,8 @@ returns-clause-known g c =
     result_known c.args.self.now are (record { x = c.args.sx; y = c.args.sy })
     (record { x = c.args.gx; y = c.args.gy }) c.search.result (returns-clause-right g c) (returns-clause-run g c)
 
-pub returns-in-Err-clause-known : goal.returns-in-Err-clause-known
-returns-in-Err-clause-known g c =
+pub returns-in-Err-clause-function : goal.returns-in-Err-clause-function
+returns-in-Err-clause-function g c =
     let whole : c.args.self.now ≡ stands_for c.deref_mut-parts.result.now =
     sym c.self.view_is ∙ ap stands_for (sym c.deref_mut-parts.ensures.value) in
     let are : AreLayers c.args.self.now.layers = subst (λ (d : SessionData). AreLayers d.layers)

@@ -2,12 +2,12 @@ use Rattle.std.proofs.Common.{sym, ◌∙◌, length, ap, List, ℕ}
 use Rattle.first_moves.specs.First.{first_in}
 use Rattle.first_moves.specs.Runs.{runs_of}
 use Rattle.std.proofs.Common.{map}
-use Rattle.first_moves.proofs.Picking.{row_of, same_size}
+use Rattle.first_moves.proofs.Picking.{waves_row, same_size}
 use Rattle.first_moves.proofs.row.Row.of_waves.Goals as goal
 
 pub returns : goal.returns
 returns c = λ grid s wide high tells.
-    row_of grid s c.args.waves.now c.in_ok-runs.runs.items wide
+    waves_row grid s c.args.waves.now c.in_ok-runs.runs.items wide
     (ap (λ (l : List ℕ). length l) (sym c.all_first_dirs.ensures.dirs) ∙ same_size high wide
     c.all_first_dirs.ensures.whole)
     tells

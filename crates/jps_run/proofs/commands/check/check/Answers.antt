@@ -29,16 +29,16 @@ returns-clause-opened g c =
             map = r.spelled.map;
             is = refl;
             read = r.spelled.spelled;
-            known = record {
+            such = record {
               one = r.more;
               is = refl;
-              known = (
+              such = (
                 cert,
                 r.spelled_more,
                 record {
                   one = p.text.items;
                   is = w.0;
-                  known = subst (λ (n : ℕ). IsVerdict
+                  such = subst (λ (n : ℕ). IsVerdict
                       (query_grid (layers_on c.args.settings r.spelled.map) cert.start) cert p.text.items n)
                       (sym w.1) verdict;
                 },

@@ -23,7 +23,7 @@ returns-clause-opened g c =
                   map = r.spelled.map;
                   is = refl;
                   read = r.spelled.spelled;
-                  known = (
+                  such = (
                     refl,
                     rw (← c.number-x.ensures, ← c.number-y.ensures)
                         (subst (λ (ls : Layers). AreCosts ls (record { x = c.number-x.result; y = c.number-y.result })

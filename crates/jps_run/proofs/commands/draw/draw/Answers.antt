@@ -22,7 +22,7 @@ returns-clause-opened g c =
           prints r.text r.spelled.map r.spelled.spelled w.text status (record {
             session = canvas.session;
             is = r.spelled.is.1;
-            known = rw (
+            such = rw (
               ← c.ends_of-ends.ensures.sx,
               ← c.ends_of-ends.ensures.sy,
               ← c.ends_of-ends.ensures.gx,
@@ -37,12 +37,12 @@ returns-clause-opened g c =
           map = r.spelled.map;
           is = refl;
           read = r.spelled.spelled;
-          known = (
+          such = (
             refl,
             record {
               session = canvas.session;
               is = r.spelled.is.1;
-              known = rw (
+              such = rw (
                 ← c.ends_of-ends.ensures.sx,
                 ← c.ends_of-ends.ensures.sy,
                 ← c.ends_of-ends.ensures.gx,

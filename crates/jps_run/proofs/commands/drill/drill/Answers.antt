@@ -31,10 +31,10 @@ returns c =
             from = w.found;
             all = w.all;
             code = w.good;
-            known = record {
+            such = record {
               session = session;
               is = begun;
-              known = subst (λ (some : List ScriptCommand). AreFindings session some w.found) e w.are;
+              such = subst (λ (some : List ScriptCommand). AreFindings session some w.found) e w.are;
             };
           },
         ),
@@ -44,7 +44,7 @@ returns c =
         record {
           session = session;
           is = begun;
-          known = subst (λ (some : List ScriptCommand). RoseForCommands session some old new) e rose;
+          such = subst (λ (some : List ScriptCommand). RoseForCommands session some old new) e rose;
         },
       );
     }

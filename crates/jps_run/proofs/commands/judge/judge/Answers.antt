@@ -29,21 +29,21 @@ returns-clause-opened g c =
             map = r.costs.map;
             is = refl;
             read = r.costs.spelled;
-            known = (
+            such = (
               r.second,
               r.third,
               refl,
               record {
                 value = entries;
                 is = r.entries.0;
-                known = record {
+                such = record {
                   value = claimed;
                   is = r.walks.0;
-                  known = record {
+                  such = record {
                     from = w.rulings;
                     all = w.all;
                     code = w.same_status;
-                    known = subst (λ (ls : Layers). AreRulings ls entries claimed w.rulings) r.costs.is w.are;
+                    such = subst (λ (ls : Layers). AreRulings ls entries claimed w.rulings) r.costs.is w.are;
                   };
                 };
               },

@@ -23,13 +23,13 @@ returns-clause-opened g c =
             map = r.spelled.map;
             is = refl;
             read = r.spelled.spelled;
-            known = record {
+            such = record {
               one = r.more;
               is = refl;
-              known = record {
+              such = record {
                 value = made.1.entries.items;
                 is = r.spelled_more.0.0;
-                known = record {
+                such = record {
                   below = w.below;
                   are = subst (λ (ls : Layers). AreLengthLines ls r.more made.1.entries.items w.below)
                       r.spelled.is

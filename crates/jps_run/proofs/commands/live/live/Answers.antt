@@ -31,6 +31,6 @@ returns-clause-opened g c =
         spelled = r.is.spelled;
         session = job.session;
         answers = r.is.is.session;
-        known = (refl, r.is.is.show);
+        such = (refl, r.is.is.show);
       };
     }) (follow-same stops) (rw (c.name.ensures) at c.open_answers.ensures.read)

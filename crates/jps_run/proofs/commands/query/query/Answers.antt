@@ -27,10 +27,10 @@ returns-clause-opened g c =
                   map = r.is.map;
                   is = refl;
                   read = r.is.spelled;
-                  known = record {
+                  such = record {
                     one = w.1.line;
                     is = w.1.all;
-                    known = rw (
+                    such = rw (
                       ← c.ends_of-ends.ensures.sx,
                       ← c.ends_of-ends.ensures.sy,
                       ← c.ends_of-ends.ensures.gx,
@@ -48,7 +48,7 @@ returns-clause-opened g c =
           map = r.is.map;
           is = refl;
           read = r.is.spelled;
-          known = rw (
+          such = rw (
             ← c.ends_of-ends.ensures.sx,
             ← c.ends_of-ends.ensures.sy,
             ← c.ends_of-ends.ensures.gx,

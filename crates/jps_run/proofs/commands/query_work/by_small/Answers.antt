@@ -7,8 +7,7 @@ use Rattle.jps_run.proofs.commands.query_work.by_small.Goals as goal
 
 pub line_of-requires-clause-unfolds : goal.line_of-requires-clause-unfolds
 line_of-requires-clause-unfolds c =
-    replied_unfolds (record { layers = c.args.layers.now; by = by_small c.args.engine }) _ _
-    c.in_ok-reply.reply c.in_ok-reply.ensures
+    replied_unfolds c.args.layers.now _ _ c.in_ok-reply.reply c.in_ok-reply.ensures.right
 
 pub returns : goal.returns
 returns c =

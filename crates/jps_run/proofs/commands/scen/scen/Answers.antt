@@ -68,18 +68,18 @@ returns-clause-opened g c =
           on-last r.text r.is.map r.is.spelled r.loaded s.text (record {
             value = entries;
             is = s.spelled.0;
-            known = record {
+            such = record {
               from = w.rows;
               all = w.all;
               code = w.same_status;
-              known = subst (λ (by : Who). AreRows by entries w.rows) is w.are;
+              such = subst (λ (by : Who). AreRows by entries w.rows) is w.are;
             };
           }),
         );
         counted = λ old new rose. inr (on-last r.text r.is.map r.is.spelled r.loaded s.text (record {
           value = entries;
           is = s.spelled.0;
-          known = subst (λ (by : Who). RoseForEntries by entries old new) is rose;
+          such = subst (λ (by : Who). RoseForEntries by entries old new) is rose;
         }));
       };
     }

@@ -64,10 +64,10 @@ returns-clause-opened g c =
             on-last r.text r.is.map r.is.spelled r.loaded s.text (record {
               value = commands;
               is = s.spelled;
-              known = record {
+              such = record {
                 session = job.session;
                 is = r.is.is.session;
-                known = subst (λ (show : Show). AreAnswers job.session show commands lines) r.is.is.show
+                such = subst (λ (show : Show). AreAnswers job.session show commands lines) r.is.is.show
                     w.answers;
               };
             }),
@@ -77,7 +77,7 @@ returns-clause-opened g c =
         counted = λ old new rose. inr (on-last r.text r.is.map r.is.spelled r.loaded s.text (record {
           value = commands;
           is = s.spelled;
-          known = record { session = job.session; is = r.is.is.session; known = rose };
+          such = record { session = job.session; is = r.is.is.session; such = rose };
         }));
       };
     }

@@ -1,4 +1,3 @@
-use Rattle.jps_run.specs.Who.{who_is}
 use Rattle.jps_run.proofs.Solving.{query-goes-on}
 use Rattle.jps_run.proofs.Unfolding.{replied_unfolds}
 use Rattle.jps_run.proofs.replies.answers.put_answer.Goals as goal
@@ -6,9 +5,8 @@ use Rattle.jps_run.proofs.replies.answers.put_answer.Goals as goal
 pub put_reply-requires-clause-unfolds : goal.put_reply-requires-clause-unfolds
 put_reply-requires-clause-unfolds g c =
     let q = c.in-Query in
-    replied_unfolds (who_is c.args.session.now) (record { x = q.sx; y = q.sy })
-    (record { x = q.gx; y = q.gy }) c.in_ok-reply-in-Query.reply
-    (record { right = c.in_ok-reply-in-Query.ensures.right; run = c.in_ok-reply-in-Query.ensures.run })
+    replied_unfolds c.args.session.now.layers (record { x = q.sx; y = q.sy })
+    (record { x = q.gx; y = q.gy }) c.in_ok-reply-in-Query.reply c.in_ok-reply-in-Query.ensures.right
 
 pub returns-in_ok-reply-in-Query-clause-edited : goal.returns-in_ok-reply-in-Query-clause-edited
 returns-in_ok-reply-in-Query-clause-edited g c =

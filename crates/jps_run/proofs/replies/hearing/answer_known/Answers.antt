@@ -8,13 +8,13 @@ work_more-requires-clause-completes g c = answers-complete
 
 pub returns-in_err-work_more-clause-known : goal.returns-in_err-work_more-clause-known
 returns-in_err-work_more-clause-known g c = λ first earlier all fault before w k.
-    known-stopped first c.work_more.new.job c.args.known earlier c.args.got.now all fault before _ k _
+    known-stopped first c.work_more.new.job c.args.fed earlier c.args.got.now all fault before _ k _
     c.from_residual.result c.in_err-work_more.field-0.0 c.from_residual.ensures.1
     (λ others. c.in_err-work_more.ensures.written first earlier others before w)
 
 pub returns-clause-known : goal.returns-clause-known
 returns-clause-known g c = λ first earlier all fault before w k.
-    known-ended first c.work_more.new.job c.args.known earlier c.args.got.now all fault before
+    known-ended first c.work_more.new.job c.args.fed earlier c.args.got.now all fault before
     (g.O.Sink.outflow c.work_more.new.out) k
     (c.in_ok-work_more.ensures.written first earlier k.others before w) c.refuse.result c.refuse.ensures
 

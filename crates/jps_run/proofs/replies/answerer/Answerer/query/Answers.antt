@@ -28,7 +28,7 @@ returns-in-Session g c =
     let r = c.query.result in
     record {
       reply = reply-as r a b c.in-Session.is _ _
-          (session-reply r c.in-Session.session _ _ c.query.ensures.right c.query.ensures.run);
+          (session-reply r c.in-Session.session _ _ c.query.ensures.right c.query.ensures.function);
       short = c.query.ensures.short;
       unchanged = ap (λ (d : SessionData). answerer.Session d) c.query.ensures.unchanged
           ∙ sym c.in-Session.is;

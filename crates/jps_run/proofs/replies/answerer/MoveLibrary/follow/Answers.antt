@@ -3,7 +3,7 @@ use Rattle.std.specs.Prelude.{IfOk}
 use Rattle.edit_replay.specs.Replies.{IsRightOn}
 use Rattle.first_moves.specs.Row.{AreMoves}
 use Rattle.grid_moves.specs.Grid.{GridData}
-use Rattle.jps_run.specs.Who.{IsLedReply}
+use Rattle.jps_run.specs.Who.{IsFoundReply, by_moves}
 use Rattle.jps_run.proofs.Answerers.{end-free, on-land, on-water, start-free}
 use Rattle.jps_run.proofs.replies.answerer.MoveLibrary.follow.Goals as goal
 
@@ -43,8 +43,8 @@ returns-then-free g c =
     record {
       right = subst (λ (k : GridData). IfOk r (IsRightOn k c.args.from c.args.to)) here
           c.follow_moves.ensures.right;
-      run = subst (λ (k : GridData). IfOk r (IsLedReply k c.args.from c.args.to)) here
-          c.follow_moves.ensures.run;
+      found = subst (λ (k : GridData). IfOk r (IsFoundReply by_moves k c.args.from c.args.to)) here
+          c.follow_moves.ensures.found;
       later = c.follow_moves.ensures.later;
     }
 
@@ -56,7 +56,7 @@ returns-else-free g c =
     record {
       right = subst (λ (k : GridData). IfOk r (IsRightOn k c.args.from c.args.to)) here
           c.follow_moves-else-free.ensures.right;
-      run = subst (λ (k : GridData). IfOk r (IsLedReply k c.args.from c.args.to)) here
-          c.follow_moves-else-free.ensures.run;
+      found = subst (λ (k : GridData). IfOk r (IsFoundReply by_moves k c.args.from c.args.to)) here
+          c.follow_moves-else-free.ensures.found;
       later = c.follow_moves-else-free.ensures.later;
     }
