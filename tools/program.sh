@@ -168,7 +168,7 @@ build() {
         fail "the program cannot be built, as $out cannot be written"
     fi
     if [ ! -d "$out/libs" ] && [ ! -d "$out/incremental" ]; then
-        first="; the first time this takes 14 to 24 minutes on four processors"
+        first="; the first time this takes 12 to 24 minutes on four processors"
     fi
     tell "proving and building the program$first (log: $log)"
     # (without the program's own sum, so that the program is linked again, whatever became of it)
