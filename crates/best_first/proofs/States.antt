@@ -1,6 +1,6 @@
 -- States, their numbers, and the places that stand for them.
 use Rattle.std.proofs.Common.{◌≡◌, ℕ, min, ◌+◌, ◌*◌, ◌/◌, ◌%◌, ◌<◌, ◌≤◌, ◌⊎◌, inl, inr, ap}
-use Rattle.std.proofs.Common.{sym, ◌∙◌, Bool, true, false, ◌&&◌, arith}
+use Rattle.std.proofs.Common.{sym, ◌∙◌, Bool, true, false, arith}
 use Rattle.std.specs.Prelude.{Option}
 use Rattle.std.proofs.lemmas.Bool.Decides.{nat_tests}
 use Rattle.std.proofs.Math.Nat.{mul-le-mul}

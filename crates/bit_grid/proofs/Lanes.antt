@@ -1,5 +1,5 @@
 -- Bits of bytes, 64 at a time.
-use Rattle.std.proofs.Common.{◌≡◌, ℕ, zero, suc, ◌+◌, ◌*◌, ◌/◌, ◌%◌, ◌^◌, ◌<◌, arith, Bool, true, ◌&&◌, refl}
+use Rattle.std.proofs.Common.{◌≡◌, ℕ, zero, suc, ◌*◌, ◌%◌, ◌^◌, ◌<◌, arith, Bool, true, ◌&&◌, refl}
 use Rattle.std.proofs.Common.{ap, sym, ◌∙◌, ◌-◌, bit_and, eqb, w8, map, List, length, slice_index_or, false}
 use Rattle.std.specs.Simd.Lanes.{zip2, mask_l, top}
 use mathlib.Core.Bool.{cond}

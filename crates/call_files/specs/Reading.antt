@@ -1,5 +1,5 @@
 -- What texts are read as, and how their reading may stop.
-use Rattle.std.specs.Prelude.{◌≡◌, ℕ, ◌≤◌, ◌^◌, List, [], ◌∷◌, ◌++◌, length, Ok, Some, slice_get, true, ◌*◌}
+use Rattle.std.specs.Prelude.{◌≡◌, ℕ, ◌≤◌, ◌^◌, List, [], ◌∷◌, length, Ok, Some, slice_get, true, ◌*◌}
 use Rattle.std.specs.Global.{Vec}
 use Rattle.map_text.specs.Map.{Map}
 use Rattle.map_text.specs.Faults.{map_of, plain}

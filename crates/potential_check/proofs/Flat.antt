@@ -1,6 +1,6 @@
 -- Where no move would climb, were it legal, no legal move does.
 use Rattle.std.proofs.lemmas.Bool.Decides.{nat_tests}
-use Rattle.std.proofs.Common.{◌≡◌, ℕ, zero, suc, ◌⊎◌, inl, inr, Bool, true, false, ◌||◌, refl, sym, ap, ◌∙◌}
+use Rattle.std.proofs.Common.{◌≡◌, ℕ, zero, suc, ◌⊎◌, inl, inr, Bool, false, refl, sym, ap, ◌∙◌}
 use Rattle.std.proofs.Common.{w64, to_z, of_z, arith}
 use Rattle.std.specs.Prelude.{Option, Some, None, ℤ, FitsSigned}
 use Rattle.std.proofs.lemmas.Int.{to_z-of_z}

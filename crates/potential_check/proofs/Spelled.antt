@@ -2,8 +2,8 @@
 use Rattle.std.proofs.Common.{arith}
 use Rattle.std.proofs.lemmas.Bool.Decides.{nat_tests}
 use Rattle.std.proofs.Common.{◌≡◌, ℕ, ◌+◌, refl, ap, sym, ◌∙◌, subst, Bool, true, false, List, []}
-use Rattle.std.proofs.Common.{◌∷◌, ◌++◌, append_assoc, Option, Some, None, Result, Ok, Err}
-use Rattle.std.specs.Prelude.{IfOk, codes, nat_le, if◌then◌else◌, map}
+use Rattle.std.proofs.Common.{◌∷◌, ◌++◌, append_assoc, Option, Some, None, Result, Ok}
+use Rattle.std.specs.Prelude.{codes, nat_le, if◌then◌else◌, map}
 use Rattle.std.specs.List.{AllByRecursion, list_all}
 use Rattle.std.specs.Str.{bytes_eq}
 use Rattle.std.proofs.lemmas.Bool.{and_parts, and_from, cases_Bool}
@@ -13,16 +13,15 @@ use Rattle.root2_cost.specs.declared.Cost.{Cost}
 use Rattle.grid_moves.specs.declared.Cell.{Cell}
 use Rattle.grid_moves.specs.Grid.{cell_number}
 use Rattle.text_line.specs.Lines.{lines_of}
-use Rattle.potential_check.specs.declared.certificate.Certificate.{Certificate}
 use Rattle.potential_check.specs.declared.certificate.Claim.{Claim}
 use Rattle.potential_check.specs.declared.certificate.Claim.TheVariants.{Least, NoWalk}
 use Rattle.potential_check.specs.declared.fault.CertFault.{CertFault}
 use Rattle.potential_check.specs.declared.reading.Head.{Head}
 use Rattle.potential_check.specs.Certificate.{are_listed, ascend_from, cells_of, lies_inside}
 use Rattle.potential_check.specs.Forms.{ends_on, least_on, member_on, points_on, size_on, value_on}
-use Rattle.potential_check.specs.Text.{Plain, State, Step, Tells, after_step, at_claim, at_ends, at_points}
+use Rattle.potential_check.specs.Text.{Plain, State, Step, after_step, at_claim, at_ends, at_points}
 use Rattle.potential_check.specs.Text.{at_size, at_version, certificate_of, closed, ended, goes, in_cells}
-use Rattle.potential_check.specs.Text.{in_values, is_end, listed, misspelt, next, plain, read_from, spelled}
+use Rattle.potential_check.specs.Text.{in_values, is_end, listed, misspelt, next, read_from, spelled}
 use Rattle.potential_check.specs.Text.{unordered}
 use Rattle.potential_check.specs.Spelling.{SpellInOrder, Spells, SpellsClaim}
 

@@ -1,5 +1,5 @@
 -- Marks, stops and first stops are what their tests compute.
-use Rattle.std.proofs.Common.{◌≡◌, inl, inr, Bool, true, refl, ◌&&◌, ◌||◌, arith}
+use Rattle.std.proofs.Common.{◌≡◌, inl, inr, Bool, true, refl, ◌&&◌, ◌||◌}
 use Rattle.std.proofs.lemmas.Bool.{or_right, or_cases}
 use Rattle.grid_moves.specs.declared.Cell.{Cell}
 use Rattle.grid_moves.specs.declared.Dir.{Dir}

@@ -1,6 +1,6 @@
 -- What a dropped turn comes to where no walk is cheaper: the diagonal move goes first.
 -- Harabor and Grastien, AAAI 2011; Sturtevant and Rabin, "Canonical Orderings on Grids", IJCAI 2016.
-use Rattle.std.specs.Prelude.{◌≡◌, ℕ, true, false, IsTrue, List, ◌∷◌, Some}
+use Rattle.std.specs.Prelude.{◌≡◌, ℕ, true, false, List, ◌∷◌, Some}
 use Rattle.root2_cost.specs.declared.Cost.{Cost}
 use Rattle.root2_cost.specs.Order.{IsAtMost}
 use Rattle.root2_cost.specs.Sums.{add_costs}

@@ -10,17 +10,15 @@ use Rattle.std.proofs.lemmas.Bool.Decides.{nat_tests}
 use Rattle.std.proofs.lemmas.List.{length-append}
 use Rattle.std.proofs.lemmas.List.Elements.{All-nil, All-cons, All-append}
 use Rattle.std.proofs.lemmas.List.Folds.{list_all-append}
-use Rattle.std.proofs.Math.Seq.{get_or-append_seam}
 use Rattle.text_line.specs.Fields.{is_blank_byte}
 use Rattle.text_line.specs.Lines.{pieces_of, without_cr}
 use Rattle.text_line.specs.Places.{LineAt, fields_from, lines_from}
 use Rattle.text_line.specs.Reading.{SpellInOrder}
-use Rattle.text_line.proofs.Cut.{without_cr_same}
 use Rattle.text_line.proofs.Written.{all_weaker, are_digits, nine_digits, pieces_then, is_plain, plain_both}
 use Rattle.text_line.proofs.Written.{plain_digits, without_cr_plain}
 use Rattle.scen_text.specs.Spelling.{IsBlank, IsEntry, Spells}
 use Rattle.scen_lines.specs.declared.line.Listed.{Listed}
-use Rattle.scen_lines.specs.Line.{last_digit, last_eight, length_text}
+use Rattle.scen_lines.specs.Line.{last_eight, length_text}
 use Rattle.scen_lines.specs.Laws.{Named, IsReadable, AreReadable, line_of, lines_of, scenario_of, entry_at}
 use Rattle.scen_lines.specs.Laws.{entries_from, entries_of}
 use Rattle.scen_lines.proofs.Digits.{number_read, length_read, eight_digits}

@@ -24,7 +24,7 @@ use Rattle.grid_moves.proofs.Places.{free_below, one_cell}
 use Rattle.grid_moves.proofs.Walks.{last_free}
 use Rattle.cost_waves.specs.Begin.{IsLeastCost}
 use Rattle.pruning.specs.Chain.{run_cost}
-use Rattle.pruning.specs.Explored.{Reached, IsOneOf, here, there, LeadsTo, AreReached, IsReachedAt, OffersMore}
+use Rattle.pruning.specs.Explored.{Reached, IsOneOf, here, there, LeadsTo, AreReached, IsReachedAt}
 use Rattle.pruning.specs.Explored as explored
 use Rattle.pruning.proofs.Exploring.{beginning, each_of, no_member, came_to, one_state_from}
 use Rattle.pruning.proofs.Running.{run_walked}

@@ -1,6 +1,6 @@
 -- How a search over jumps goes on from the state that was taken last.
 -- No public clause cites a definition of this module.
-use Rattle.std.specs.Prelude.{◌≡◌, ℕ, ◌+◌, ◌-◌, List, [], ◌∷◌, Some, None, Option}
+use Rattle.std.specs.Prelude.{◌≡◌, ℕ, ◌+◌, List, [], ◌∷◌, Some, None, Option}
 use Rattle.std.specs.Option.{option_map_or}
 use Rattle.root2_cost.specs.Rank.{rank_of}
 use Rattle.grid_moves.specs.declared.Cell.{Cell}

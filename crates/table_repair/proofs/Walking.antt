@@ -1,7 +1,6 @@
 -- One move back of a walk.
 use Rattle.std.proofs.Common.{◌≡◌, ◌≢◌, ℕ, ◌+◌, ◌<◌, ◌⊎◌, inl, inr, arith, Bool, true, false, sym, refl}
-use Rattle.std.proofs.lemmas.Bool.Decides.{nat_tests}
-use Rattle.std.proofs.Common.{◌∙◌, ◌&&◌, ◌||◌, length, length-set, get_or, ap}
+use Rattle.std.proofs.Common.{◌∙◌, ◌||◌, length, length-set, get_or, ap}
 use Rattle.std.specs.Prelude.{Some, None, ℤ, pos, [], ◌∷◌}
 use Rattle.std.proofs.lemmas.Bool.{cases_Bool, or_from}
 use Rattle.grid_moves.specs.declared.Cell.{Cell}

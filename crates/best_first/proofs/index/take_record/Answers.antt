@@ -1,9 +1,8 @@
-use Rattle.std.proofs.Common.{◌≡◌, ◌∙◌, ap, sym, subst, ℕ, ◌∷◌, ◌++◌, [], List}
-use Rattle.std.specs.Prelude.{slice_set, slice_index_or}
+use Rattle.std.proofs.Common.{◌≡◌, ◌∙◌, ap, List}
+use Rattle.std.specs.Prelude.{slice_index_or}
 use Rattle.best_first.specs.declared.index.Record.{Record}
-use Rattle.best_first.specs.declared.state.Layout.TheVariants.{ByArrival}
-use Rattle.best_first.specs.Index.{tag_of, latest_of, IsPut}
-use Rattle.best_first.proofs.Records.{put_record, latest}
+use Rattle.best_first.specs.Index.{tag_of, latest_of}
+use Rattle.best_first.proofs.Records.{put_record}
 use Rattle.best_first.proofs.index.take_record.Goals as goal
 
 pub returns-clause-put : goal.returns-clause-put

@@ -1,5 +1,4 @@
 -- First the block's rows, and then what lies behind it in its columns.
-use Rattle.std.proofs.Common.{arith}
 use Rattle.table_repair.proofs.Mends.{ready_stays}
 use Rattle.table_repair.proofs.Diagonals.{first_waits, second_waits, both_right, both_mend, wide_within}
 use Rattle.table_repair.proofs.Diagonals.{rear_within, cells_few, steps_both}

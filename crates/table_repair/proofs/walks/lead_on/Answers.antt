@@ -1,3 +1,2 @@
 -- One round, or none.
-use Rattle.table_repair.proofs.InPlace.{led_none}
 use Rattle.table_repair.proofs.walks.lead_on.Goals as goal

@@ -1,10 +1,9 @@
-use Rattle.std.proofs.Common.{◌≡◌, ◌∙◌, ◌+◌, ◌-◌, ◌≤◌, ap, sym, subst, length, ℕ, suc, arith}
-use Rattle.std.specs.Prelude.{None, vec_len, vec_capacity}
+use Rattle.std.proofs.Common.{◌≡◌, ◌∙◌, ◌+◌, ◌-◌, ◌≤◌, ap, sym, length, ℕ, suc, arith}
+use Rattle.std.specs.Prelude.{None, vec_len}
 use Rattle.grid_moves.specs.Grid.{cell_number}
-use Rattle.best_first.specs.declared.state.Layout.{Layout}
-use Rattle.best_first.specs.Index.{records_for, IsPut, IsSpace}
+use Rattle.best_first.specs.Index.{records_for}
 use Rattle.best_first.specs.Space.{IsPlaced}
-use Rattle.best_first.specs.State.{state_in, arrival_number}
+use Rattle.best_first.specs.State.{state_in}
 use Rattle.best_first.specs.Table.{lookup}
 use Rattle.best_first.proofs.Parts.{parts_added, parts_few, parts_fewer}
 use Rattle.best_first.proofs.Rooms.{room_stays, record_fits, one_longer}

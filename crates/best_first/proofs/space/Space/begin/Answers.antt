@@ -1,11 +1,9 @@
-use Rattle.std.proofs.Common.{rules, ◌≡◌, ◌∙◌, ◌≤◌, sym, ap, subst, refl, length, ℕ, List, [], arith}
-use Rattle.std.specs.Prelude.{vec_capacity}
+use Rattle.std.proofs.Common.{◌≡◌, ◌∙◌, ◌≤◌, ap, refl, length, ℕ, List, [], arith}
 use Rattle.open_list.specs.OpenList.{OpenList}
 use Rattle.best_first.specs.declared.node.Node.{Node}
 use Rattle.best_first.specs.declared.state.Layout.{Layout}
 use Rattle.best_first.specs.Index.{AreReset, AreParts}
-use Rattle.best_first.specs.Space.{IsPlaced}
-use Rattle.best_first.specs.State.{arrival_number, state_in, start_at}
+use Rattle.best_first.specs.State.{start_at}
 use Rattle.best_first.proofs.Parts.{parts_blank, parts_added}
 use Rattle.best_first.proofs.Rooms.{room_stays}
 use Rattle.best_first.proofs.space.Space.begin.Goals as goal

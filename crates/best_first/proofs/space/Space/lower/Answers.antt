@@ -1,6 +1,6 @@
 use Rattle.std.proofs.Common.{◌≡◌, ◌∙◌, sym, ap, length, List, arith}
 use Rattle.std.proofs.lemmas.List.{length-set}
-use Rattle.std.specs.Prelude.{slice_get, vec_capacity}
+use Rattle.std.specs.Prelude.{slice_get}
 use Rattle.open_list.specs.OpenList.{OpenList}
 use Rattle.best_first.specs.declared.node.Node.{Node}
 use Rattle.best_first.specs.Node.{state_of}

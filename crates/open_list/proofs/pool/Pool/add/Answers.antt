@@ -1,4 +1,4 @@
-use Rattle.std.proofs.Common.{◌∙◌, ◌++◌, ◌∷◌, [], Bool, List, true, sym, ap, arith}
+use Rattle.std.proofs.Common.{◌∙◌, sym, arith}
 use Rattle.std.proofs.lemmas.List.{map_push}
 use Rattle.open_list.proofs.Changes.{back}
 use Rattle.open_list.proofs.Turns.{beside_added}
