@@ -6,7 +6,7 @@ use Rattle.std.proofs.Common.{◌&&◌, length-take}
 use Rattle.std.proofs.lemmas.List.{append_assoc, append-nil}
 use Rattle.std.proofs.lemmas.List.FromFn.{filter_of_map_range_with_len_more}
 use Rattle.std.proofs.lemmas.Nat.{div-mul-add, mod-mul-add}
-use Rattle.std.proofs.lemmas.List.Elements.{All-same, All-take, All-weaker, filter_agree, filter_passes}
+use Rattle.std.proofs.lemmas.List.Elements.{All-take, All-weaker, filter_agree, filter_passes}
 use Rattle.std.specs.List.{All, filter}
 use Rattle.std.specs.Prelude.{not, IsTrue, ◌↔◌}
 use Rattle.rand_pcg.specs.Lcg.{Lcg}
@@ -21,8 +21,8 @@ use Rattle.map_maker.specs.Words.{words_from}
 use Rattle.problem_maker.specs.declared.tries.ProblemEnds.{ProblemEnds}
 use Rattle.problem_maker.specs.Drawing.{Draws}
 use Rattle.problem_maker.specs.Free.{free_below, free_cells}
-use Rattle.problem_maker.specs.Tries.{AreKept, cell_at, is_kept, kept_ends, most_tries, tries}
-use Rattle.problem_maker.specs.Tries.{tries_by}
+use Rattle.problem_maker.specs.Tries.{cell_at, is_kept, kept_ends, kept_of, leads, most_tries, tries, tries_by}
+use Rattle.problem_maker.proofs.Leading.{leads_is}
 
 -- the cell of a column and a row has their number
 numbered-cell : (width x y : ℕ) → x < width → cell_numbered width (y * width + x) ≡ record { x = x; y = y }
@@ -130,42 +130,34 @@ module _ (keep : ProblemEnds → Bool) (cells : List Cell) (count : ℕ) (start 
         ∙ are.all
 
 -- tests that tell of the same walks are one
-same_joined : (ls : Layers) (j k : Cell → Cell → Bool) → ((s t : Cell) → IsTrue (j s t) ↔ HasWalk ls s t)
-    → ((s t : Cell) → IsTrue (k s t) ↔ HasWalk ls s t) → (s t : Cell) → j s t ≡ k s t
-same_joined ls j k h1 h2 s t = grind (arith, nat_tests)
+same_test : (a b : Bool) (W : Type 0) → IsTrue a ↔ W → IsTrue b ↔ W → a ≡ b
+same_test true true W h k = refl
+same_test true false W h k = sym (k.1 (h.0 refl))
+same_test false true W h k = h.1 (k.0 refl)
+same_test false false W h k = refl
 
-pub kept_one : (ls : Layers) (seed count : ℕ) (these those : List ProblemEnds) → AreKept ls seed count these
-    → AreKept ls seed count those → these ≡ those
-kept_one ls seed count these those a b =
-    a.are ∙ ap (take count) (filter_agree (is_kept a.joined) (is_kept b.joined)
-    (λ e. ap (λ (t : Bool). not (is_same e.start e.goal) && t)
-    (same_joined ls a.joined b.joined a.decides b.decides e.start e.goal))
-    (tries (free_cells ls) seed (most_tries count))) ∙ sym b.are
-
--- the tries that are kept by the labels of both layers
-pub kept_decides : (ls : Layers) (seed count : ℕ) (p : BothLabels) → TellsBoth ls p → (cells : List Cell)
+-- the tries that are kept by the labels of both layers are those that are kept on the map
+pub kept_is : (ls : Layers) (seed count : ℕ) (p : BothLabels) → TellsBoth ls p → (cells : List Cell)
     → cells ≡ free_cells ls → (kept : List ProblemEnds) → kept ≡ kept_ends (are_joined_in p) cells seed count
-    → AreKept ls seed count kept
-kept_decides ls seed count p tells cells is kept e = record {
-  joined = are_joined_in p;
-  decides = tells.joined;
-  are = e ∙ ap (λ (cs : List Cell). kept_ends (are_joined_in p) cs seed count) is;
-}
+    → kept ≡ kept_of ls seed count
+kept_is ls seed count p tells cells is kept e =
+    e ∙ ap (λ (cs : List Cell). kept_ends (are_joined_in p) cs seed count) is
+    ∙ ap (take count) (filter_agree (is_kept (are_joined_in p)) (is_kept (leads ls))
+    (λ e. ap (λ (t : Bool). not (is_same e.start e.goal) && t)
+    (same_test (are_joined_in p e.start e.goal) (leads ls e.start e.goal) (HasWalk ls e.start e.goal)
+    (tells.joined e.start e.goal) (leads_is ls e.start e.goal)))
+    (tries (free_cells ls) seed (most_tries count)))
 
 -- each of the kept ones has a walk, and there are no more than are wanted
-pub kept_walks : (ls : Layers) (seed count : ℕ) (kept : List ProblemEnds) → AreKept ls seed count kept
-    → All (λ e. HasWalk ls e.start e.goal) kept
-kept_walks ls seed count kept a =
-    All-same (λ e. HasWalk ls e.start e.goal) kept _ a.are
-    (All-take (λ e. HasWalk ls e.start e.goal) count _
-    (All-weaker (λ e. is_kept a.joined e ≡ true) (λ e. HasWalk ls e.start e.goal)
-    (λ e h. (a.decides e.start e.goal).0
-    (and_both (not (is_same e.start e.goal)) (a.joined e.start e.goal) h).1)
-    _ (filter_passes (is_kept a.joined) (tries (free_cells ls) seed (most_tries count)))))
+pub kept_walks : (ls : Layers) (seed count : ℕ) → All (λ e. HasWalk ls e.start e.goal) (kept_of ls seed count)
+kept_walks ls seed count =
+    All-take (λ e. HasWalk ls e.start e.goal) count _
+    (All-weaker (λ e. is_kept (leads ls) e ≡ true) (λ e. HasWalk ls e.start e.goal)
+    (λ e h. (leads_is ls e.start e.goal).0
+    (and_both (not (is_same e.start e.goal)) (leads ls e.start e.goal) h).1)
+    _ (filter_passes (is_kept (leads ls)) (tries (free_cells ls) seed (most_tries count))))
 
-pub kept_few : (ls : Layers) (seed count : ℕ) (kept : List ProblemEnds) → AreKept ls seed count kept
-    → length kept ≤ count
-kept_few ls seed count kept a =
-    let e = ap length a.are in
-    let l = length-take count (filter (is_kept a.joined) (tries (free_cells ls) seed (most_tries count))) in
+pub kept_few : (ls : Layers) (seed count : ℕ) → length (kept_of ls seed count) ≤ count
+kept_few ls seed count =
+    let l = length-take count (filter (is_kept (leads ls)) (tries (free_cells ls) seed (most_tries count))) in
     omega arith

@@ -1,2 +1,4 @@
+pub mod Leading
 pub mod Drawn
 pub mod Stable
+pub mod Insertion

@@ -1,17 +1,16 @@
--- There is one list of kept tries, and one order of problems.
-use Rattle.std.specs.Prelude.{◌≡◌, ℕ, List}
+-- What holds of the kept tries and of the order of problems.
+use Rattle.std.specs.Prelude.{Bool, List, IsTrue, ◌↔◌}
+use Rattle.grid_moves.specs.declared.Cell.{Cell}
 use Rattle.grid_moves.specs.Layers.{Layers}
+use Rattle.joined_cells.specs.Both.{HasWalk}
+use Rattle.plain_search.specs.One.{IsTheOne}
 use Rattle.problem_maker.specs.declared.sorting.Problem.{Problem}
-use Rattle.problem_maker.specs.declared.tries.ProblemEnds.{ProblemEnds}
 use Rattle.problem_maker.specs.Ordered.{AreOrdered}
-use Rattle.problem_maker.specs.Tries.{AreKept}
 
--- two lists of the kept tries of a map are one
-abbrev pub KeptIsOne : Type 0
-KeptIsOne = (ls : Layers) (seed count : ℕ) (some others : List ProblemEnds) → AreKept ls seed count some
-    → AreKept ls seed count others → some ≡ others
+-- the test says exactly whether a query from one cell to the other has a walk
+abbrev pub LeadsIs : (Layers → Cell → Cell → Bool) → Type 0
+LeadsIs test = (ls : Layers) (s t : Cell) → IsTrue (test ls s t) ↔ HasWalk ls s t
 
--- two orders of the same problems are one
-abbrev pub OrderIsOne : Type 0
-OrderIsOne = (before some others : List Problem) → AreOrdered before some → AreOrdered before others
-    → some ≡ others
+-- this is problems in the order of their costs, and nothing else is
+abbrev pub OrderIs : (List Problem → List Problem) → Type 0
+OrderIs order = (before : List Problem) → IsTheOne (AreOrdered before) (order before)

@@ -1,12 +1,13 @@
 -- Tries: pairs of free cells from a seed, and which of them are kept.
-use Rattle.std.specs.Prelude.{◌≡◌, ℕ, ◌+◌, ◌*◌, ◌%◌, Bool, nat_eq, not, ◌&&◌, if◌then◌else◌, List, [], ◌∷◌}
-use Rattle.std.specs.Prelude.{length, take, slice_index_or, bit_xor, IsTrue, ◌↔◌}
+use Rattle.std.specs.Prelude.{ℕ, ◌+◌, ◌*◌, ◌%◌, Bool, nat_eq, not, ◌&&◌, if◌then◌else◌, List, [], ◌∷◌}
+use Rattle.std.specs.Prelude.{length, take, slice_index_or, bit_xor, is_some}
 use Rattle.std.specs.List.{filter}
 use Rattle.grid_moves.specs.declared.Cell.{Cell}
-use Rattle.grid_moves.specs.Layers.{Layers}
+use Rattle.grid_moves.specs.Grid.{GridData, is_free}
+use Rattle.grid_moves.specs.Layers.{Layers, query_grid}
 use Rattle.grid_moves.specs.Move.{is_same}
 use Rattle.map_maker.specs.Words.{words_of}
-use Rattle.joined_cells.specs.Both.{HasWalk}
+use Rattle.plain_search.specs.Costs.{least_cost}
 use Rattle.problem_maker.specs.declared.tries.ProblemEnds.{ProblemEnds}
 use Rattle.problem_maker.specs.Free.{free_cells}
 
@@ -38,8 +39,14 @@ most_tries count = 10 * count + 100
 abbrev pub kept_ends : (Cell → Cell → Bool) → List Cell → ℕ → ℕ → List ProblemEnds
 kept_ends joined cells seed count = take count (filter (is_kept joined) (tries cells seed (most_tries count)))
 
--- the kept ones on a map, where two cells are joined exactly where a query from one to the other has a walk
-pub record AreKept (ls : Layers) (seed count : ℕ) (kept : List ProblemEnds) : Type 0 where
-  pub joined : Cell → Cell → Bool
-  pub decides : (s t : Cell) → IsTrue (joined s t) ↔ HasWalk ls s t
-  pub are : kept ≡ kept_ends joined (free_cells ls) seed count
+-- a walk leads from one cell of the grid to another
+abbrev pub leads_on : GridData → Cell → Cell → Bool
+leads_on g s t = is_free g s && is_some (least_cost g s t)
+
+-- a walk leads from s to t on the grid of a query from s
+abbrev pub leads : Layers → Cell → Cell → Bool
+leads ls s t = leads_on (query_grid ls s) s t
+
+-- the kept ones on a map: their ends are free cells between which a walk leads
+abbrev pub kept_of : Layers → ℕ → ℕ → List ProblemEnds
+kept_of ls seed count = kept_ends (leads ls) (free_cells ls) seed count

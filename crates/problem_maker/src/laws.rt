@@ -1,13 +1,16 @@
-//! Laws of problems, as contracts of calls.
+//! Laws of problems: each is the contract of a call that does nothing.
 
-ghost use Rattle.problem_maker.specs.Laws.{KeptIsOne, OrderIsOne};
+ghost use Rattle.problem_maker.specs.Laws.{LeadsIs, OrderIs};
+ghost use Rattle.problem_maker.specs.Ordered.{in_order};
+ghost use Rattle.problem_maker.specs.Tries.{leads};
 
-/// The kept tries of a map, a seed and a number are one list.
-pub fn kept_is_one()
-    ensures { KeptIsOne }
+/// Whether a walk leads from one cell of a map to another is a function of its grids and the two cells.
+pub fn leads_is_found()
+    ensures { LeadsIs leads }
 {}
 
-/// Problems have one order.
-pub fn order_is_one()
-    ensures { OrderIsOne }
+/// The order of problems is a function of them: it has the same problems, none costs less than the one before
+/// it, those of equal costs stand as they stood, and no other list is so.
+pub fn order_is_found()
+    ensures { OrderIs in_order }
 {}

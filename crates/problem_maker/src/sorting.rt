@@ -1,7 +1,7 @@
 //! Problems in the order of their costs.
 
 ghost use Rattle.std.specs.Prelude.{◌≡◌, OnErr, OnOk};
-ghost use Rattle.problem_maker.specs.Ordered.{AreOrdered};
+ghost use Rattle.problem_maker.specs.Ordered.{in_order};
 
 use crate::NoMemory;
 use grid_moves::Cell;
@@ -19,7 +19,7 @@ pub struct Problem {
 ///
 /// Memory is taken for half of them at most, and given back.
 pub fn order(problems: &mut Vec<Problem>) -> Result<(), NoMemory>
-    ensures ordered { OnOk result (AreOrdered problems.old.items problems.new.items) }
+    ensures ordered { OnOk result (problems.new.items ≡ in_order problems.old.items) }
     ensures unchanged { OnErr result (problems.new.items ≡ problems.old.items) }
 {
     problems.sort_by(|p, q| cmp(p.cost, q.cost))?;

@@ -7,7 +7,7 @@ ghost use Rattle.joined_cells.specs.Both.{HasWalk, are_joined_in};
 ghost use Rattle.map_maker.specs.Words.{words_from};
 ghost use Rattle.problem_maker.specs.Drawing.{Draws, DrawsCell};
 ghost use Rattle.problem_maker.specs.Tries as spec;
-ghost use Rattle.problem_maker.specs.Tries.{AreKept, most_tries, tries_by};
+ghost use Rattle.problem_maker.specs.Tries.{kept_of, most_tries, tries_by};
 
 use crate::NoMemory;
 use crate::free::free_cells;
@@ -38,8 +38,8 @@ pub fn make_ends(
     count: u32,
 ) -> Result<Vec<ProblemEnds>, NoMemory>
     requires layers { AreLayers (record { land = land.now; water = water.now }) }
-    ensures kept { IfOk result (λ kept. AreKept (record { land = land.now; water = water.now }) seed count
-        kept.items) }
+    ensures kept { IfOk result (λ kept. kept.items
+        ≡ kept_of (record { land = land.now; water = water.now }) seed count) }
     ensures walks { IfOk result (λ kept. All (λ ends. HasWalk (record { land = land.now; water = water.now })
         ends.start ends.goal) kept.items) }
     ensures few { IfOk result (λ kept. length kept.items ≤ count) }
