@@ -1,5 +1,5 @@
 -- What holds of each scenario that is written.
-use Rattle.std.specs.Prelude.{◌≡◌, ℕ, ◌+◌, ◌^◌, ◌<◌, ◌≤◌, List, [], ◌∷◌, ◌++◌, length, slice_get}
+use Rattle.std.specs.Prelude.{◌≡◌, ℕ, ◌+◌, ◌^◌, ◌<◌, ◌≤◌, ◌↔◌, List, [], ◌∷◌, ◌++◌, length, slice_get}
 use Rattle.std.specs.Prelude.{Some, decimal}
 use Rattle.root2_cost.specs.declared.Cost.{Cost}
 use Rattle.root2_cost.specs.Length.{eight_places}
@@ -8,7 +8,7 @@ use Rattle.scen_text.specs.Names.{IsName, bytes_at}
 use Rattle.scen_text.specs.Spelling.{Spells}
 use Rattle.scen_lines.specs.declared.line.Problem.{Problem}
 use Rattle.scen_lines.specs.declared.line.Listed.{Listed}
-use Rattle.scen_lines.specs.Line.{entry_line, version_line, IsOfCost}
+use Rattle.scen_lines.specs.Line.{entry_line, listed_of, version_line, IsOfCost}
 use Rattle.scen_lines.specs.Naming.{name_of}
 
 -- an entry with the name of its map
@@ -92,10 +92,9 @@ NamesAreRead = (entries : List Named) (k : ℕ) (written : Named) (read : Entry)
 abbrev pub WordsNameMaps : Type 0
 WordsNameMaps = (word : List ℕ) → IsName (name_of word)
 
--- bucket and length of a cost are the only ones
+-- a query has the bucket and the length of its cost in one way
 abbrev pub CostsTellLines : Type 0
-CostsTellLines = (cost : Cost) (p q : Listed) → IsOfCost cost p → IsOfCost cost q
-    → (p.bucket ≡ q.bucket) × (p.units ≡ q.units)
+CostsTellLines = (cost : Cost) (listed : Listed) → IsOfCost cost listed ↔ (listed ≡ listed_of listed.problem cost)
 
 -- at most 2^24 moves of each kind have a bucket and a length that are read
 abbrev pub CostsAreReadable : Type 0

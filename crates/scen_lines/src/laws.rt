@@ -18,7 +18,7 @@ pub fn words_name_maps()
     ensures { WordsNameMaps }
 {}
 
-/// Bucket and length of a cost are the only ones.
+/// The bucket and the length that are listed are those of the cost, and no others are.
 pub fn costs_tell_lines()
     ensures { CostsTellLines }
 {}

@@ -33,8 +33,7 @@ pub struct Listed {
 impl Problem {
     /// The problem with the bucket and the length of the cost of its least walks.
     pub fn with_cost(self, cost: Cost) -> Listed
-        ensures problem { result.problem ≡ self }
-        ensures of_cost { spec.IsOfCost cost result }
+        ensures { result ≡ spec.listed_of self cost }
     {
         Listed {
             problem: self,

@@ -20,7 +20,7 @@ use Rattle.plain_search.specs.Costs.{IsCostTo}
 use Rattle.problem_maker.specs.declared.sorting.Problem.{Problem}
 use Rattle.problem_maker.specs.declared.tries.ProblemEnds.{ProblemEnds}
 use Rattle.scen_lines.specs.Line.{version_line}
-use Rattle.scen_maker.specs.Lengths.{IsProblemLine}
+use Rattle.scen_maker.specs.Lengths.{problem_line}
 use Rattle.scen_maker.specs.Problems.{AddsProblem, AreProblems, ArePriced, IsPriced, IsScenario, query_of}
 
 module _ (ls : Layers) (are : AreLayers ls) where
@@ -103,7 +103,7 @@ scenario-more ls name problems place d text now below is adds =
     subst (λ (l : List Problem). IsScenario ls name l now) (sym (take-more problems place d below))
     (record {
       lines = is.lines ++ adds.line ∷ [];
-      are = turns-more (λ (s : Unit {0}) p line. IsProblemLine name (query_of ls p) p.cost line) (λ s _. s) tt
+      are = turns-more (λ (s : Unit {0}) p line. line ≡ problem_line name (query_of ls p) p.cost) (λ s _. s) tt
           (take place problems) is.lines p adds.line is.are adds.is;
       all = adds.added ∙ ap (λ (l : List ℕ). l ++ adds.line) is.all
           ∙ append_assoc version_line (concat is.lines) adds.line

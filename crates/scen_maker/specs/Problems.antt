@@ -11,7 +11,7 @@ use Rattle.problem_maker.specs.declared.tries.ProblemEnds.{ProblemEnds}
 use Rattle.scen_lines.specs.Line.{version_line}
 use Rattle.scen_lines.specs.Naming.{name_of}
 use Rattle.scen_lines.specs.declared.line.Problem as lines
-use Rattle.scen_maker.specs.Lengths.{IsProblemLine}
+use Rattle.scen_maker.specs.Lengths.{problem_line}
 
 -- the problem has these ends, and costs what a least walk between them does on the grid of the query
 pub record IsPriced (ls : Layers) (ends : ProblemEnds) (p : Problem) : Type 0 where
@@ -38,13 +38,13 @@ query_of ls p = record {
 -- one line for each problem
 abbrev pub AreProblemLines : Layers → List ℕ → List Problem → List (List ℕ) → Type 0
 AreProblemLines ls name problems lines =
-    AreInTurn {S = Unit {0}} (λ _ p line. IsProblemLine name (query_of ls p) p.cost line) (λ s _. s) tt
+    AreInTurn {S = Unit {0}} (λ _ p line. line ≡ problem_line name (query_of ls p) p.cost) (λ s _. s) tt
     problems lines
 
 -- the line of a problem was appended
 pub record AddsProblem (ls : Layers) (name : List ℕ) (p : Problem) (old new : List ℕ) : Type 0 where
   pub line : List ℕ
-  pub is : IsProblemLine name (query_of ls p) p.cost line
+  pub is : line ≡ problem_line name (query_of ls p) p.cost
   pub added : new ≡ old ++ line
 
 -- the text is the scenario of problems on a map of this name, in their order

@@ -1,13 +1,13 @@
 -- What a map makes of the queries of a scenario's entries.
-use Rattle.std.specs.Prelude.{◌≡◌, Bool, true, false, nat_eq, ◌&&◌, Option, Some, None}
+use Rattle.std.specs.Prelude.{◌≡◌, Bool, true, false, nat_eq, ◌&&◌, if◌then◌else◌, Option, Some, None}
 use Rattle.root2_cost.specs.declared.Cost.{Cost}
 use Rattle.grid_moves.specs.declared.Cell.{Cell}
-use Rattle.grid_moves.specs.Layers.{Layers, query_grid}
+use Rattle.grid_moves.specs.Layers.{Layers, is_on_map, query_grid}
 use Rattle.grid_moves.specs.Reply as answer
 use Rattle.grid_moves.specs.Reply.{IsRight, are_free_ends}
 use Rattle.edit_replay.specs.declared.reply.Reply.{Reply}
 use Rattle.edit_replay.specs.declared.reply.Reply.TheVariants as reply
-use Rattle.plain_search.specs.Costs.{IsCostTo}
+use Rattle.plain_search.specs.Costs.{IsCostTo, least_cost}
 use Rattle.scen_text.specs.declared.entry.Entry.{Entry}
 use Rattle.scen_maker.specs.declared.costs.Settled.{Settled}
 use Rattle.scen_maker.specs.declared.costs.Settled.TheVariants as settled
@@ -29,6 +29,23 @@ cost_in (reply.Walk points cost taken) = Some cost
 cost_in (reply.None taken) = None
 cost_in reply.Outside = None
 cost_in reply.Blocked = None
+
+-- what a least walk between two free cells of the map costs, on the grid of the query; nothing where none
+-- leads from one to the other
+abbrev pub least_between : Layers → Cell → Cell → Option Cost
+least_between ls from to = least_cost (query_grid ls from) from to
+
+-- what the map makes of the entry's query: the entry is meant for another size; else an end lies outside;
+-- else one is blocked; else the query is searched
+abbrev pub settled_of : Layers → Entry → Settled
+settled_of ls entry =
+    let from = start_of entry in
+    let to = goal_of entry in
+    if has_sides ls entry then
+      if is_on_map ls from && is_on_map ls to then
+        if are_free_ends ls from to then settled.Searched from to (least_between ls from to) else settled.Blocked
+      else settled.Outside
+    else settled.Scale
 
 -- the entry is meant for this map, its ends are these free cells, and a least walk between them costs so
 -- much, on the grid of the query; or none leads from one to the other
@@ -52,3 +69,7 @@ IsSettled ls entry (settled.Searched from to least) = IsSearched ls entry from t
 abbrev pub least_in : Settled → Option Cost
 least_in (settled.Searched from to least) = least
 least_in other = None
+
+-- so is each query settled
+abbrev pub QueriesAreSettled : Type 0
+QueriesAreSettled = (ls : Layers) (entry : Entry) → IsSettled ls entry (settled_of ls entry)

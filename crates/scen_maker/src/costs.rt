@@ -3,7 +3,6 @@
 ghost use Rattle.std.specs.Prelude.{◌≡◌, ◌&&◌, nat_eq, true, IfOk};
 ghost use Rattle.grid_moves.specs.Layers.{is_on_map, query_grid};
 ghost use Rattle.grid_moves.specs.Reply.{are_free_ends};
-ghost use Rattle.plain_search.specs.Costs.{IsCostTo};
 ghost use Rattle.scen_maker.specs.Settling as spec;
 
 use crate::NoMemory;
@@ -130,7 +129,7 @@ impl LeastCosts {
     ) -> Result<Option<Cost>, NoMemory>
         requires inside { (is_on_map self.old from && is_on_map self.old to) ≡ true }
         requires free { are_free_ends self.old from to ≡ true }
-        ensures least { IfOk result (IsCostTo (query_grid self.old from) from to) }
+        ensures least { IfOk result (λ least. least ≡ spec.least_between self.old from to) }
         ensures unchanged { self.new ≡ self.old }
     {
         let (sx, sy) = (u32::from(from.x), u32::from(from.y));
@@ -146,7 +145,7 @@ impl LeastCosts {
         entry: Entry,
         steps: &mut Steps<L>,
     ) -> Result<Settled, NoMemory>
-        ensures settled { IfOk result (spec.IsSettled self.old entry) }
+        ensures settled { IfOk result (λ settled. settled ≡ spec.settled_of self.old entry) }
         ensures unchanged { self.new ≡ self.old }
     {
         if !has_sides(self.session.width(), self.session.height(), entry) {

@@ -1,6 +1,6 @@
 //! A scenario again, with the least lengths.
 
-ghost use Rattle.std.specs.Prelude.{◌≡◌, ◌&&◌, true, is_some, OnOk};
+ghost use Rattle.std.specs.Prelude.{◌≡◌, ◌&&◌, ◌++◌, true, is_some, OnOk};
 ghost use Rattle.line_work.specs.Sending.{HasHead, SendsWhole};
 ghost use Rattle.scen_lines.specs.Line.{version_line};
 ghost use Rattle.scen_text.specs.Names.{bytes_at};
@@ -99,7 +99,7 @@ fn put_listed(
     entry: Entry,
     least: Option<Cost>,
 ) -> Result<(), NoMemory>
-    ensures { OnOk result (spec.AddsLine text.now entry least out.old.items out.new.items) }
+    ensures { OnOk result (out.new.items ≡ out.old.items ++ spec.line_with text.now entry least) }
 {
     match least {
         Some(cost) => put_entry(

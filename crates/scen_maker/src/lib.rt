@@ -7,6 +7,7 @@
 #![tactic(auto)]
 
 mod costs;
+pub mod laws;
 mod lengths;
 mod problems;
 
