@@ -1,12 +1,14 @@
 -- Problems and their costs.
-use Rattle.std.proofs.Common.{◌≡◌, refl, sym, ap, ◌∙◌, subst, List, [], ◌∷◌, ◌++◌, append_assoc, ℕ, suc, ◌+◌}
-use Rattle.std.proofs.Common.{◌<◌, ◌≤◌, true, false, Bool, ◌&&◌, ◌||◌, length, take, take-suc, take_all}
-use Rattle.std.proofs.Common.{get_or, arith}
-use Rattle.std.specs.Prelude.{if◌then◌else◌, nat_eq, Option, Some, None}
-use Rattle.std.specs.List.{concat}
-use Rattle.std.proofs.lemmas.List.{append-nil}
-use Rattle.std.proofs.lemmas.List.Folds.{concat-append}
+use Rattle.std.proofs.Common.{◌≡◌, refl, sym, ap, ◌∙◌, List, [], ◌∷◌, ◌++◌, ℕ, ◌+◌, ◌<◌, ◌≤◌, get_or, arith}
+use Rattle.std.proofs.Common.{true, false, Bool, ◌&&◌, ◌||◌, length, subst, take, map}
+use Rattle.std.specs.Prelude.{if◌then◌else◌, nat_eq, Option, Some, None, unwrap_or}
+use Rattle.std.specs.List.{All}
+use Rattle.std.proofs.lemmas.List.{append-nil, flat_map_more, map-append, take_more}
+use Rattle.std.proofs.lemmas.List.Elements.{All-map, All-weaker}
+use Rattle.std.proofs.lemmas.List.Sorted.{All-permutation}
 use Rattle.root2_cost.specs.declared.Cost.{Cost}
+use Rattle.root2_cost.specs.Sums.{no_cost}
+use Rattle.cost_waves.specs.Begin.{IsLeastCost}
 use Rattle.grid_moves.specs.declared.Cell.{Cell}
 use Rattle.grid_moves.specs.Grid.{is_free, is_inside}
 use Rattle.grid_moves.specs.Layers.{AreLayers, Layers, is_free_ground, is_on_map, query_grid}
@@ -14,14 +16,18 @@ use Rattle.grid_moves.specs.Reply.{are_free_ends}
 use Rattle.grid_moves.proofs.Layering.{is_inside-water}
 use Rattle.grid_moves.proofs.Legal.{and_both}
 use Rattle.joined_cells.specs.Both.{HasWalk}
-use Rattle.joined_cells.proofs.Layering.{joined_in_one_layer}
-use Rattle.line_work.proofs.Turns.{turns-more}
+use Rattle.joined_cells.proofs.Layering.{joined_free, joined_in_one_layer}
 use Rattle.plain_search.specs.Costs.{IsCostTo}
+use Rattle.plain_search.proofs.LeastCosts.{cost_is}
 use Rattle.problem_maker.specs.declared.sorting.Problem.{Problem}
 use Rattle.problem_maker.specs.declared.tries.ProblemEnds.{ProblemEnds}
+use Rattle.problem_maker.specs.Tries.{kept_of}
+use Rattle.problem_maker.proofs.Drawn.{kept_walks}
+use Rattle.problem_maker.proofs.Insertion.{order_is}
 use Rattle.scen_lines.specs.Line.{version_line}
-use Rattle.scen_maker.specs.Lengths.{problem_line}
-use Rattle.scen_maker.specs.Problems.{AddsProblem, AreProblems, ArePriced, IsPriced, IsScenario, query_of}
+use Rattle.scen_maker.specs.Problems.{ProblemsCostLeast, line_on, priced, problems_of, problems_status}
+use Rattle.scen_maker.specs.Problems.{scenario_on}
+use Rattle.scen_maker.specs.Settling.{least_between}
 
 module _ (ls : Layers) (are : AreLayers ls) where
   -- what is free on the grid of a query is free, and lies on the map
@@ -58,70 +64,74 @@ module _ (ls : Layers) (are : AreLayers ls) where
       ap (λ (b : Bool). b && is_free_ground ls t) (free_there s s both.0).1 ∙ (free_there s t both.1).1
 
 -- joined cells have a least cost
-pub never_none : (ls : Layers) (s t : Cell) (least : Option Cost) → HasWalk ls s t → least ≡ None
-    → IsCostTo (query_grid ls s) s t least → ⊥
-never_none ls s t None j e none = none j.cells j.walk
-never_none ls s t (Some cost) j e least = cc
+module _ (ls : Layers) (s t : Cell) (walk : HasWalk ls s t) where
+  is_least : (least : Option Cost) → IsCostTo (query_grid ls s) s t least
+      → IsLeastCost (query_grid ls s) s t (unwrap_or least no_cost)
+  is_least None none = absurd (none walk.cells walk.walk)
+  is_least (Some cost) least = least
 
-take-more : {X : Type 0} (xs : List X) (i : ℕ) (d : X) → i < length xs
-    → take (i + 1) xs ≡ take i xs ++ get_or xs i d ∷ []
-take-more {X} xs i d h =
-    ap (λ n. take n xs) (let s : i + 1 ≡ suc i = omega arith in s) ∙ take-suc xs i d h
+  tells : IsCostTo (query_grid ls s) s t (least_between ls s t)
+  tells = cost_is (query_grid ls s) s t (joined_free (query_grid ls s) s t walk)
+
+  pub has_least : IsLeastCost (query_grid ls s) s t (unwrap_or (least_between ls s t) no_cost)
+  has_least = is_least (least_between ls s t) tells
+
+  pub never_none : (least : Option Cost) → least ≡ least_between ls s t → least ≡ None → ⊥
+  never_none least e none =
+      subst (λ (o : Option Cost). IsCostTo (query_grid ls s) s t o) (sym e ∙ none) tells walk.cells walk.walk
+
+-- so has each problem that a seed makes
+pub problems_least : ProblemsCostLeast
+problems_least ls seed count =
+    All-permutation (λ p. IsLeastCost (query_grid ls p.start) p.start p.goal p.cost) _ _
+    (order_is (map (priced ls) (kept_of ls seed count))).is.same
+    (All-map (λ p. IsLeastCost (query_grid ls p.start) p.start p.goal p.cost) (priced ls)
+    (kept_of ls seed count)
+    (All-weaker (λ e. HasWalk ls e.start e.goal)
+    (λ e. IsLeastCost (query_grid ls e.start) e.start e.goal (priced ls e).cost)
+    (λ e walk. has_least ls e.start e.goal walk) (kept_of ls seed count) (kept_walks ls seed count)))
+
+-- the problem between these ends, with the cost that was found
+pub priced_is : (ls : Layers) (ends : ProblemEnds) (least : Option Cost) (cost : Cost)
+    → least ≡ least_between ls ends.start ends.goal → least ≡ Some cost
+    → record { start = ends.start; goal = ends.goal; cost = cost } ≡ priced ls ends
+priced_is ls ends least cost is some =
+    ap (λ (o : Option Cost). problem (unwrap_or o no_cost)) (sym some ∙ is)
+  where
+    problem : Cost → Problem
+    problem cost = record { start = ends.start; goal = ends.goal; cost = cost }
 
 -- one more of the ends has its problem
 pub priced-more : (at ls : Layers) (kept : List ProblemEnds) (place : ℕ) (d : ProblemEnds)
-    (problems now : List Problem)
-    (p : Problem) → at ≡ ls → place < length kept → ArePriced ls (take place kept) problems
-    → IsPriced at (get_or kept place d) p → now ≡ problems ++ p ∷ []
-    → ArePriced ls (take (place + 1) kept) now
+    (problems now : List Problem) (p : Problem) → at ≡ ls → place < length kept
+    → problems ≡ map (priced ls) (take place kept) → p ≡ priced at (get_or kept place d)
+    → now ≡ problems ++ p ∷ [] → now ≡ map (priced ls) (take (place + 1) kept)
 priced-more at ls kept place d problems now p same below are is grown =
     let ends : ProblemEnds = get_or kept place d in
-    subst (λ (l : List Problem). ArePriced ls (take (place + 1) kept) l) (sym grown)
-    (subst (λ (l : List ProblemEnds). ArePriced ls l (problems ++ p ∷ []))
-    (sym (take-more kept place d below))
-    (turns-more (λ (s : Unit {0}) ends p. IsPriced ls ends p) (λ s _. s) tt (take place kept) problems ends p
-    are (subst (λ (l : Layers). IsPriced l ends p) same is)))
-
-pub priced-all : (ls : Layers) (kept : List ProblemEnds) (place : ℕ) (problems : List Problem)
-    → length kept ≤ place
-    → ArePriced ls (take place kept) problems → ArePriced ls kept problems
-priced-all ls kept place problems above are =
-    subst (λ (l : List ProblemEnds). ArePriced ls l problems) (take_all place kept above) are
+    grown ∙ ap (λ (l : List Problem). l ++ p ∷ []) are
+    ∙ ap (λ (q : Problem). map (priced ls) (take place kept) ++ q ∷ [])
+    (is ∙ ap (λ (l : Layers). priced l ends) same)
+    ∙ sym (map-append (priced ls) (take place kept) (ends ∷ []))
+    ∙ ap (map (priced ls)) (sym (take_more kept place d below))
 
 -- the lines of the first problems are written
 pub scenario-none : (ls : Layers) (name : List ℕ) (problems : List Problem) (text : List ℕ)
-    → text ≡ version_line → IsScenario ls name (take 0 problems) text
-scenario-none ls name problems text e =
-    record { lines = []; are = tt; all = e ∙ sym (append-nil version_line) }
+    → text ≡ version_line → text ≡ scenario_on ls name (take 0 problems)
+scenario-none ls name problems text e = e ∙ sym (append-nil version_line)
 
 pub scenario-more : (ls : Layers) (name : List ℕ) (problems : List Problem) (place : ℕ) (d : Problem)
-    (text now : List ℕ) → place < length problems → IsScenario ls name (take place problems) text
-    → AddsProblem ls name (get_or problems place d) text now
-    → IsScenario ls name (take (place + 1) problems) now
+    (text now : List ℕ) → place < length problems → text ≡ scenario_on ls name (take place problems)
+    → now ≡ text ++ line_on ls name (get_or problems place d)
+    → now ≡ scenario_on ls name (take (place + 1) problems)
 scenario-more ls name problems place d text now below is adds =
     let p : Problem = get_or problems place d in
-    subst (λ (l : List Problem). IsScenario ls name l now) (sym (take-more problems place d below))
-    (record {
-      lines = is.lines ++ adds.line ∷ [];
-      are = turns-more (λ (s : Unit {0}) p line. line ≡ problem_line name (query_of ls p) p.cost) (λ s _. s) tt
-          (take place problems) is.lines p adds.line is.are adds.is;
-      all = adds.added ∙ ap (λ (l : List ℕ). l ++ adds.line) is.all
-          ∙ append_assoc version_line (concat is.lines) adds.line
-          ∙ ap (λ (l : List ℕ). version_line ++ (concat is.lines ++ l)) (sym (append-nil adds.line))
-          ∙ ap (λ (l : List ℕ). version_line ++ l) (sym (concat-append is.lines (adds.line ∷ [])));
-    })
-
-pub scenario-all : (ls : Layers) (name : List ℕ) (problems : List Problem) (place : ℕ) (text : List ℕ)
-    → length problems ≤ place → IsScenario ls name (take place problems) text
-    → IsScenario ls name problems text
-scenario-all ls name problems place text above is =
-    subst (λ (l : List Problem). IsScenario ls name l text) (take_all place problems above) is
+    adds ∙ ap (λ (l : List ℕ). l ++ line_on ls name p) is
+    ∙ flat_map_more (line_on ls name) version_line (take place problems) p
+    ∙ ap (scenario_on ls name) (sym (take_more problems place d below))
 
 -- the status is 0 or 1
-pub small_problems_status : (ls : Layers) (word : List ℕ) (seed count : ℕ) (text : List ℕ) (status : ℕ)
-    → AreProblems ls word seed count text status → status ≤ 1
-small_problems_status ls word seed count text status h =
-    subst (λ n. n ≤ 1) (sym h.same_status) (by_test (nat_eq (length h.kept) count))
+pub small_problems_status : (ls : Layers) (seed count : ℕ) → problems_status ls seed count ≤ 1
+small_problems_status ls seed count = by_test (nat_eq (length (kept_of ls seed count)) count)
   where
     by_test : (b : Bool) → (if b then 0 else 1) ≤ 1
     by_test true = omega arith

@@ -1,6 +1,6 @@
 //! Problems from a number, as a scenario.
 
-ghost use Rattle.std.specs.Prelude.{◌≡◌, ◌<◌, IfOk, OnOk};
+ghost use Rattle.std.specs.Prelude.{◌≡◌, ◌<◌, ◌++◌, IfOk, OnOk, map};
 ghost use Rattle.std.specs.List.{All};
 ghost use Rattle.grid_moves.specs.Layers.{AreLayers};
 ghost use Rattle.joined_cells.specs.Both.{HasWalk};
@@ -26,7 +26,7 @@ fn price<L: Ledger>(
 ) -> Result<Problem, NoMemory>
     requires layers { AreLayers costs.old }
     requires walk { HasWalk costs.old ends.start ends.goal }
-    ensures priced { IfOk result (spec.IsPriced costs.old ends) }
+    ensures priced { IfOk result (λ problem. problem ≡ spec.priced costs.old ends) }
     ensures unchanged { costs.new ≡ costs.old }
 {
     let ProblemEnds { start, goal } = ends;
@@ -45,7 +45,7 @@ fn price_all<L: Ledger>(
 ) -> Result<Vec<Problem>, NoMemory>
     requires layers { AreLayers costs.old }
     requires walks { All (λ ends. HasWalk costs.old ends.start ends.goal) kept.now }
-    ensures priced { IfOk result (λ problems. spec.ArePriced costs.old kept.now problems.items) }
+    ensures priced { IfOk result (λ problems. problems.items ≡ map (spec.priced costs.old) kept.now) }
     ensures unchanged { costs.new ≡ costs.old }
 {
     let mut problems = Vec::with_capacity(alloc, kept.len())?;
@@ -68,7 +68,7 @@ fn price_alone<L: Ledger>(
     requires some { 0 < L.parts }
     requires layers { AreLayers costs.old }
     requires walks { All (λ ends. HasWalk costs.old ends.start ends.goal) kept.now }
-    ensures priced { IfOk result (λ problems. spec.ArePriced costs.old kept.now problems.items) }
+    ensures priced { IfOk result (λ problems. problems.items ≡ map (spec.priced costs.old) kept.now) }
     ensures unchanged { costs.new ≡ costs.old }
 {
     let mut steps = Steps::<L>::new(blank);
@@ -96,7 +96,7 @@ fn put_problem(
     name: &[u8],
     problem: Problem,
 ) -> Result<(), NoMemory>
-    ensures { OnOk result (spec.AddsProblem layers.now name.now problem out.old.items out.new.items) }
+    ensures { OnOk result (out.new.items ≡ out.old.items ++ spec.line_on layers.now name.now problem) }
 {
     let listed = query_of(layers, problem).with_cost(problem.cost);
     put_entry(out, name, listed)
@@ -109,7 +109,7 @@ fn scenario_text(
     name: &[u8],
     problems: &[Problem],
 ) -> Result<Vec<u8>, NoMemory>
-    ensures { IfOk result (λ text. spec.IsScenario layers.now name.now problems.now text.items) }
+    ensures { IfOk result (λ text. text.items ≡ spec.scenario_on layers.now name.now problems.now) }
 {
     let mut text = Vec::new(alloc);
     put_version(&mut text)?;
@@ -129,7 +129,8 @@ pub fn problems_text(
     seed: u64,
     count: u32,
 ) -> Result<Printed, NoMemory>
-    ensures { IfOk result (λ p. spec.AreProblems costs.old word.now seed count p.text.items p.status) }
+    ensures text { IfOk result (λ p. p.text.items ≡ spec.problems_text costs.old word.now seed count) }
+    ensures status { IfOk result (λ p. p.status ≡ spec.problems_status costs.old seed count) }
 {
     let (land, water) = costs.layers().both();
     let kept = make_ends(alloc, land, water, seed, count)?;

@@ -1,9 +1,8 @@
-use Rattle.std.proofs.Common.{◌∙◌, List, subst, sym}
+use Rattle.std.proofs.Common.{◌∙◌, ap, map, subst, sym}
 use Rattle.std.proofs.lemmas.List.{take_all}
 use Rattle.std.proofs.lemmas.Result.{IfOk-from_err}
 use Rattle.grid_moves.specs.Layers.{AreLayers, Layers}
-use Rattle.problem_maker.specs.declared.tries.ProblemEnds.{ProblemEnds}
-use Rattle.scen_maker.specs.Problems.{ArePriced}
+use Rattle.scen_maker.specs.Problems.{priced}
 use Rattle.scen_maker.proofs.Posed.{priced-more}
 use Rattle.scen_maker.proofs.problems.price_all.Goals as goal
 
@@ -36,8 +35,8 @@ returns-in_err-push-clause-unchanged g c = c.price.ensures.unchanged ∙ c.loop-
 
 pub returns-clause-priced : goal.returns-clause-priced
 returns-clause-priced g c =
-    subst (λ (kept : List ProblemEnds). ArePriced c.args.costs.now kept c.loop-ends.problems.items)
-    (take_all c.loop-ends.ends-index c.args.kept.now c.loop-ends-test.false) c.loop-ends.invariant.priced
+    c.loop-ends.invariant.priced
+    ∙ ap (map (priced c.args.costs.now)) (take_all c.loop-ends.ends-index c.args.kept.now c.loop-ends-test.false)
 
 pub returns-clause-unchanged : goal.returns-clause-unchanged
 returns-clause-unchanged g c = c.loop-ends.invariant.same

@@ -1,8 +1,7 @@
-use Rattle.std.proofs.Common.{List, subst}
+use Rattle.std.proofs.Common.{◌∙◌, ap}
 use Rattle.std.proofs.lemmas.List.{take_all}
 use Rattle.std.proofs.lemmas.Result.{IfOk-from_err}
-use Rattle.problem_maker.specs.declared.sorting.Problem.{Problem}
-use Rattle.scen_maker.specs.Problems.{IsScenario}
+use Rattle.scen_maker.specs.Problems.{scenario_on}
 use Rattle.scen_maker.proofs.Posed.{scenario-more}
 use Rattle.scen_maker.proofs.problems.scenario_text.Goals as goal
 
@@ -20,8 +19,6 @@ returns-in_err-put_problem c = IfOk-from_err c.from_residual-in_err-put_problem.
     c.from_residual-in_err-put_problem.ensures.0
 
 pub returns : goal.returns
-returns c =
-    subst (λ (problems : List Problem). IsScenario c.args.layers.now c.args.name.now problems
-    c.loop-problem.text.items)
+returns c = c.loop-problem.invariant
+    ∙ ap (scenario_on c.args.layers.now c.args.name.now)
     (take_all c.loop-problem.problem-index c.args.problems.now c.loop-problem-test.false)
-    c.loop-problem.invariant
