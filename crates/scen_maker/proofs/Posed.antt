@@ -21,6 +21,8 @@ use Rattle.problem_maker.specs.declared.sorting.Problem.{Problem}
 use Rattle.problem_maker.specs.declared.tries.ProblemEnds.{ProblemEnds}
 use Rattle.scen_lines.specs.Line.{version_line}
 use Rattle.scen_maker.specs.Lengths.{problem_line}
+use Rattle.scen_maker.specs.Settling.{least_between}
+use Rattle.scen_maker.proofs.Searching.{least_is}
 use Rattle.scen_maker.specs.Problems.{AddsProblem, AreProblems, ArePriced, IsPriced, IsScenario, query_of}
 
 module _ (ls : Layers) (are : AreLayers ls) where
@@ -57,6 +59,12 @@ module _ (ls : Layers) (are : AreLayers ls) where
       (joined_in_one_layer ls s t j) in
       ap (λ (b : Bool). b && is_free_ground ls t) (free_there s s both.0).1 ∙ (free_there s t both.1).1
 
+  -- what is found between them is the least cost
+  pub between_is : (s t : Cell) (least : Option Cost) → HasWalk ls s t → least ≡ least_between ls s t
+      → IsCostTo (query_grid ls s) s t least
+  between_is s t least j e =
+      subst (λ (o : Option Cost). IsCostTo (query_grid ls s) s t o) (sym e) (least_is ls s t (ends_free s t j))
+
 -- joined cells have a least cost
 pub never_none : (ls : Layers) (s t : Cell) (least : Option Cost) → HasWalk ls s t → least ≡ None
     → IsCostTo (query_grid ls s) s t least → ⊥
@@ -67,6 +75,13 @@ take-more : {X : Type 0} (xs : List X) (i : ℕ) (d : X) → i < length xs
     → take (i + 1) xs ≡ take i xs ++ get_or xs i d ∷ []
 take-more {X} xs i d h =
     ap (λ n. take n xs) (let s : i + 1 ≡ suc i = omega arith in s) ∙ take-suc xs i d h
+
+-- so their problem has it
+pub priced-one : (ls : Layers) → AreLayers ls → (ends : ProblemEnds) (cost : Cost)
+    → HasWalk ls ends.start ends.goal → Some cost ≡ least_between ls ends.start ends.goal
+    → IsPriced ls ends (record { start = ends.start; goal = ends.goal; cost = cost })
+priced-one ls are ends cost j e =
+    record { start = refl; goal = refl; least = between_is ls are ends.start ends.goal (Some cost) j e }
 
 -- one more of the ends has its problem
 pub priced-more : (at ls : Layers) (kept : List ProblemEnds) (place : ℕ) (d : ProblemEnds)
