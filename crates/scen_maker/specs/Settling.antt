@@ -42,9 +42,9 @@ settled_of ls entry =
     let from = start_of entry in
     let to = goal_of entry in
     if has_sides ls entry then
-      if is_on_map ls from && is_on_map ls to then
-        if are_free_ends ls from to then settled.Searched from to (least_between ls from to) else settled.Blocked
-      else settled.Outside
+    if is_on_map ls from && is_on_map ls to then
+    if are_free_ends ls from to then settled.Searched from to (least_between ls from to) else settled.Blocked
+    else settled.Outside
     else settled.Scale
 
 -- the entry is meant for this map, its ends are these free cells, and a least walk between them costs so

@@ -152,8 +152,6 @@ impl LeastCosts {
             return Ok(Settled::Scale);
         }
         let layers = self.layers();
-        // (by their clause these are the layers of one map)
-        let _both = layers.both();
         let ends = match layers.ends(entry.sx, entry.sy, entry.gx, entry.gy) {
             Ok(ends) => ends,
             Err(Unsearched::Outside) => return Ok(Settled::Outside),

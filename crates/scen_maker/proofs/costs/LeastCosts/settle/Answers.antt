@@ -1,6 +1,5 @@
 use Rattle.std.proofs.Common.{rules, ◌≡◌}
-use Rattle.edit_replay.proofs.Grounds.{ends_on}
-use Rattle.scen_maker.proofs.Searching.{apart_searched}
+use Rattle.scen_maker.proofs.Searching.{settled_apart}
 use Rattle.scen_maker.proofs.costs.LeastCosts.settle.Goals as goal
 
 pub returns-in-Err-Apart-clause-settled : goal.returns-in-Err-Apart-clause-settled
@@ -8,11 +7,5 @@ returns-in-Err-Apart-clause-settled g c =
     let e = c.in-Err-Apart in
     let from : e.field-0-0.from ≡ e.from = rw e.field-0-is at e.from-is in
     let to : e.field-0-0.to ≡ e.to = rw e.field-0-is at e.to-is in
-    rw (e.from-is, e.to-is) (rw (from, to) at (apart_searched c.args.self.now c.args.entry e.field-0-0
+    rw (e.from-is, e.to-is) (rw (from, to) at (settled_apart c.args.self.now c.args.entry e.field-0-0
     (search rules) (rw (e.field-0-is, c.layers-layers.ensures) at e.ensures)))
-
-pub between-requires-clause-inside : goal.between-requires-clause-inside
-between-requires-clause-inside g c =
-    let e = c.in-Ok.ensures in
-    let are = rw c.layers-layers.ensures at c.both-both.ensures.layers in
-    rw (e.from, e.to) (ends_on c.args.self.now are _ _ (rw c.layers-layers.ensures at e.free))
