@@ -2,8 +2,7 @@
 use Rattle.std.proofs.Common.{◌≡◌, refl, sym, ap, ◌∙◌, List, [], ◌∷◌, ◌++◌, ℕ, ◌+◌, ◌<◌, ◌≤◌, get_or, arith}
 use Rattle.std.proofs.Common.{true, false, Bool, ◌&&◌, ◌||◌, length, subst, take, map}
 use Rattle.std.specs.Prelude.{if◌then◌else◌, nat_eq, Option, Some, None, unwrap_or}
-use Rattle.std.specs.List.{All}
-use Rattle.std.proofs.lemmas.List.{append-nil, flat_map_more, map-append, take_more}
+use Rattle.std.proofs.lemmas.List.{flat_map_more, map-append, take_more}
 use Rattle.std.proofs.lemmas.List.Elements.{All-map, All-weaker}
 use Rattle.std.proofs.lemmas.List.Sorted.{All-permutation}
 use Rattle.root2_cost.specs.declared.Cost.{Cost}
@@ -25,7 +24,7 @@ use Rattle.problem_maker.specs.Tries.{kept_of}
 use Rattle.problem_maker.proofs.Drawn.{kept_walks}
 use Rattle.problem_maker.proofs.Insertion.{order_is}
 use Rattle.scen_lines.specs.Line.{version_line}
-use Rattle.scen_maker.specs.Problems.{ProblemsCostLeast, line_on, priced, problems_of, problems_status}
+use Rattle.scen_maker.specs.Problems.{ProblemsCostLeast, line_on, priced, problems_status}
 use Rattle.scen_maker.specs.Problems.{scenario_on}
 use Rattle.scen_maker.specs.Settling.{least_between}
 
@@ -91,16 +90,6 @@ problems_least ls seed count =
     (λ e. IsLeastCost (query_grid ls e.start) e.start e.goal (priced ls e).cost)
     (λ e walk. has_least ls e.start e.goal walk) (kept_of ls seed count) (kept_walks ls seed count)))
 
--- the problem between these ends, with the cost that was found
-pub priced_is : (ls : Layers) (ends : ProblemEnds) (least : Option Cost) (cost : Cost)
-    → least ≡ least_between ls ends.start ends.goal → least ≡ Some cost
-    → record { start = ends.start; goal = ends.goal; cost = cost } ≡ priced ls ends
-priced_is ls ends least cost is some =
-    ap (λ (o : Option Cost). problem (unwrap_or o no_cost)) (sym some ∙ is)
-  where
-    problem : Cost → Problem
-    problem cost = record { start = ends.start; goal = ends.goal; cost = cost }
-
 -- one more of the ends has its problem
 pub priced-more : (at ls : Layers) (kept : List ProblemEnds) (place : ℕ) (d : ProblemEnds)
     (problems now : List Problem) (p : Problem) → at ≡ ls → place < length kept
@@ -115,10 +104,6 @@ priced-more at ls kept place d problems now p same below are is grown =
     ∙ ap (map (priced ls)) (sym (take_more kept place d below))
 
 -- the lines of the first problems are written
-pub scenario-none : (ls : Layers) (name : List ℕ) (problems : List Problem) (text : List ℕ)
-    → text ≡ version_line → text ≡ scenario_on ls name (take 0 problems)
-scenario-none ls name problems text e = e ∙ sym (append-nil version_line)
-
 pub scenario-more : (ls : Layers) (name : List ℕ) (problems : List Problem) (place : ℕ) (d : Problem)
     (text now : List ℕ) → place < length problems → text ≡ scenario_on ls name (take place problems)
     → now ≡ text ++ line_on ls name (get_or problems place d)

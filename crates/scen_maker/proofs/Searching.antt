@@ -1,6 +1,6 @@
 -- What searches tell of the queries of entries.
 use Rattle.std.proofs.lemmas.Bool.Decides.{nat_tests}
-use Rattle.std.proofs.Common.{◌≡◌, refl, ap, sym, ◌∙◌, subst, inl, inr, true, false, Bool, ℕ, ◌&&◌, ◌||◌, arith}
+use Rattle.std.proofs.Common.{◌≡◌, refl, ap, sym, ◌∙◌, subst, inl, inr, true, false, Bool, ℕ, ◌&&◌, arith}
 use Rattle.std.specs.Prelude.{if◌then◌else◌, Option, None}
 use Rattle.root2_cost.specs.declared.Cost.{Cost}
 use Rattle.grid_moves.specs.declared.Cell.{Cell}

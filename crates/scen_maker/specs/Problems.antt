@@ -1,14 +1,17 @@
 -- A scenario of problems from a number.
-use Rattle.std.specs.Prelude.{◌≡◌, ℕ, nat_eq, if◌then◌else◌, List, ◌++◌, length, map, unwrap_or}
+use Rattle.std.specs.Prelude.{◌≡◌, ℕ, nat_eq, if◌then◌else◌, List, [], ◌∷◌, ◌++◌, length, map, unwrap_or}
+use Rattle.std.specs.Prelude.{codes, refl}
+use Rattle.std.specs.Fmt.{digits}
 use Rattle.std.specs.List.{All, flat_map}
 use Rattle.root2_cost.specs.Sums.{no_cost}
 use Rattle.cost_waves.specs.Begin.{IsLeastCost}
-use Rattle.grid_moves.specs.Layers.{Layers, query_grid}
+use Rattle.grid_moves.specs.declared.Corner.TheVariants.{Never}
+use Rattle.grid_moves.specs.Layers.{Layers, layers_of, query_grid}
 use Rattle.problem_maker.specs.Ordered.{in_order}
 use Rattle.problem_maker.specs.Tries.{kept_of}
 use Rattle.problem_maker.specs.declared.sorting.Problem.{Problem}
 use Rattle.problem_maker.specs.declared.tries.ProblemEnds.{ProblemEnds}
-use Rattle.scen_lines.specs.Line.{version_line}
+use Rattle.scen_lines.specs.Line.{root, version_line}
 use Rattle.scen_lines.specs.Naming.{name_of}
 use Rattle.scen_lines.specs.declared.line.Problem as lines
 use Rattle.scen_maker.specs.Lengths.{problem_line}
@@ -59,3 +62,10 @@ problems_status ls seed count = if nat_eq (length (kept_of ls seed count)) count
 abbrev pub ProblemsCostLeast : Type 0
 ProblemsCostLeast = (ls : Layers) (seed count : ℕ)
     → All (λ p. IsLeastCost (query_grid ls p.start) p.start p.goal p.cost) (problems_of ls seed count)
+
+-- a worked row: one move from left to right on the map `...@.`
+pub one_move : scenario_on (layers_of Never 5 1 (codes "...@.")) (codes "a.map")
+    (record { start = record { x = 1; y = 0 }; goal = record { x = 2; y = 0 }; cost = record { a = 1; b = 0 } } ∷ [])
+    ≡ codes "version 1\n0\ta.map\t5\t1\t1\t0\t2\t0\t1.00000000\n"
+unfolding root digits
+one_move = refl
