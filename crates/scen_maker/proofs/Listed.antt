@@ -1,5 +1,5 @@
 -- The lines of entries.
-use Rattle.std.proofs.Common.{◌≡◌, refl, sym, ap, ◌∙◌, subst, List, [], ◌∷◌, ◌++◌, map, ℕ, inl, inr}
+use Rattle.std.proofs.Common.{◌≡◌, refl, sym, ap, ◌∙◌, List, [], ◌∷◌, ◌++◌, ℕ, inl, inr}
 use Rattle.std.proofs.Common.{true, false, Bool, ◌&&◌, arith, ◌≤◌}
 use Rattle.std.specs.Prelude.{◌≢◌, if◌then◌else◌, Option, Some, None, is_some, Result, Ok, Err, OnOk, Vec}
 use Rattle.std.specs.Global.{Global}
