@@ -102,18 +102,8 @@ module _ (ls : Layers) (entry : Entry) where
   pub settled_is : IsSettled ls entry (settled_of ls entry)
   settled_is = by_sides (has_sides ls entry) refl
 
-  -- what is found by the tests is that
-  pub settled_scale : has_sides ls entry ≡ false → settled.Scale ≡ settled_of ls entry
-  settled_scale sides = rw sides refl
-
-  pub settled_outside : has_sides ls entry ≡ true → on ≡ false → settled.Outside ≡ settled_of ls entry
-  settled_outside sides off = rw (sides, off) refl
-
-  pub settled_blocked : has_sides ls entry ≡ true → on ≡ true → free ≡ false
-      → settled.Blocked ≡ settled_of ls entry
-  settled_blocked sides inside shut = rw (sides, inside, shut) refl
-
-  pub settled_searched : (s t : Cell) (least : Option Cost) → has_sides ls entry ≡ true → on ≡ true
+  -- and what is found between its ends is that
+  settled_searched : (s t : Cell) (least : Option Cost) → has_sides ls entry ≡ true → on ≡ true
       → free ≡ true → s ≡ from → t ≡ to → least ≡ least_between ls s t
       → settled.Searched s t least ≡ settled_of ls entry
   settled_searched s t least sides inside both start goal found =

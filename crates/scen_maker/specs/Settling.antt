@@ -1,8 +1,10 @@
 -- What a map makes of the queries of a scenario's entries.
-use Rattle.std.specs.Prelude.{◌≡◌, Bool, true, false, nat_eq, ◌&&◌, if◌then◌else◌, Option, Some, None}
+use Rattle.std.specs.Prelude.{◌≡◌, Bool, true, false, nat_eq, ◌&&◌, if◌then◌else◌, Option, Some, None, refl, ℕ}
+use Rattle.std.specs.Prelude.{codes}
 use Rattle.root2_cost.specs.declared.Cost.{Cost}
 use Rattle.grid_moves.specs.declared.Cell.{Cell}
-use Rattle.grid_moves.specs.Layers.{Layers, is_on_map, query_grid}
+use Rattle.grid_moves.specs.declared.Corner.TheVariants.{Never}
+use Rattle.grid_moves.specs.Layers.{Layers, is_on_map, layers_of, query_grid, shore}
 use Rattle.grid_moves.specs.Reply as answer
 use Rattle.grid_moves.specs.Reply.{IsRight, are_free_ends}
 use Rattle.edit_replay.specs.declared.reply.Reply.{Reply}
@@ -73,3 +75,25 @@ least_in other = None
 -- so is each query settled
 abbrev pub QueriesAreSettled : Type 0
 QueriesAreSettled = (ls : Layers) (entry : Entry) → IsSettled ls entry (settled_of ls entry)
+
+-- an entry of the map `.WW/.WW`, from one cell to another
+abbrev pub on_shore : ℕ → ℕ → ℕ → ℕ → Entry
+on_shore sx sy gx gy = record {
+  line = 2;
+  bucket = 0;
+  name = record { start = 0; end = 5 };
+  w = 3;
+  h = 2;
+  sx = sx;
+  sy = sy;
+  gx = gx;
+  gy = gy;
+  length = record { digits = 1; places = 0 };
+}
+
+-- worked rows: an end outside the map, and an entry for a map of other sides
+pub past_the_border : settled_of shore (on_shore 0 0 3 0) ≡ settled.Outside
+past_the_border = refl
+
+pub of_a_smaller_map : settled_of (layers_of Never 2 2 (codes "....")) (on_shore 0 0 1 0) ≡ settled.Scale
+of_a_smaller_map = refl
