@@ -17,8 +17,8 @@ use Rattle.scen_lines.specs.declared.line.Problem as lines
 use Rattle.scen_maker.specs.Lengths.{problem_line}
 use Rattle.scen_maker.specs.Settling.{least_between}
 
--- the problem with these ends, which costs what a least walk between them does; nothing where none leads, as
--- one does between the ends of each kept try
+-- the problem with these ends, and with the cost of a least walk between them; each kept try has one, and where
+-- there were none the cost would be 0
 abbrev pub priced : Layers → ProblemEnds → Problem
 priced ls ends = record {
   start = ends.start;
@@ -64,8 +64,10 @@ ProblemsCostLeast = (ls : Layers) (seed count : ℕ)
     → All (λ p. IsLeastCost (query_grid ls p.start) p.start p.goal p.cost) (problems_of ls seed count)
 
 -- a worked row: one move from left to right on the map `...@.`
-pub one_move : scenario_on (layers_of Never 5 1 (codes "...@.")) (codes "a.map")
-    (record { start = record { x = 1; y = 0 }; goal = record { x = 2; y = 0 }; cost = record { a = 1; b = 0 } } ∷ [])
+abbrev rightward : Problem
+rightward = record { start = record { x = 1; y = 0 }; goal = record { x = 2; y = 0 }; cost = record { a = 1; b = 0 } }
+
+pub one_move : scenario_on (layers_of Never 5 1 (codes "...@.")) (codes "a.map") (rightward ∷ [])
     ≡ codes "version 1\n0\ta.map\t5\t1\t1\t0\t2\t0\t1.00000000\n"
 unfolding root digits
 one_move = refl
