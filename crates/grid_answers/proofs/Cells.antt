@@ -1,6 +1,7 @@
 -- What is printed of one cell.
 use Rattle.std.proofs.Common.{◌≡◌, ◌≤◌, ◌*◌, ◌∙◌, refl, ap, sym, subst, ℕ, List, [], ◌∷◌, ◌++◌, Bool, true, false, ◌||◌}
-use Rattle.std.specs.Prelude.{if◌then◌else◌, IfOk, Result, Ok, Err, Option, codes}
+use Rattle.std.specs.Prelude.{if◌then◌else◌, IfOk, Result, Ok, Err, Option, Some, None, codes}
+use Rattle.std.specs.Option.{option_map_or}
 use Rattle.std.specs.Global.{Vec}
 use Rattle.first_moves.specs.declared.row.Run.{Run}
 use Rattle.first_moves.specs.Row.{IsRow, row_of}
@@ -15,21 +16,28 @@ use Rattle.grid_moves.specs.Grid.{GridData, is_free}
 use Rattle.grid_moves.specs.Layers.{Layers, is_free_ground, query_grid}
 use Rattle.grid_moves.specs.Move.{all_dirs}
 use Rattle.cell_lines.specs.Cells.{dir_text, texts_of}
-use Rattle.grid_answers.specs.BoxLines.{IsBoxText, area_text, box_line, boxes_text}
-use Rattle.grid_answers.specs.OfCell.{answered}
-use Rattle.grid_answers.specs.RunLines.{IsRunText, runs_text}
+use Rattle.grid_answers.specs.BoxLines.{area_text, boxes_answer, box_line, boxes_text}
+use Rattle.grid_answers.specs.OfCell.{of_cell, why_untold}
+use Rattle.grid_answers.specs.RunLines.{moves_answer, runs_text}
 
--- a text that is this line
-pub if_line : {E : Type 0} (result : Result (Vec ℕ) E) (Right : List ℕ → Type 0) (line : List ℕ)
-    → IfOk result (λ t. t.items ≡ line) → Right line → IfOk result (λ t. Right t.items)
-if_line (Ok t) Right line e r = subst Right (sym e) r
-if_line (Err e) Right line a r = tt
+-- what is this is that
+pub if_is : {A E Y : Type 0} (part : A → Y) (result : Result A E) {this that : Y}
+    → IfOk result (λ a. part a ≡ this) → this ≡ that → IfOk result (λ a. part a ≡ that)
+if_is part (Ok a) e f = e ∙ f
+if_is part (Err e) a f = tt
 
--- the text of one cell is that of the same cell
-pub if_same : {E : Type 0} (result : Result (Vec ℕ) E) (Right : Cell → List ℕ → Type 0) (c s : Cell) → c ≡ s
-    → IfOk result (λ t. Right c t.items) → IfOk result (λ t. Right s t.items)
-if_same (Ok t) Right c s e r = subst (λ (k : Cell). Right k t.items) e r
-if_same (Err f) Right c s e r = tt
+pub if_text : {E : Type 0} (result : Result (Vec ℕ) E) {this that : List ℕ}
+    → IfOk result (λ t. t.items ≡ this) → this ≡ that → IfOk result (λ t. t.items ≡ that)
+if_text = if_is (λ t. t.items)
+
+-- what is told of a cell, and the line that says why nothing is, are what is printed of it
+module _ {X : Type 0} (ls : Layers) (s : Cell) (alone : List ℕ → X) (told : GridData → X) where
+  pub is-told : why_untold ls s ≡ None → told (query_grid ls s) ≡ of_cell ls s alone told
+  is-told none =
+      ap (λ (o : Option (List ℕ)). option_map_or alone o (told (query_grid ls s))) (sym none)
+
+  pub is-line : (line : List ℕ) → why_untold ls s ≡ Some line → alone line ≡ of_cell ls s alone told
+  is-line line why = ap (λ (o : Option (List ℕ)). option_map_or alone o (told (query_grid ls s))) (sym why)
 
 -- a free cell is free on the grid of its queries
 pub free-on : (ls : Layers) (s : Cell) (g : GridData) → g ≡ query_grid ls s → is_free_ground ls s ≡ true
@@ -54,27 +62,26 @@ texts-same p q (x ∷ xs) same =
     ap (λ (l : List ℕ). l ++ texts_of p xs) (same x) ∙ ap (λ (l : List ℕ). q x ++ l) (texts-same p q xs same)
 
 -- the lines of the boxes and of the runs of a free cell
-pub printed-boxes : {E : Type 0} (result : Result (Vec ℕ) E) (ls : Layers) (s : Cell) (g : GridData)
-    (b : CellBoxes)
-    → g ≡ query_grid ls s → is_free_ground ls s ≡ true → AreBoxes g s b
-    → IfOk result (λ t. t.items ≡ boxes_text (box_in b)) → IfOk result (λ t. IsBoxText ls s t.items)
-printed-boxes result ls s g b same free are is = if_line result (IsBoxText ls s) (boxes_text (box_in b)) is
-    (answered (boxes_text (box_in b)) free (
+pub boxes-told : (ls : Layers) (s : Cell) (g : GridData) (b : CellBoxes) → g ≡ query_grid ls s
+    → is_free_ground ls s ≡ true → why_untold ls s ≡ None → AreBoxes g s b
+    → boxes_text (box_in b) ≡ boxes_answer ls s
+unfolding boxes_answer
+boxes-told ls s g b same free none are =
     texts-same (box_line (box_in b)) (box_line (box_of g s)) all_dirs (λ d.
     ap (λ (a : Option Area). codes "box " ++ dir_text d ++ codes " " ++ area_text a ++ codes "\n")
     ((boxes_are g s d (free-on ls s g same free)).only (box_in b d) (are d)))
-    ∙ ap (λ (k : GridData). boxes_text (box_of k s)) same))
+    ∙ ap (λ (k : GridData). boxes_text (box_of k s)) same
+    ∙ is-told ls s (λ line. line) (λ k. boxes_text (box_of k s)) none
 
-pub printed-runs : {E : Type 0} (result : Result (Vec ℕ) E) (ls : Layers) (s : Cell) (g : GridData)
-    (row : List Run)
-    (width : ℕ) → g ≡ query_grid ls s → is_free_ground ls s ≡ true → IsRow g s row → width ≡ g.width
-    → IfOk result (λ t. t.items ≡ runs_text width row) → IfOk result (λ t. IsRunText ls s t.items)
-printed-runs result ls s g row width same free is w e =
-    if_line result (IsRunText ls s) (runs_text width row) e
-    (answered (runs_text width row) free (
+pub runs-told : (ls : Layers) (s : Cell) (g : GridData) (row : List Run) (width : ℕ) → g ≡ query_grid ls s
+    → is_free_ground ls s ≡ true → why_untold ls s ≡ None → IsRow g s row → width ≡ g.width
+    → runs_text width row ≡ moves_answer ls s
+unfolding moves_answer
+runs-told ls s g row width same free none is w =
     ap (λ (n : ℕ). runs_text n row) w
     ∙ ap (λ (r : List Run). runs_text g.width r) (row_only g s row (free-on ls s g same free) is)
-    ∙ ap (λ (k : GridData). runs_text k.width (row_of k s)) same))
+    ∙ ap (λ (k : GridData). runs_text k.width (row_of k s)) same
+    ∙ is-told ls s (λ line. line) (λ k. runs_text k.width (row_of k s)) none
 
 -- the grid of a cell is small where both grids are
 pub few-cells : (ls : Layers) (s : Cell) (g : GridData) → g ≡ query_grid ls s

@@ -1,63 +1,53 @@
 -- What `prove` and `check` print.
-use Rattle.std.proofs.Common.{◌≡◌, ◌≤◌, ap, sym, ◌∙◌, subst, refl, ℕ, List, arith}
-use Rattle.std.specs.Prelude.{IfOk, Result, Ok, Err}
+use Rattle.std.proofs.Common.{◌≡◌, ◌≤◌, refl, ap, sym, ◌∙◌, ℕ, List, arith}
+use Rattle.std.specs.Prelude.{Option, Some, None, Result, Ok, Err}
+use Rattle.std.specs.Option.{option_map_or}
 use Rattle.grid_moves.specs.declared.Cell.{Cell}
-use Rattle.grid_moves.specs.Grid.{GridData}
-use Rattle.grid_moves.specs.Layers.{Layers}
-use Rattle.potential_check.specs.Accepted.{Holds, IsAccepted}
-use Rattle.potential_check.specs.Answers.{IsCertificateAnswer, certificate_answer}
-use Rattle.potential_check.specs.Text.{plain}
-use Rattle.potential_check.proofs.Judging.{Tells, answer_tells, certificates_are_answered}
-use Rattle.potential_check.specs.declared.certificate.Certificate.{Certificate}
+use Rattle.grid_moves.specs.declared.ends.Ends.{Ends}
+use Rattle.grid_moves.specs.Ends.{AreEnds}
+use Rattle.grid_moves.specs.Layers.{Layers, query_grid}
 use Rattle.potential_check.specs.declared.verdict.Proof.{Proof}
 use Rattle.potential_check.specs.declared.verdict.Reject.{Reject}
-use Rattle.grid_answers.specs.Certificates.{IsProof, IsVerdict, outside, blocked, apart, certified}
-use Rattle.grid_answers.specs.Certificates.{verdict_line, verdict_status}
-use Rattle.line_work.specs.declared.printed.Printed.{Printed}
+use Rattle.potential_make.specs.Made.{made_certificate}
+use Rattle.grid_answers.specs.Certificates.{proof_answer, proof_status, verdict_status, why_unproved}
 
--- a line with status 1
-pub if_said : {E : Type 0} (result : Result Printed E) (Right : List ℕ → ℕ → Type 0) (line : List ℕ)
-    → IfOk result (λ p. p.text.items ≡ line) → IfOk result (λ p. p.status ≡ 1) → Right line 1
-    → IfOk result (λ p. Right p.text.items p.status)
-if_said (Ok p) Right line e f r =
-    subst (λ (n : ℕ). Right p.text.items n) (sym f) (subst (λ (t : List ℕ). Right t 1) (sym e) r)
-if_said (Err e) Right line a b r = tt
+module _ (ls : Layers) (s t : Cell) where
+  -- where a line says why nothing is proved, that is printed
+  pub is-why : (line : List ℕ) → why_unproved ls s t ≡ Some line → line ≡ proof_answer ls s t
+  unfolding proof_answer
+  is-why line why = ap (λ (o : Option (List ℕ)). option_map_or (λ l. l) o
+      (made_certificate (query_grid ls s) s t)) (sym why)
+
+  pub why-bad : (line : List ℕ) → why_unproved ls s t ≡ Some line → 1 ≡ proof_status ls s t
+  unfolding proof_status
+  why-bad line why = ap (λ (o : Option (List ℕ)). option_map_or (λ l. 1) o 0) (sym why)
+
+  module _ (both : Ends) (are : AreEnds ls s t both) where
+    none : why_unproved ls s t ≡ None
+    none = rw (are.on, are.free, are.one) refl
+
+    -- and the certificate between the ends
+    pub is-proof : made_certificate (query_grid ls both.from) both.from both.to ≡ proof_answer ls s t
+    unfolding proof_answer
+    is-proof =
+        ap (λ (c : Cell). made_certificate (query_grid ls c) c both.to) are.from
+        ∙ ap (λ (c : Cell). made_certificate (query_grid ls s) s c) are.to
+        ∙ ap (λ (o : Option (List ℕ)). option_map_or (λ l. l) o
+        (made_certificate (query_grid ls s) s t)) (sym none)
+
+    pub proof-good : 0 ≡ proof_status ls s t
+    unfolding proof_status
+    proof-good = ap (λ (o : Option (List ℕ)). option_map_or (λ l. 1) o 0) (sym none)
 
 -- the statuses are 0 and 1
-pub small_proof : (ls : Layers) (s t : Cell) (text : List ℕ) (status : ℕ) → IsProof ls s t text status
-    → status ≤ 1
-small_proof ls s t _ _ (outside e) = omega arith
-small_proof ls s t _ _ (blocked e f) = omega arith
-small_proof ls s t _ _ (apart e f) = omega arith
-small_proof ls s t _ _ (certified text e c a) = omega arith
-
-pub small_verdict : (g : GridData) (c : Certificate) (text : List ℕ) (status : ℕ) → IsVerdict g c text status
-    → status ≤ 1
-small_verdict g c text status v = by_answer (certificate_answer g (plain c)) v.status_is
+pub small_proof : (ls : Layers) (s t : Cell) → proof_status ls s t ≤ 1
+unfolding proof_status
+small_proof ls s t = by_why (why_unproved ls s t)
   where
-    by_answer : (answer : Result Proof Reject) → status ≡ verdict_status answer → status ≤ 1
-    by_answer (Ok proof) e = omega arith
-    by_answer (Err why) e = omega arith
+    by_why : (o : Option (List ℕ)) → option_map_or (λ l. 1) o 0 ≤ 1
+    by_why None = omega arith
+    by_why (Some line) = omega arith
 
--- what a certificate comes to is right
-comes_to : (g : GridData) (c : Certificate)
-    → IsCertificateAnswer g c (certificate_answer g (plain c))
-comes_to g c = (certificates_are_answered g c (certificate_answer g (plain c))).1 refl
-
--- so each certificate has a verdict
-pub verdict_of : (g : GridData) (c : Certificate) (answer : Result Proof Reject)
-    → answer ≡ certificate_answer g (plain c) → (line : List ℕ) (status : ℕ)
-    → line ≡ verdict_line answer → status ≡ verdict_status answer → IsVerdict g c line status
-verdict_of g c answer e line status l s =
-    let says = answer_tells g c (certificate_answer g (plain c)) (comes_to g c) in
-    record {
-      line_is = l ∙ ap verdict_line e;
-      status_is = s ∙ ap verdict_status e;
-      accepted = both (certificate_answer g (plain c)) says;
-      refused = says.err;
-    }
-  where
-    both : (answer : Result Proof Reject) → Tells g c answer
-        → IfOk answer (λ proof. IsAccepted g c × Holds g c.start c.goal proof)
-    both (Ok proof) says = (says.ok, says.holds)
-    both (Err why) says = tt
+pub small_verdict : (answer : Result Proof Reject) → verdict_status answer ≤ 1
+small_verdict (Ok proof) = omega arith
+small_verdict (Err why) = omega arith

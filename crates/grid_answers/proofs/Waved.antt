@@ -1,23 +1,25 @@
 -- The lines of costs.
 use Rattle.std.proofs.Common.{◌≡◌, ◌≤◌, ◌<◌, ◌+◌, ◌-◌, zero, suc, refl, sym, ap, ◌∙◌, subst, List, [], ◌∷◌, ◌++◌}
 use Rattle.std.proofs.Common.{ℕ, Bool, true, false, inl, inr, map, append-nil, append_assoc, arith}
-use Rattle.std.specs.Prelude.{◌≢◌, ◌&&◌, nat_lt, if◌then◌else◌, codes, OnOk, Option, None, Result, Ok, Err}
+use Rattle.std.specs.Prelude.{◌≢◌, ◌&&◌, nat_lt, if◌then◌else◌, codes, OnOk, Option, Some, None, Result, Ok, Err}
 use Rattle.std.specs.Global.{Vec}
 use Rattle.std.proofs.lemmas.Bool.Decides.{nat_tests}
-use Rattle.std.proofs.lemmas.List.{map-append}
+use Rattle.std.proofs.lemmas.List.{map-append, map-id}
+use Rattle.std.proofs.lemmas.List.FromFn.{fill_by_all, get_or-map-range_with_len, length-map-range_with_len}
+use Rattle.std.proofs.lemmas.List.FromFn.{map-range_with_len_more}
+use Rattle.std.specs.List.{range_with_len}
 use Rattle.root2_cost.specs.declared.Cost.{Cost}
 use Rattle.cost_waves.specs.Stored.{Tells, WaveData, cost_at}
 use Rattle.grid_moves.specs.declared.Cell.{Cell}
 use Rattle.grid_moves.specs.Grid.{GridData, is_free}
 use Rattle.grid_moves.proofs.Legal.{free_inside}
 use Rattle.grid_moves.specs.Layers.{Layers, is_free_ground, query_grid}
-use Rattle.grid_answers.specs.Distances.{AreCosts, cost_field, row_line, cost_lines, line_of_costs, fields_to}
-use Rattle.grid_answers.specs.Distances.{numbers_below}
+use Rattle.grid_answers.specs.Distances.{cost_field, costs_answer, row_line, cost_lines, line_of_costs, fields_to}
 use Rattle.plain_search.specs.Costs.{least_cost}
 use Rattle.plain_search.proofs.LeastCosts.{costs_are}
-use Rattle.grid_answers.specs.OfCell.{answered}
+use Rattle.grid_answers.specs.OfCell.{why_untold}
 use Rattle.grid_answers.specs.Printing.{ArePrinted, HavePrinted, TellCosts, printed_line, row_costs}
-use Rattle.grid_answers.proofs.Cells.{free-on}
+use Rattle.grid_answers.proofs.Cells.{free-on, is-line, is-told}
 use Rattle.line_work.specs.Working.{Adds, CanComplete, IsLeft}
 use Rattle.grid_answers.specs.declared.costs.Distances.{Distances}
 use Rattle.grid_answers.specs.declared.costs.CostLines.TheVariants as written
@@ -127,32 +129,37 @@ module _ (g : GridData) (s : Cell) (free : is_free g s ≡ true) (w : WaveData) 
       (λ x. least_cost g s (record { x = x; y = y })) (g.width - 1)
       (λ x near. cost-is y x low (omega (arith, some, near))))
 
-  lines-are : (n : ℕ) → n ≤ g.height
-      → map (printed_line w) (numbers_below n) ≡ map (row_line g s) (numbers_below n)
-  lines-are zero low = refl
-  lines-are (suc n) low =
-      map-append (printed_line w) (numbers_below n) (n ∷ [])
-      ∙ ap (λ (l : List (List ℕ)). l ++ printed_line w n ∷ []) (lines-are n (omega arith))
-      ∙ ap (λ (l : List ℕ). map (row_line g s) (numbers_below n) ++ l ∷ []) (line-is n (omega arith))
-      ∙ sym (map-append (row_line g s) (numbers_below n) (n ∷ []))
+  lines-are : map (printed_line w) (range_with_len 0 g.height) ≡ cost_lines g s
+  lines-are = fill_by_all (row_line g s) (map (printed_line w) (range_with_len 0 g.height)) g.height []
+      (length-map-range_with_len (printed_line w) 0 g.height) (λ y low.
+      get_or-map-range_with_len (printed_line w) 0 g.height y y [] low (omega arith) ∙ line-is y low)
+
+-- one number more
+pub number-next : (n : ℕ) → range_with_len 0 (n + 1) ≡ range_with_len 0 n ++ n ∷ []
+number-next n =
+    sym (map-id (range_with_len 0 (n + 1))) ∙ map-range_with_len_more (λ (k : ℕ). k) 0 n n (omega arith)
+    ∙ ap (λ (l : List ℕ). l ++ n ∷ []) (map-id (range_with_len 0 n))
 
 -- what one pass found is printed
 pub cost-rows : (ls : Layers) (s : Cell) (job : Distances) (rows : Vec ℕ) (g : GridData) (h : ℕ)
-    → g ≡ query_grid ls s → is_free_ground ls s ≡ true → Tells g s job.waves → job.waves.width ≡ g.width
-    → job.waves.height ≡ g.height → rows.items ≡ numbers_below h → h ≡ g.height
-    → TellCosts ls s (written.Rows job rows)
-cost-rows ls s job rows g h is free tells wide high below is_h = λ lines status t. (
+    → g ≡ query_grid ls s → is_free_ground ls s ≡ true → why_untold ls s ≡ None → Tells g s job.waves
+    → job.waves.width ≡ g.width → job.waves.height ≡ g.height → rows.items ≡ range_with_len 0 h
+    → h ≡ g.height → TellCosts ls s (written.Rows job rows)
+unfolding costs_answer
+cost-rows ls s job rows g h is free none tells wide high below is_h = λ lines status t. (
   t.good,
-  answered lines free (
-      t.all ∙ ap (λ (l : List ℕ). map (printed_line job.waves) l) (below ∙ ap numbers_below is_h)
-      ∙ lines-are g s (free-on ls s g is free) job.waves tells wide high g.height (omega arith)
-      ∙ ap (λ (k : GridData). cost_lines k s) is),
+  t.all
+      ∙ ap (λ (l : List ℕ). map (printed_line job.waves) l) (below ∙ ap (range_with_len 0) is_h)
+      ∙ lines-are g s (free-on ls s g is free) job.waves tells wide high
+      ∙ ap (λ (k : GridData). cost_lines k s) is
+      ∙ is-told ls s (λ line. line ∷ []) (λ k. cost_lines k s) none,
 )
 
 -- a line alone is printed
 pub one-line : (ls : Layers) (s : Cell) (text : Vec ℕ) (line : List ℕ) → text.items ≡ line
-    → AreCosts ls s (line ∷ []) → TellCosts ls s (written.Line text)
-one-line ls s text line is are = λ lines status t. (
+    → why_untold ls s ≡ Some line → TellCosts ls s (written.Line text)
+unfolding costs_answer
+one-line ls s text line is why = λ lines status t. (
   t.1,
-  subst (λ (l : List (List ℕ)). AreCosts ls s l) (sym (t.0 ∙ ap (λ (l : List ℕ). l ∷ []) is)) are,
+  t.0 ∙ ap (λ (l : List ℕ). l ∷ []) is ∙ is-line ls s (λ l. l ∷ []) (λ g. cost_lines g s) line why,
 )

@@ -8,7 +8,7 @@ use Rattle.grid_moves.specs.declared.Dir.TheVariants.{SE, NW}
 use Rattle.grid_moves.specs.Layers.{Layers}
 use Rattle.grid_moves.specs.Move.{all_dirs}
 use Rattle.cell_lines.specs.Cells.{dir_text, texts_of}
-use Rattle.grid_answers.specs.OfCell.{IsAnsweredOf}
+use Rattle.grid_answers.specs.OfCell.{of_cell}
 
 -- a box by its least column and row and its greatest column and row, or that there is none
 abbrev pub area_text : Option Area → List ℕ
@@ -25,8 +25,8 @@ abbrev pub boxes_text : (Dir → Option Area) → List ℕ
 boxes_text box = texts_of (box_line box) all_dirs
 
 -- what is printed of the boxes of s: those on the grid of the cell, or why there are none
-abbrev pub IsBoxText : Layers → Cell → List ℕ → Type 0
-IsBoxText ls s text = IsAnsweredOf ls s (λ line. line) (λ g printed. printed ≡ boxes_text (box_of g s)) text
+unfoldable pub boxes_answer : Layers → Cell → List ℕ
+boxes_answer ls s = of_cell ls s (λ line. line) (λ g. boxes_text (box_of g s))
 
 -- the box to the lower right of the upper left cell of an open map of three columns and three rows
 abbrev corner_box : Dir → Option Area

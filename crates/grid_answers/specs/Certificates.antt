@@ -1,30 +1,32 @@
 -- What `prove` and `check` print.
-use Rattle.std.specs.Prelude.{◌≡◌, ℕ, true, false, ◌&&◌, List, ◌++◌, codes, decimal, Result, Ok, Err, IfOk}
-use Rattle.std.specs.Prelude.{IfErr}
+use Rattle.std.specs.Prelude.{◌≡◌, ℕ, ◌&&◌, if◌then◌else◌, List, ◌++◌, codes, decimal, refl}
+use Rattle.std.specs.Prelude.{Option, Some, None, Result, Ok, Err}
+use Rattle.std.specs.Option.{option_map_or}
 use Rattle.grid_moves.specs.declared.Cell.{Cell}
-use Rattle.grid_moves.specs.Grid.{GridData}
-use Rattle.grid_moves.specs.Layers.{Layers, in_one_layer, is_on_map, query_grid}
+use Rattle.grid_moves.specs.Layers.{Layers, in_one_layer, is_on_map, query_grid, shore}
 use Rattle.grid_moves.specs.Reply.{are_free_ends}
 use Rattle.cell_lines.specs.Cells.{cell_text}
-use Rattle.potential_check.specs.Accepted.{Holds, IsAccepted, Refuses}
-use Rattle.potential_check.specs.Answers.{certificate_answer}
-use Rattle.potential_check.specs.Text.{plain}
-use Rattle.potential_check.specs.declared.certificate.Certificate.{Certificate}
 use Rattle.potential_check.specs.declared.verdict.Proof.{Proof}
 use Rattle.potential_check.specs.declared.verdict.Proof.TheVariants as proof
 use Rattle.potential_check.specs.declared.verdict.Reject.{Reject}
 use Rattle.potential_check.specs.declared.verdict.Reject.TheVariants as reject
-use Rattle.potential_make.specs.Certified.{IsAcceptedText, IsCertificate}
+use Rattle.potential_make.specs.Made.{made_certificate}
 
--- what is printed for a query from s to t, and the status: the certificate on the grid of the query, which is
--- read back and accepted there, or why there is none
-pub data IsProof (ls : Layers) (s t : Cell) : List ℕ → ℕ → Type 0 where
-  outside : (is_on_map ls s && is_on_map ls t) ≡ false → IsProof ls s t (codes "outside\n") 1
-  blocked : (is_on_map ls s && is_on_map ls t) ≡ true → are_free_ends ls s t ≡ false
-      → IsProof ls s t (codes "blocked\n") 1
-  apart : are_free_ends ls s t ≡ true → in_one_layer ls s t ≡ false → IsProof ls s t (codes "apart\n") 1
-  certified : (text : List ℕ) → in_one_layer ls s t ≡ true → IsCertificate (query_grid ls s) s t text
-      → IsAcceptedText (query_grid ls s) s t text → IsProof ls s t text 0
+-- the line that says why nothing is proved of the walks from s to t: an end lies outside, or is neither land nor
+-- water, or one is land and the other water
+abbrev pub why_unproved : Layers → Cell → Cell → Option (List ℕ)
+why_unproved ls s t = if is_on_map ls s && is_on_map ls t
+    then (if are_free_ends ls s t
+    then (if in_one_layer ls s t then None else Some (codes "apart\n")) else Some (codes "blocked\n"))
+    else Some (codes "outside\n")
+
+-- what is printed for a query from s to t: that line, or else the certificate on the grid of the query
+unfoldable pub proof_answer : Layers → Cell → Cell → List ℕ
+proof_answer ls s t = option_map_or (λ line. line) (why_unproved ls s t) (made_certificate (query_grid ls s) s t)
+
+-- and the status
+unfoldable pub proof_status : Layers → Cell → Cell → ℕ
+proof_status ls s t = option_map_or (λ line. 1) (why_unproved ls s t) 0
 
 -- the line of what an accepted certificate proves
 abbrev pub proof_line : Proof → List ℕ
@@ -56,10 +58,11 @@ abbrev pub verdict_status : Result Proof Reject → ℕ
 verdict_status (Ok proof) = 0
 verdict_status (Err why) = 1
 
--- the line and the status of a certificate on a grid are those of what it comes to. An accepted one meets all
--- clauses, and what it claims holds of all walks; a refused one fails the clause that is named, and none before it
-pub record IsVerdict (g : GridData) (c : Certificate) (line : List ℕ) (status : ℕ) : Type 0 where
-  pub line_is : line ≡ verdict_line (certificate_answer g (plain c))
-  pub status_is : status ≡ verdict_status (certificate_answer g (plain c))
-  pub accepted : IfOk (certificate_answer g (plain c)) (λ proof. IsAccepted g c × Holds g c.start c.goal proof)
-  pub refused : IfErr (certificate_answer g (plain c)) (Refuses g c)
+-- worked rows on the map `.WW/.WW`: from the land into the water
+pub into_the_water : proof_answer shore (record { x = 0; y = 0 }) (record { x = 1; y = 0 }) ≡ codes "apart\n"
+unfolding proof_answer
+into_the_water = refl
+
+pub into_the_water_bad : proof_status shore (record { x = 0; y = 0 }) (record { x = 1; y = 0 }) ≡ 1
+unfolding proof_status
+into_the_water_bad = refl

@@ -1,12 +1,13 @@
 -- What `costs` prints.
 use Rattle.std.specs.Prelude.{◌≡◌, ℕ, zero, suc, ◌-◌, List, [], ◌∷◌, ◌++◌, codes, decimal, map}
 use Rattle.std.specs.Prelude.{Option, Some, None, refl}
+use Rattle.std.specs.List.{range_with_len}
 use Rattle.root2_cost.specs.declared.Cost.{Cost}
 use Rattle.grid_moves.specs.declared.Cell.{Cell}
 use Rattle.grid_moves.specs.Grid.{GridData}
 use Rattle.grid_moves.specs.Layers.{Layers}
 use Rattle.plain_search.specs.Costs.{least_cost}
-use Rattle.grid_answers.specs.OfCell.{IsAnsweredOf}
+use Rattle.grid_answers.specs.OfCell.{of_cell}
 
 -- `A,B`, or `-` where there is no cost
 abbrev pub cost_field : Option Cost → List ℕ
@@ -26,19 +27,13 @@ line_of_costs width costs = fields_to costs (width - 1) ++ codes "\n"
 abbrev pub row_line : GridData → Cell → ℕ → List ℕ
 row_line g s y = line_of_costs g.width (λ x. least_cost g s (record { x = x; y = y }))
 
--- the numbers below this one
-abbrev pub numbers_below : ℕ → List ℕ
-numbers_below zero = []
-numbers_below (suc n) = numbers_below n ++ n ∷ []
-
 -- the lines of all rows, from the upper one
 abbrev pub cost_lines : GridData → Cell → List (List ℕ)
-cost_lines g s = map (row_line g s) (numbers_below g.height)
+cost_lines g s = map (row_line g s) (range_with_len 0 g.height)
 
 -- what is printed of the costs from s: the lines of all rows, on the grid of the cell, or why there are none
-abbrev pub AreCosts : Layers → Cell → List (List ℕ) → Type 0
-AreCosts ls s lines =
-    IsAnsweredOf ls s (λ line. line ∷ []) (λ g printed. printed ≡ cost_lines g s) lines
+unfoldable pub costs_answer : Layers → Cell → List (List ℕ)
+costs_answer ls s = of_cell ls s (λ line. line ∷ []) (λ g. cost_lines g s)
 
 -- a row of two cells: its own, and one to which no walk leads
 abbrev two_costs : ℕ → Option Cost

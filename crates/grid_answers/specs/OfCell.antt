@@ -1,18 +1,24 @@
 -- What is printed of one cell.
-use Rattle.std.specs.Prelude.{◌≡◌, ℕ, true, false, List, codes}
+use Rattle.std.specs.Prelude.{◌≡◌, ℕ, if◌then◌else◌, List, [], codes, Option, Some, None, refl}
+use Rattle.std.specs.Option.{option_map_or}
 use Rattle.grid_moves.specs.declared.Cell.{Cell}
+use Rattle.grid_moves.specs.declared.Ground.TheVariants.{Blocked}
 use Rattle.grid_moves.specs.Grid.{GridData}
-use Rattle.grid_moves.specs.Layers.{Layers, is_free_ground, is_on_map, query_grid}
+use Rattle.grid_moves.specs.Layers.{Layers, is_free_ground, is_on_map, layers_with, query_grid, shore}
 
--- the line that says why nothing is printed of a cell
-pub data IsUnanswered (ls : Layers) (s : Cell) : List ℕ → Type 0 where
-  outside : is_on_map ls s ≡ false → IsUnanswered ls s (codes "outside\n")
-  blocked : is_on_map ls s ≡ true → is_free_ground ls s ≡ false → IsUnanswered ls s (codes "blocked\n")
+-- the line that says why nothing is told of a cell, where it lies outside or is neither land nor water
+abbrev pub why_untold : Layers → Cell → Option (List ℕ)
+why_untold ls s = if is_on_map ls s then (if is_free_ground ls s then None else Some (codes "blocked\n"))
+    else Some (codes "outside\n")
 
--- the line that says why nothing is printed, alone; or, where the cell is free, something that is such on its grid
-pub data IsAnsweredOf {X : Type 0} (ls : Layers) (s : Cell) (alone : List ℕ → X)
-    (Such : GridData → X → Type 0)
-    : X → Type 0 where
-  unanswered : (line : List ℕ) → IsUnanswered ls s line → IsAnsweredOf ls s alone Such (alone line)
-  answered : (what : X) → is_free_ground ls s ≡ true → Such (query_grid ls s) what
-      → IsAnsweredOf ls s alone Such what
+-- that line, alone; or, of any other cell, what is told on its grid
+abbrev pub of_cell : {X : Type 0} → Layers → Cell → (List ℕ → X) → (GridData → X) → X
+of_cell ls s alone told = option_map_or alone (why_untold ls s) (told (query_grid ls s))
+
+-- worked rows on the map `.WW/.WW`: outside it, and where a cell was blocked
+pub off_the_shore : of_cell shore (record { x = 3; y = 0 }) (λ line. line) (λ g. []) ≡ codes "outside\n"
+off_the_shore = refl
+
+pub of_a_block : of_cell (layers_with shore (record { x = 2; y = 0 }) Blocked) (record { x = 2; y = 0 })
+    (λ line. line) (λ g. []) ≡ codes "blocked\n"
+of_a_block = refl

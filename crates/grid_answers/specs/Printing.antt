@@ -6,7 +6,7 @@ use Rattle.cost_waves.specs.Stored.{WaveData, cost_at}
 use Rattle.grid_moves.specs.declared.Cell.{Cell}
 use Rattle.grid_moves.specs.Layers.{Layers}
 use Rattle.line_work.specs.Sending.{IsText}
-use Rattle.grid_answers.specs.Distances.{AreCosts, line_of_costs}
+use Rattle.grid_answers.specs.Distances.{costs_answer, line_of_costs}
 use Rattle.grid_answers.specs.declared.costs.CostLines.{CostLines}
 use Rattle.grid_answers.specs.declared.costs.CostLines.TheVariants as output
 use Rattle.grid_answers.specs.declared.costs.Distances.{Distances}
@@ -41,4 +41,4 @@ AreWritten (output.Line text) = IsText text.items 0
 -- what is written are the costs from s, with status 0
 abbrev pub TellCosts : Layers → Cell → CostLines → Type 0
 TellCosts ls s lines_printed = (lines : List (List ℕ)) (status : ℕ) → AreWritten lines_printed lines status
-    → (status ≡ 0) × AreCosts ls s lines
+    → (status ≡ 0) × (lines ≡ costs_answer ls s)

@@ -8,7 +8,7 @@ use Rattle.grid_moves.specs.declared.Dir.{Dir}
 use Rattle.grid_moves.specs.declared.Dir.TheVariants.{E}
 use Rattle.grid_moves.specs.Layers.{Layers}
 use Rattle.cell_lines.specs.Cells.{dir_text, texts_of}
-use Rattle.grid_answers.specs.OfCell.{IsAnsweredOf}
+use Rattle.grid_answers.specs.OfCell.{of_cell}
 
 -- the direction of a first move, or that there is none
 abbrev pub first_text : Option Dir → List ℕ
@@ -27,9 +27,8 @@ runs_text width runs = texts_of (run_line width) runs
 
 -- what is printed of the first moves from s: the runs of its row on the grid of the cell, or why there are
 -- none
-abbrev pub IsRunText : Layers → Cell → List ℕ → Type 0
-IsRunText ls s text = IsAnsweredOf ls s (λ line. line)
-    (λ g printed. printed ≡ runs_text g.width (row_of g s)) text
+unfoldable pub moves_answer : Layers → Cell → List ℕ
+moves_answer ls s = of_cell ls s (λ line. line) (λ g. runs_text g.width (row_of g s))
 
 -- on a map of three columns, the runs that begin at the cells with the numbers 0 and 5
 pub nothing_leads : run_line 3 (record { start = 0; first = None })

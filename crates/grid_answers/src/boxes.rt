@@ -1,9 +1,10 @@
 //! The lines of the goal boxes of one cell.
 
-ghost use Rattle.std.specs.Prelude.{◌≡◌, ◌++◌, true, IfOk, OnOk};
+ghost use Rattle.std.specs.Prelude.{◌≡◌, ◌++◌, true, IfOk, OnOk, None};
 ghost use Rattle.goal_boxes.specs.Box.{box_in};
 ghost use Rattle.grid_moves.specs.Layers.{is_free_ground};
 ghost use Rattle.grid_answers.specs.BoxLines as spec;
+ghost use Rattle.grid_answers.specs.OfCell.{why_untold};
 ghost use Rattle.cell_lines.specs.Cells.{texts_of};
 
 use crate::NoMemory;
@@ -64,8 +65,9 @@ fn lines_of(alloc: Global, boxes: CellBoxes) -> Result<Vec<u8>, NoMemory>
 
 // The lines of the boxes of a free cell, by one pass.
 fn boxes_from(alloc: Global, layers: &Layers, from: Cell) -> Result<Vec<u8>, NoMemory>
-    requires { is_free_ground layers.now from ≡ true }
-    ensures { IfOk result (λ text. spec.IsBoxText layers.now from text.items) }
+    requires free { is_free_ground layers.now from ≡ true }
+    requires told { why_untold layers.now from ≡ None }
+    ensures { IfOk result (λ text. text.items ≡ spec.boxes_answer layers.now from) }
 {
     let boxes = boxes_of(alloc, layers.query_grid(from), from)?;
     lines_of(alloc, boxes)
@@ -73,7 +75,7 @@ fn boxes_from(alloc: Global, layers: &Layers, from: Cell) -> Result<Vec<u8>, NoM
 
 /// What is printed of the boxes of the cell of this column and row, by one pass over the grid of the cell.
 pub fn boxes_at(alloc: Global, layers: &Layers, x: u32, y: u32) -> Result<Vec<u8>, NoMemory>
-    ensures { IfOk result (λ text. spec.IsBoxText layers.now (record { x = x; y = y }) text.items) }
+    ensures { IfOk result (λ text. text.items ≡ spec.boxes_answer layers.now (record { x = x; y = y })) }
 {
     match free_cell(layers, x, y) {
         Ok(from) => boxes_from(alloc, layers, from),

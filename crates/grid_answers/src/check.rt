@@ -2,7 +2,8 @@
 
 ghost use Rattle.std.specs.Prelude.{◌≡◌, ◌++◌, IfOk, OnOk, codes, decimal};
 ghost use Rattle.grid_answers.specs.Certificates as spec;
-ghost use Rattle.grid_answers.specs.Certificates.{IsVerdict};
+ghost use Rattle.potential_check.specs.Answers.{certificate_answer};
+ghost use Rattle.potential_check.specs.Text.{plain};
 
 use crate::NoMemory;
 use cell_lines::put_cell;
@@ -76,9 +77,13 @@ fn reject_line(alloc: Global, reject: Reject) -> Result<Vec<u8>, NoMemory>
     }
 }
 
-/// The line of a certificate on a grid, and the status.
+/// The line of a certificate on a grid, and the status: by what the certificate comes to, which is right by the
+/// laws of potential_check.
 pub fn verdict(alloc: Global, grid: &Grid, certificate: &Certificate) -> Result<Printed, NoMemory>
-    ensures { IfOk result (λ p. IsVerdict grid.now certificate.now p.text.items p.status) }
+    ensures text { IfOk result (λ p. p.text.items ≡
+        spec.verdict_line (certificate_answer grid.now (plain certificate.now))) }
+    ensures status { IfOk result (λ p. p.status ≡
+        spec.verdict_status (certificate_answer grid.now (plain certificate.now))) }
 {
     match potential_check::check(grid, certificate) {
         Ok(proof) => Ok(Printed {

@@ -1,8 +1,10 @@
 //! The lines of the least costs from one cell to each cell.
 
-ghost use Rattle.std.specs.Prelude.{◌≡◌, ◌++◌, ◌-◌, true, IfOk, OnOk};
+ghost use Rattle.std.specs.Prelude.{◌≡◌, ◌++◌, ◌-◌, true, IfOk, OnOk, None};
+ghost use Rattle.std.specs.List.{range_with_len};
 ghost use Rattle.grid_moves.specs.Layers.{is_free_ground, is_on_map};
 ghost use Rattle.grid_answers.specs.Distances as spec;
+ghost use Rattle.grid_answers.specs.OfCell.{why_untold};
 ghost use Rattle.line_work.specs.Sending.{SendsWhole};
 ghost use Rattle.grid_answers.specs.Printing as printing;
 
@@ -129,7 +131,7 @@ pub fn write_costs<O: Sink, L: Ledger>(
 
 // The numbers of so many rows.
 fn numbers_below(alloc: Global, height: u16) -> Result<Vec<u16>, NoMemory>
-    ensures { IfOk result (λ rows. rows.items ≡ spec.numbers_below height) }
+    ensures { IfOk result (λ rows. rows.items ≡ range_with_len 0 height) }
 {
     let mut rows = Vec::new(alloc);
     for y in 0..height {
@@ -140,7 +142,8 @@ fn numbers_below(alloc: Global, height: u16) -> Result<Vec<u16>, NoMemory>
 
 // One pass from a free cell.
 fn costs_from(alloc: Global, layers: &Layers, from: Cell) -> Result<CostLines, NoMemory>
-    requires { is_free_ground layers.now from ≡ true }
+    requires free { is_free_ground layers.now from ≡ true }
+    requires told { why_untold layers.now from ≡ None }
     ensures { IfOk result (printing.TellCosts layers.now from) }
 {
     let grid = layers.query_grid(from);

@@ -1,7 +1,8 @@
 //! The lines of the first moves from one cell, in runs.
 
-ghost use Rattle.std.specs.Prelude.{◌≡◌, ◌≤◌, ◌*◌, ◌<◌, ◌++◌, true, IfOk, OnOk};
+ghost use Rattle.std.specs.Prelude.{◌≡◌, ◌≤◌, ◌*◌, ◌<◌, ◌++◌, true, IfOk, OnOk, None};
 ghost use Rattle.grid_moves.specs.Layers.{is_free_ground, query_grid};
+ghost use Rattle.grid_answers.specs.OfCell.{why_untold};
 ghost use Rattle.grid_answers.specs.RunLines as spec;
 
 use crate::NoMemory;
@@ -64,9 +65,10 @@ fn lines_of(alloc: Global, width: u16, row: &Row) -> Result<Vec<u8>, NoMemory>
 // The lines of the first moves from a free cell, by one pass.
 fn moves_from(alloc: Global, layers: &Layers, from: Cell) -> Result<Vec<u8>, NoMemory>
     requires free { is_free_ground layers.now from ≡ true }
+    requires told { why_untold layers.now from ≡ None }
     requires land { layers.now.land.height * layers.now.land.width ≤ 16384 }
     requires water { layers.now.water.height * layers.now.water.width ≤ 16384 }
-    ensures { IfOk result (λ text. spec.IsRunText layers.now from text.items) }
+    ensures { IfOk result (λ text. text.items ≡ spec.moves_answer layers.now from) }
 {
     let grid = layers.query_grid(from);
     let mut waves = CostWaves::new(alloc, grid.width(), grid.height())?;
@@ -79,7 +81,7 @@ fn moves_from(alloc: Global, layers: &Layers, from: Cell) -> Result<Vec<u8>, NoM
 pub fn moves_at(alloc: Global, layers: &Layers, x: u32, y: u32) -> Result<Vec<u8>, NoMemory>
     requires land { layers.now.land.height * layers.now.land.width ≤ 16384 }
     requires water { layers.now.water.height * layers.now.water.width ≤ 16384 }
-    ensures { IfOk result (λ text. spec.IsRunText layers.now (record { x = x; y = y }) text.items) }
+    ensures { IfOk result (λ text. text.items ≡ spec.moves_answer layers.now (record { x = x; y = y })) }
 {
     match free_cell(layers, x, y) {
         Ok(from) => moves_from(alloc, layers, from),

@@ -1,4 +1,6 @@
 pub mod Potentials
+pub mod Ascending
+pub mod Listing
 pub mod Spelled
 pub mod Lengths
 pub mod Making

@@ -1,8 +1,8 @@
--- What a search found makes a certificate that is accepted.
-use Rattle.std.proofs.Common.{◌≡◌, ℕ, suc, ◌+◌, ◌*◌, ◌^◌, ◌<◌, ◌≤◌, Bool, true, false, List}
+-- The certificate between two free cells is accepted.
+use Rattle.std.proofs.Common.{◌≡◌, ℕ, suc, ◌+◌, ◌*◌, ◌<◌, ◌≤◌, Bool, true, false, List}
 use Rattle.std.proofs.Common.{get_or}
 use Rattle.std.proofs.Common.{[], ◌∷◌, ◌++◌, length, map, refl, ap, sym, ◌∙◌, subst, arith}
-use Rattle.std.specs.Prelude.{None, pos, slice_index}
+use Rattle.std.specs.Prelude.{Option, Some, None, pos, slice_index}
 use Rattle.std.specs.List.{Contains, list_all}
 use Rattle.std.specs.List.Sorted.{IsStrictlyIncreasing}
 use Rattle.std.proofs.lemmas.Bool.{and_parts, cases_Bool, le-leb}
@@ -24,28 +24,31 @@ use Rattle.grid_moves.specs.Grid.{GridData, IsGrid, is_free, cell_number, is_ins
 use Rattle.grid_moves.specs.Move.{is_legal, is_same}
 use Rattle.grid_moves.specs.Points.{estimate}
 use Rattle.grid_moves.specs.Reply.{StandsForLeast}
-use Rattle.grid_moves.specs.Walk.{NoWalk, is_walk, cost_of}
+use Rattle.grid_moves.specs.Walk.{is_walk, cost_of}
+use Rattle.grid_moves.specs.Walk as walks
 use Rattle.grid_moves.proofs.Legal.{free_inside, is_same-cell, is_same-itself, legal_is}
 use Rattle.grid_moves.proofs.Short.{least_steps, few_cells}
 use Rattle.grid_moves.proofs.Walks.{end_free, steps-cost_of, one_more}
 use Rattle.grid_moves.proofs.Consistent.{estimate_nothing, never_exceeds}
+use Rattle.path_points.specs.declared.points.Walk.{Walk}
 use Rattle.path_points.specs.Corners.{corners, turns_after}
 use Rattle.path_points.specs.Least.{IsLeastOrNone}
-use Rattle.plain_search.specs.Answer.{IsFound, IsPlainRun}
-use Rattle.plain_search.specs.Lists.{AreClosed, AreLists, AreReached, IsLeastCost, plain_of}
+use Rattle.plain_search.specs.Answer.{IsFound, IsPlainRun, plain_found}
+use Rattle.plain_search.specs.Lists.{AreClosed, AreReached, IsLeastCost}
 use Rattle.plain_search.specs.Rule.{plain_rule}
-use Rattle.plain_search.specs.declared.lists.Listed.{Listed}
-use Rattle.plain_search.specs.declared.lists.Listed.TheVariants.{Found, None}
+use Rattle.plain_search.proofs.Answering.{answers_are}
 use Rattle.plain_search.proofs.Right.{HasLeast, way_is_least}
+use Rattle.potential_check.specs.declared.certificate.Claim.{Claim}
+use Rattle.potential_check.specs.declared.certificate.Claim.TheVariants.{Least, NoWalk}
 use Rattle.potential_check.specs.Accepted.{AcceptsClaim, AcceptsLeast, AcceptsNone, is_value, leaves}
 use Rattle.potential_check.specs.Certificate.{are_listed, are_sides, ascend_from, cells_of, is_short}
 use Rattle.potential_check.specs.Certificate.{is_small, lies_inside}
 use Rattle.potential_check.specs.Potential.{is_listed, potential_of}
-use Rattle.potential_check.specs.Spelling.{Spells}
 use Rattle.potential_check.proofs.Spelled.{certificate_of_spelled}
-use Rattle.potential_make.specs.Certified.{HasItsPotential, IsAcceptedText, stated}
-use Rattle.potential_make.specs.Written.{certificate_text, claim_of}
+use Rattle.potential_make.specs.Certified.{CertificatesAreAccepted, HasItsCells, stated}
+use Rattle.potential_make.specs.Made.{claim_on, closed_of, made_certificate, made_claim, reached_of}
 use Rattle.potential_make.proofs.Lengths.{HasFewPoints, text_length, turns_few}
+use Rattle.potential_make.proofs.Listing.{closed_are, reached_are}
 use Rattle.potential_make.proofs.Potentials.{feasible, has_potential, signed_is, same_nothing}
 use Rattle.potential_make.proofs.Spelled.{Fits, text_spells, fits_line}
 
@@ -169,7 +172,7 @@ module _ (g : GridData) (s t : Cell) (whole : IsGrid g) (from : is_free g s ≡ 
         let parts = and_parts (is_short s) (list_all is_short way.cells) all in
         rw (points_are, parts.0, turns_short s way.cells parts.1) refl
 
-    pub fits_least : Fits g.width g.height (claim_of (Found points cost closed taken))
+    pub fits_least : Fits g.width g.height (Least cost points closed)
     fits_least = record {
       cost_small = few_small g whole cost few;
       first = s;
@@ -239,11 +242,11 @@ module _ (g : GridData) (s t : Cell) (whole : IsGrid g) (from : is_free g s ≡ 
     }
 
   -- a claim that no walk exists
-  module _ (reached : List Cell) (none : NoWalk g s t) (lists : AreReached g s reached) where
+  module _ (reached : List Cell) (none : walks.NoWalk g s t) (lists : AreReached g s reached) where
     reached_free : (c : Cell) → Contains reached c → is_free g c ≡ true
     reached_free c m = let w = lists.only c m in end_free g s c w.cells w.walk
 
-    pub fits_none : Fits g.width g.height (claim_of (None reached []))
+    pub fits_none : Fits g.width g.height (NoWalk reached)
     fits_none = record {
       cells_short = all_contained is_short reached (λ c m. free_short g whole c (reached_free c m));
       listed = listed_cells g whole reached (all_contained (lies_inside g.width g.height) reached
@@ -272,19 +275,16 @@ module _ (g : GridData) (s t : Cell) (whole : IsGrid g) (from : is_free g s ≡ 
             (lists.all v (w.cells ++ (v ∷ [])) (record { legal = on.legal; ends = on.ends })) in
             rw (e, yes) refl
 
-  sides_small : (g.width < 10 ^ 9) × (g.height < 10 ^ 9)
-  sides_small = let a = whole.sides.narrow in let b = whole.sides.low in (omega arith, omega arith)
+  -- what is known of a claim
+  record IsGood (claim : Claim) : Type 0 where
+    fits : Fits g.width g.height claim
+    few_points : HasFewPoints claim
+    accepted : AcceptsClaim g s t claim
+    cells : HasItsCells g s t claim
 
-  found_fits : (found : Listed) → IsPlainRun g s t (plain_of found)
-      → IsLeastOrNone g s t (plain_of found).walk
-      → AreLists g s t found → Fits g.width g.height (claim_of found)
-  found_fits (Found points cost closed taken) run least lists =
-      fits_least points cost taken closed run least lists
-  found_fits (None reached taken) run least lists = fits_none reached least lists
-
-  few_points : (found : Listed) → IsPlainRun g s t (plain_of found) → HasFewPoints (claim_of found)
-  few_points (None reached taken) run = tt
-  few_points (Found points cost closed taken) run =
+  few_points : (points : List Cell) (cost : Cost) (taken : List ℕ) → IsFound g s t points cost taken
+      → length points ≤ 16777217
+  few_points points cost taken run =
       let w = way_is_least g s t run.last run.earlier from run.run run.at_goal in
       let are : length points ≡ suc (length (turns_after s w.cells)) =
       ap length (run.along ∙ ap corners w.is_way) in
@@ -293,35 +293,46 @@ module _ (g : GridData) (s t : Cell) (whole : IsGrid g) (from : is_free g s ≡ 
       let most = few_cells g whole in
       omega arith
 
-  -- the text of what was found
-  module _ (found : Listed) (text : List ℕ) (run : IsPlainRun g s t (plain_of found))
-      (least : IsLeastOrNone g s t (plain_of found).walk) (lists : AreLists g s t found)
-      (written : text ≡ certificate_text g.width g.height s t (claim_of found)) where
-    spelled_text : Spells text (stated g s t (claim_of found))
-    spelled_text = rw written (text_spells g.width g.height s t (claim_of found) sides_small.0 sides_small.1
-        (sides_are g whole) (free_short g whole s from) (free_short g whole t to)
-        (found_fits found run least lists))
-
-    pub short_text : length text ≤ 2 ^ 30
-    short_text = grind (arith, nat_tests, text_length, free_short, found_fits, few_points)
-
-  accepted_claim : (found : Listed) → IsPlainRun g s t (plain_of found)
-      → IsLeastOrNone g s t (plain_of found).walk
-      → AreLists g s t found → AcceptsClaim g s t (claim_of found) × HasItsPotential g s t (claim_of found)
-  accepted_claim (Found points cost closed taken) run least lists =
-      (accepts_least points cost taken closed run least lists, has_potential g s t cost closed lists)
-  accepted_claim (None reached taken) run least lists = (accepts_none reached least lists, tt)
-
-  pub accepted_text : (found : Listed) (text : List ℕ) → IsPlainRun g s t (plain_of found)
-      → IsLeastOrNone g s t (plain_of found).walk → AreLists g s t found
-      → text ≡ certificate_text g.width g.height s t (claim_of found) → IsAcceptedText g s t text
-  accepted_text found text run least lists e =
-      let spelled = spelled_text found text run least lists e in
-      let claim = accepted_claim found run least lists in
-      record {
-        claim = claim_of found;
-        spelled = spelled;
-        read = certificate_of_spelled text (stated g s t (claim_of found)) spelled;
-        accepted = claim.0;
-        potential = claim.1;
+  good : (walk : Option Walk) (taken : List ℕ) → IsPlainRun g s t (record { walk = walk; taken = taken })
+      → IsLeastOrNone g s t walk → IsGood (claim_on g s t walk)
+  good (Some w) taken run least =
+      let closed : List (Cell × Cost) = closed_of g s t w.cost in
+      let are = closed_are g s from t w.cost in record {
+        fits = fits_least w.points w.cost taken closed run least are;
+        few_points = few_points w.points w.cost taken run;
+        accepted = accepts_least w.points w.cost taken closed run least are;
+        cells = (are, has_potential g s t w.cost closed are);
       }
+  good None taken run none =
+      let are = reached_are g s from in record {
+        fits = fits_none (reached_of g s) none are;
+        few_points = tt;
+        accepted = accepts_none (reached_of g s) none are;
+        cells = are;
+      }
+
+  made_good : IsGood (made_claim g s t)
+  unfolding made_claim
+  made_good =
+      let f = plain_found g s t in good f.walk f.taken (answers_are.run g s t) (answers_are.least g s t from)
+
+-- so the certificate is accepted
+pub certified : CertificatesAreAccepted
+unfolding made_certificate
+certified g s t whole from to =
+    let k = made_good g s t whole from to in
+    let p = free_short g whole s from in
+    let q = free_short g whole t to in
+    let sides = whole.sides in
+    let narrow = sides.narrow in
+    let low = sides.low in
+    let claim : Claim = made_claim g s t in
+    let spelled = text_spells g.width g.height s t claim (omega arith) (omega arith) (sides_are g whole) p q
+    k.fits in
+    record {
+      spelled = spelled;
+      read = certificate_of_spelled (made_certificate g s t) (stated g s t claim) spelled;
+      short = text_length g.width g.height s t claim narrow low p q k.fits k.few_points;
+      accepted = k.accepted;
+      cells = k.cells;
+    }

@@ -1,31 +1,21 @@
--- What is known of the text of a certificate.
-use Rattle.std.specs.Prelude.{◌≡◌, ℕ, false, List, Ok}
+-- What is known of the certificate between two free cells.
+use Rattle.std.specs.Prelude.{◌≡◌, ◌≤◌, ◌^◌, true, false, List, length, Ok}
 use Rattle.root2_cost.specs.declared.Cost.{Cost}
 use Rattle.root2_cost.specs.Order.{is_less}
 use Rattle.root2_cost.specs.Signed.{cost_difference, signed_of}
 use Rattle.root2_cost.specs.Sums.{add_costs}
 use Rattle.grid_moves.specs.declared.Cell.{Cell}
-use Rattle.grid_moves.specs.Grid.{GridData}
+use Rattle.grid_moves.specs.Grid.{GridData, IsGrid, is_free}
 use Rattle.grid_moves.specs.Points.{estimate}
 use Rattle.grid_moves.specs.Walk.{NoWalk}
-use Rattle.plain_search.specs.Answer.{IsPlainRun}
-use Rattle.plain_search.specs.Lists.{AreLists, IsBelow, IsLeastCost, plain_of}
-use Rattle.plain_search.specs.declared.lists.Listed.{Listed}
+use Rattle.plain_search.specs.Lists.{AreClosed, AreReached, IsBelow, IsLeastCost}
 use Rattle.potential_check.specs.declared.certificate.Claim.{Claim}
 use Rattle.potential_check.specs.declared.certificate.Claim.TheVariants as claim
 use Rattle.potential_check.specs.Accepted.{AcceptsClaim}
 use Rattle.potential_check.specs.Potential.{potential_of}
 use Rattle.potential_check.specs.Spelling.{Spells}
 use Rattle.potential_check.specs.Text.{Plain, certificate_of}
-use Rattle.potential_make.specs.Written.{certificate_text, claim_of}
-
--- the text is that of the claim with what the plain engine's run from s to t found: its points, and the cells
--- that it closed or reached
-pub record IsCertificate (g : GridData) (s t : Cell) (text : List ℕ) : Type 0 where
-  pub found : Listed
-  pub run : IsPlainRun g s t (plain_of found)
-  pub lists : AreLists g s t found
-  pub written : text ≡ certificate_text g.width g.height s t (claim_of found)
+use Rattle.potential_make.specs.Made.{made_certificate, made_claim}
 
 -- the potential of a cell is the lesser of its least cost from s and of the least cost from s to t less its
 -- estimate; it is the second where no walk leads to the cell
@@ -37,10 +27,11 @@ pub record HasPotential (g : GridData) (s t : Cell) (cost : Cost) (values : List
       → potential_of cost t values c ≡ cost_difference cost (estimate c t)
   pub beyond : (c : Cell) → NoWalk g s c → potential_of cost t values c ≡ cost_difference cost (estimate c t)
 
--- a claim of least cost has this potential
-abbrev pub HasItsPotential : GridData → Cell → Cell → Claim → Type 0
-HasItsPotential g s t (claim.Least cost points values) = HasPotential g s t cost values
-HasItsPotential g s t (claim.NoWalk cells) = Unit {0}
+-- a claim of least cost lists exactly the closed cells, and has this potential; one of no walk lists exactly the
+-- reached cells
+abbrev pub HasItsCells : GridData → Cell → Cell → Claim → Type 0
+HasItsCells g s t (claim.Least cost points values) = AreClosed g s t cost values × HasPotential g s t cost values
+HasItsCells g s t (claim.NoWalk cells) = AreReached g s cells
 
 -- a claim on the walks from s to t of the map, as the reader knows it
 abbrev pub stated : GridData → Cell → Cell → Claim → Plain
@@ -49,10 +40,16 @@ stated g s t claim = record {
   claim = claim;
 }
 
--- the text spells a claim on the walks from s to t that is accepted, and it is read as that claim
-pub record IsAcceptedText (g : GridData) (s t : Cell) (text : List ℕ) : Type 0 where
-  pub claim : Claim
-  pub spelled : Spells text (stated g s t claim)
-  pub read : certificate_of text ≡ Ok (stated g s t claim)
-  pub accepted : AcceptsClaim g s t claim
-  pub potential : HasItsPotential g s t claim
+-- the certificate spells its claim and is read as that, and is no longer than the reader takes; the claim is
+-- accepted, and has its cells
+pub record IsCertified (g : GridData) (s t : Cell) : Type 0 where
+  pub spelled : Spells (made_certificate g s t) (stated g s t (made_claim g s t))
+  pub read : certificate_of (made_certificate g s t) ≡ Ok (stated g s t (made_claim g s t))
+  pub short : length (made_certificate g s t) ≤ 2 ^ 30
+  pub accepted : AcceptsClaim g s t (made_claim g s t)
+  pub cells : HasItsCells g s t (made_claim g s t)
+
+-- all of this holds between free cells
+abbrev pub CertificatesAreAccepted : Type 0
+CertificatesAreAccepted = (g : GridData) (s t : Cell) → IsGrid g → is_free g s ≡ true → is_free g t ≡ true
+    → IsCertified g s t

@@ -7,6 +7,7 @@
 //! crate `potential_check`, which knows nothing of a search.
 #![tactic(auto)]
 
+pub mod laws;
 mod writing;
 
 pub use std::alloc::AllocError as NoMemory;

@@ -1,8 +1,8 @@
 //! The text of a certificate.
 
-ghost use Rattle.std.specs.Prelude.{◌≡◌, ◌≤◌, ◌^◌, ◌++◌, length, true, OnOk, IfOk};
-ghost use Rattle.grid_moves.specs.Grid.{IsGrid, is_free};
-ghost use Rattle.potential_make.specs.Certified.{IsCertificate, IsAcceptedText, HasPotential};
+ghost use Rattle.std.specs.Prelude.{◌≡◌, ◌++◌, true, OnOk, IfOk};
+ghost use Rattle.grid_moves.specs.Grid.{is_free};
+ghost use Rattle.potential_make.specs.Made.{made_certificate};
 ghost use Rattle.potential_make.specs.Written as spec;
 
 use crate::NoMemory;
@@ -14,18 +14,13 @@ use std::alloc::Global;
 use text_line::{put, put_number};
 
 /// The certificate of the least cost between two free cells of a grid, or that no walk exists: the
-/// plain engine's points, and its closed or reached cells.
+/// plain engine's points, and its closed or reached cells. It is accepted: law `certificates_are_accepted`.
 ///
 /// It takes as long as the plain engine, and then as long as sorting and writing the list.
 pub fn certificate(alloc: Global, g: &Grid, from: Cell, to: Cell) -> Result<Vec<u8>, NoMemory>
     requires from { is_free g.now from ≡ true }
     requires to { is_free g.now to ≡ true }
-    // It is the text of the claim with the points and the lists of the plain engine's run.
-    ensures text { IfOk result (λ text. IsCertificate g.now from to text.items) }
-    // The reader reads it, and the checker accepts what is read.
-    ensures accepted { IfOk result (λ text. IsAcceptedText g.now from to text.items) }
-    // It is no longer than the texts that the reader takes.
-    ensures short { IfOk result (λ text. length text.items ≤ 2 ^ 30) }
+    ensures { IfOk result (λ text. text.items ≡ made_certificate g.now from to) }
 {
     let found = least(alloc, g, from, to)?;
     let mut text = Vec::new(alloc);
@@ -64,8 +59,7 @@ fn put_line(out: &mut Vec<u8>, word: &[u8], numbers: &[u32]) -> Result<(), NoMem
 
 // Appends the lines that begin a certificate.
 fn put_head(out: &mut Vec<u8>, g: &Grid, from: Cell, to: Cell) -> Result<(), NoMemory>
-    ensures head { OnOk result (out.new.items ≡ out.old.items ++ spec.head_text g.now.width g.now.height from to) }
-    ensures whole { IsGrid g.now }
+    ensures { OnOk result (out.new.items ≡ out.old.items ++ spec.head_text g.now.width g.now.height from to) }
 {
     let (width, height) = (u32::from(g.width()), u32::from(g.height()));
     put(out, b"jps-cert 1\n")?;

@@ -1,4 +1,4 @@
-use Rattle.grid_answers.proofs.Cells.{few-cells, printed-runs}
+use Rattle.grid_answers.proofs.Cells.{few-cells, if_text, runs-told}
 use Rattle.grid_answers.proofs.moves.moves_from.Goals as goal
 
 pub of-requires-clause-few : goal.of-requires-clause-few
@@ -8,6 +8,6 @@ of-requires-clause-few c =
 
 pub returns : goal.returns
 returns c =
-    printed-runs c.lines_of.result c.args.layers.now c.args.from c.query_grid-grid.result.now c.in_ok-row.row
-    c.width-2.result c.query_grid-grid.ensures c.requires.free c.in_ok-row.ensures.row c.width-2.ensures.is
-    c.lines_of.ensures
+    if_text c.lines_of.result c.lines_of.ensures (runs-told c.args.layers.now c.args.from
+    c.query_grid-grid.result.now c.in_ok-row.row c.width-2.result c.query_grid-grid.ensures c.requires.free
+    c.requires.told c.in_ok-row.ensures.row c.width-2.ensures.is)

@@ -1,14 +1,9 @@
-use Rattle.std.proofs.Common.{subst}
+use Rattle.std.proofs.Common.{◌∙◌, ap}
 use Rattle.grid_moves.specs.Grid.{GridData}
-use Rattle.potential_make.specs.Certified.{IsAcceptedText, IsCertificate}
-use Rattle.grid_answers.specs.Certificates.{certified}
+use Rattle.potential_make.specs.Made.{made_certificate}
 use Rattle.grid_answers.proofs.prove.proof_between.Goals as goal
 
-pub returns : goal.returns
-returns c =
-    let text = c.in_ok-text.text.items in
-    certified text c.requires.one
-    (subst (λ (g : GridData). IsCertificate g c.args.from c.args.to text) c.query_grid.ensures
-    c.in_ok-text.ensures.text)
-    (subst (λ (g : GridData). IsAcceptedText g c.args.from c.args.to text) c.query_grid.ensures
-    c.in_ok-text.ensures.accepted)
+pub returns-clause-text : goal.returns-clause-text
+returns-clause-text c =
+    c.in_ok-text.ensures
+    ∙ ap (λ (g : GridData). made_certificate g c.args.from c.args.to) c.query_grid.ensures

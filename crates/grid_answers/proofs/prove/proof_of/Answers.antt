@@ -1,25 +1,26 @@
-use Rattle.grid_answers.specs.Certificates.{IsProof, apart, blocked, outside}
-use Rattle.grid_answers.proofs.Printing.{if_said}
+use Rattle.grid_answers.proofs.Cells.{if_is}
+use Rattle.grid_answers.proofs.Printing.{is-proof, is-why, proof-good, why-bad}
+use Rattle.grid_moves.specs.declared.Cell.{Cell}
 use Rattle.grid_answers.proofs.prove.proof_of.Goals as goal
 
-pub returns-in-Err-Outside : goal.returns-in-Err-Outside
-returns-in-Err-Outside c =
-    if_said c.said.result (IsProof c.args.layers.now (record { x = c.args.ends.sx; y = c.args.ends.sy })
-    (record { x = c.args.ends.gx; y = c.args.ends.gy })) _ c.said.ensures.text c.said.ensures.status
-    (outside (rw c.in-Err-Outside.field-0-is at c.in-Err-Outside.ensures))
+pub returns-in-Ok : goal.returns-in-Ok
+returns-in-Ok c =
+    let s : Cell = record { x = c.args.ends.sx; y = c.args.ends.sy } in
+    let t : Cell = record { x = c.args.ends.gx; y = c.args.ends.gy } in
+    record {
+      text = if_is (λ p. p.text.items) c.proof_between.result c.proof_between.ensures.text
+          (is-proof c.args.layers.now s t c.in-Ok.both c.in-Ok.ensures);
+      status = if_is (λ p. p.status) c.proof_between.result c.proof_between.ensures.status
+          (proof-good c.args.layers.now s t c.in-Ok.both c.in-Ok.ensures);
+    }
 
-pub returns-in-Err-Blocked : goal.returns-in-Err-Blocked
-returns-in-Err-Blocked c =
-    let why = rw c.in-Err-Blocked.field-0-is at c.in-Err-Blocked.ensures in
-    if_said c.said-in-Err-Blocked.result
-    (IsProof c.args.layers.now (record { x = c.args.ends.sx; y = c.args.ends.sy })
-    (record { x = c.args.ends.gx; y = c.args.ends.gy })) _ c.said-in-Err-Blocked.ensures.text
-    c.said-in-Err-Blocked.ensures.status (blocked why.0 why.1)
-
-pub returns-in-Err-Apart : goal.returns-in-Err-Apart
-returns-in-Err-Apart c =
-    let why = rw c.in-Err-Apart.field-0-is at c.in-Err-Apart.ensures in
-    if_said c.said-in-Err-Apart.result
-    (IsProof c.args.layers.now (record { x = c.args.ends.sx; y = c.args.ends.sy })
-    (record { x = c.args.ends.gx; y = c.args.ends.gy })) _ c.said-in-Err-Apart.ensures.text
-    c.said-in-Err-Apart.ensures.status (apart why.free why.two)
+pub returns-in-Err : goal.returns-in-Err
+returns-in-Err c =
+    let s : Cell = record { x = c.args.ends.sx; y = c.args.ends.sy } in
+    let t : Cell = record { x = c.args.ends.gx; y = c.args.ends.gy } in
+    record {
+      text = if_is (λ p. p.text.items) c.said.result c.said.ensures.text
+          (is-why c.args.layers.now s t c.in-Err.line.now c.in-Err.ensures);
+      status = if_is (λ p. p.status) c.said.result c.said.ensures.status
+          (why-bad c.args.layers.now s t c.in-Err.line.now c.in-Err.ensures);
+    }
