@@ -93,19 +93,6 @@ listed-more (Ok done) job now entry how least text before after is found whole c
         ∙ ap (λ (v : Vec ℕ Global). line_with v.items entry (least_in (settled_of job.costs entry))) h.kept
         ∙ ap (λ (ls : Layers). length_line ls first.text.items entry) h.same
 
--- and nothing closes them
-pub listed-all : (job : Lengths) (status : ℕ) (before : List ℕ) → status ≡ (if job.all then 0 else 1)
-    → (first : Lengths) (entries : List Entry) (lines : List (List ℕ)) → HaveListed first job entries lines
-    → Adds (λ all. AreListed first entries all status) lines before before
-listed-all job status before s first entries lines h = record {
-  more = [];
-  stand = record {
-    are = append-nil lines ∙ h.are;
-    same_status = s ∙ ap (λ (b : Bool). if b then 0 else 1) h.known ∙ ap lengths_status h.are;
-  };
-  appended = sym (append-nil before);
-}
-
 -- the status is 0 or 1
 pub small_lengths_status : (lines : List (List ℕ)) → lengths_status lines ≤ 1
 small_lengths_status lines = by_test (list_all is_line lines)
