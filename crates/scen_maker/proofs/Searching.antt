@@ -1,7 +1,7 @@
 -- What searches tell of the queries of entries.
 use Rattle.std.proofs.lemmas.Bool.Decides.{nat_tests}
 use Rattle.std.proofs.Common.{◌≡◌, refl, ap, sym, ◌∙◌, subst, inl, inr, true, false, Bool, ℕ, ◌&&◌, arith}
-use Rattle.std.specs.Prelude.{if◌then◌else◌, Option, None}
+use Rattle.std.specs.Prelude.{if◌then◌else◌, not, Option, None}
 use Rattle.root2_cost.specs.declared.Cost.{Cost}
 use Rattle.grid_moves.specs.declared.Cell.{Cell}
 use Rattle.grid_moves.specs.declared.ends.Ends.{Ends}
@@ -84,18 +84,18 @@ module _ (ls : Layers) (entry : Entry) where
   searched = settled.Searched from to (least_between ls from to)
 
   by_free : has_sides ls entry ≡ true → on ≡ true → (b : Bool) → free ≡ b
-      → IsSettled ls entry (if b then searched else settled.Blocked)
+      → IsSettled ls entry (if not b then settled.Blocked else searched)
   by_free sides inside true both =
       record { sides = sides; start = refl; goal = refl; free = both; least = least_is ls from to both }
   by_free sides inside false shut = (sides, (inside, shut))
 
   by_place : has_sides ls entry ≡ true → (b : Bool) → on ≡ b
-      → IsSettled ls entry (if b then (if free then searched else settled.Blocked) else settled.Outside)
+      → IsSettled ls entry (if not b then settled.Outside else if not free then settled.Blocked else searched)
   by_place sides true inside = by_free sides inside free refl
   by_place sides false off = (sides, off)
 
-  by_sides : (b : Bool) → has_sides ls entry ≡ b → IsSettled ls entry (if b then
-      (if on then (if free then searched else settled.Blocked) else settled.Outside) else settled.Scale)
+  by_sides : (b : Bool) → has_sides ls entry ≡ b → IsSettled ls entry (if not b then settled.Scale
+      else if not on then settled.Outside else if not free then settled.Blocked else searched)
   by_sides true sides = by_place sides on refl
   by_sides false sides = sides
 

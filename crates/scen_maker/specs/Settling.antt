@@ -1,6 +1,6 @@
 -- What a map makes of the queries of a scenario's entries.
 use Rattle.std.specs.Prelude.{◌≡◌, Bool, true, false, nat_eq, ◌&&◌, if◌then◌else◌, Option, Some, None, refl, ℕ}
-use Rattle.std.specs.Prelude.{codes}
+use Rattle.std.specs.Prelude.{codes, not}
 use Rattle.root2_cost.specs.declared.Cost.{Cost}
 use Rattle.grid_moves.specs.declared.Cell.{Cell}
 use Rattle.grid_moves.specs.declared.Corner.TheVariants.{Never}
@@ -43,11 +43,10 @@ abbrev pub settled_of : Layers → Entry → Settled
 settled_of ls entry =
     let from = start_of entry in
     let to = goal_of entry in
-    if has_sides ls entry then
-    if is_on_map ls from && is_on_map ls to then
-    if are_free_ends ls from to then settled.Searched from to (least_between ls from to) else settled.Blocked
-    else settled.Outside
-    else settled.Scale
+    if not (has_sides ls entry) then settled.Scale
+    else if not (is_on_map ls from && is_on_map ls to) then settled.Outside
+    else if not (are_free_ends ls from to) then settled.Blocked
+    else settled.Searched from to (least_between ls from to)
 
 -- the entry is meant for this map, its ends are these free cells, and a least walk between them costs so
 -- much, on the grid of the query; or none leads from one to the other
@@ -72,7 +71,7 @@ abbrev pub least_in : Settled → Option Cost
 least_in (settled.Searched from to least) = least
 least_in other = None
 
--- so is each query settled
+-- each query is settled so
 abbrev pub QueriesAreSettled : Type 0
 QueriesAreSettled = (ls : Layers) (entry : Entry) → IsSettled ls entry (settled_of ls entry)
 
