@@ -5,14 +5,10 @@ use Rattle.std.proofs.lemmas.Bool.{and_parts}
 use Rattle.grid_moves.specs.declared.Cell.{Cell}
 use Rattle.grid_moves.specs.Grid.{GridData, is_free}
 use Rattle.grid_moves.specs.Layers.{Layers, in_one_layer, query_grid}
-use Rattle.grid_moves.specs.Reply.{IsRight}
 use Rattle.edit_replay.specs.Counting.{RoseByStates, RoseWithin}
-use Rattle.edit_replay.specs.ReplyOf.{reply_of}
-use Rattle.edit_replay.specs.Replies.{answer_of}
-use Rattle.edit_replay.specs.Session.{SessionData}
 use Rattle.edit_replay.specs.declared.reply.Reply.{Reply}
 use Rattle.jps_run.specs.Answerers.{who_of}
-use Rattle.jps_run.specs.Who.{IsReplyBy, fewest_by, most_by, who_is}
+use Rattle.jps_run.specs.Who.{fewest_by, most_by, reply_to}
 use Rattle.jps_run.specs.declared.replies.answerer.Answerer.{Answerer}
 
 -- the ends of a query that are found are the ones that were asked for
@@ -45,8 +41,9 @@ module _ (ls : Layers) (g : GridData) (s t : Cell) (is : g ≡ query_grid ls s)
 
 -- what is known of a reply by one of them
 module _ {E : Type 0} (result : Result Reply E) (a b : Answerer) (is : a ≡ b) where
-  pub reply-as : (s t : Cell) → IfOk result (IsReplyBy (who_of b) s t) → IfOk result (IsReplyBy (who_of a) s t)
-  reply-as s t h = subst (λ (k : Answerer). IfOk result (IsReplyBy (who_of k) s t)) (sym is) h
+  pub reply-as : (s t : Cell) → IfOk result (λ reply. reply ≡ reply_to (who_of b) s t)
+      → IfOk result (λ reply. reply ≡ reply_to (who_of a) s t)
+  reply-as s t h = subst (λ (k : Answerer). IfOk result (λ reply. reply ≡ reply_to (who_of k) s t)) (sym is) h
 
   pub fewest-as : (old new : ℕ) → IfOk result (RoseByStates (fewest_by (who_of b).by) old new)
       → IfOk result (RoseByStates (fewest_by (who_of a).by) old new)
@@ -57,13 +54,6 @@ module _ {E : Type 0} (result : Result Reply E) (a b : Answerer) (is : a ≡ b) 
       → IfOk result (RoseWithin (most_by (who_of a).by) old new)
   most-as old new h = subst (λ (k : Answerer). IfOk result (RoseWithin (most_by (who_of k).by) old new))
       (sym is) h
-
--- a session's reply is right, and the one to the query
-pub session-reply : {E : Type 0} (result : Result Reply E) (d : SessionData) (s t : Cell)
-    → IfOk result (λ reply. IsRight d.layers s t (answer_of reply))
-    → IfOk result (λ reply. reply ≡ reply_of d.engine d.layers s t) → IfOk result (IsReplyBy (who_is d) s t)
-session-reply (Err error) d s t right is = tt
-session-reply (Ok reply) d s t right is = record { right = right; is = is }
 
 -- boxes and first moves promise no fewest and tell no most
 pub counts-none : {E : Type 0} (result : Result Reply E) (old new : ℕ) → OnOk result (old ≤ new)

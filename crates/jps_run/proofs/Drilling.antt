@@ -6,31 +6,28 @@ use Rattle.std.specs.List.{All, sum_by}
 use Rattle.std.proofs.lemmas.List.{append-nil}
 use Rattle.std.proofs.lemmas.List.Elements.{All-push}
 use Rattle.std.proofs.lemmas.List.Sums.{count_by-le-length, sum_by-le}
-use Rattle.edit_replay.specs.Edited.{Edit, edit_at}
+use Rattle.std.specs.List.{fold}
+use Rattle.grid_moves.specs.Layers.{Layers}
+use Rattle.edit_replay.specs.Edited.{Edit, edited}
 use Rattle.edit_replay.specs.Session.{SessionData}
 use Rattle.map_maker.specs.Drill.{commands_of, drill_commands, words_in}
 use Rattle.map_maker.specs.Words.{words_of}
 use Rattle.script_text.specs.declared.command.ScriptCommand.{ScriptCommand}
-use Rattle.grid_moves.specs.declared.Ground.TheVariants.{Blocked, Land, Water}
-use Rattle.script_text.specs.declared.command.ScriptCommand.TheVariants.{Block, Free, Flood, Query}
 use Rattle.jps_run.specs.Answering.{GoesOn}
 use Rattle.jps_run.specs.Answers.{edits_with}
-use Rattle.jps_run.specs.Drill.{FindsAfter, IsFinding, drill_line, finding_of, finding_of_edit}
+use Rattle.jps_run.specs.Drill.{drill_line, finding_on}
 use Rattle.jps_run.specs.Drill.{IsShortFinding, is_walk, is_none, is_blocked, is_done, is_same, straight_in}
 use Rattle.jps_run.specs.Drill.{diagonal_in}
-use Rattle.jps_run.specs.Drilling.{HasDrilled, HasRoom, HaveCounted, IsDrilled, LeavesRoom, sums_of}
+use Rattle.jps_run.specs.Drilling.{HasDrilled, HasRoom, HaveCounted, IsDrilled, LeavesRoom, findings_by, sums_of}
 use Rattle.jps_run.specs.Drilling.{sums_text}
 use Rattle.jps_run.specs.Rising.{RoseForCommand}
-use Rattle.jps_run.specs.Session.{reply_to_edit, session_after}
+use Rattle.jps_run.specs.Session.{replies_of}
 use Rattle.line_work.specs.Working.{Adds, CanComplete, HasRoomForOne}
 use Rattle.jps_run.specs.declared.replies.findings.Finding.{Finding}
 use Rattle.jps_run.specs.declared.replies.findings.Finding.TheVariants as finding
 use Rattle.jps_run.specs.declared.replies.findings.Summary.{Summary}
 use Rattle.jps_run.proofs.Rising.{rose-more}
-use Rattle.jps_run.proofs.Existing.{reply_exists}
-use Rattle.jps_run.specs.Who.{who_is}
-use Rattle.jps_run.proofs.Solving.{nothing_edited, session-more}
-use Rattle.line_work.proofs.Turns.{turns-more, turns-all}
+use Rattle.jps_run.proofs.Solving.{in_turn-more, nothing_edited, session-more}
 
 -- a walk's moves are few
 few_straight : (found : Finding) → IsShortFinding found → straight_in found ≤ 2 ^ 24
@@ -74,7 +71,7 @@ one-fits job room =
     subst HasRoom (sym h.summed) (has_room h.found (omega arith) h.short)
 
 module _ (job now : Summary) (command : ScriptCommand) (found : Finding)
-    (is : IsFinding job.session command found)
+    (is : found ≡ finding_on (replies_of job.session) job.session.layers command)
     (on : GoesOn job.session command now.session)
     (counts : (all : List Finding) → job.sums ≡ sums_of all → now.sums ≡ sums_of (all ++ found ∷ [])) where
   -- one finding more leaves room for one less
@@ -94,18 +91,22 @@ module _ (job now : Summary) (command : ScriptCommand) (found : Finding)
       (so_far : List (List ℕ))
       → HasDrilled first job commands so_far
       → Adds (HasDrilled first now (commands ++ command ∷ [])) so_far lines lines
-  drilled-more lines first commands so_far h = record {
-    more = [];
-    stand = record {
-      found = h.found ++ found ∷ [];
-      are = turns-more (FindsAfter first.session) edits_with [] commands h.found command found h.are
-          (subst (λ (s : SessionData). IsFinding s command found) h.session is);
-      summed = counts h.found h.summed;
-      session = session-more first.session job.session now.session commands command h.session on;
-      none = append-nil so_far ∙ h.none;
-    };
-    appended = sym (append-nil lines);
-  }
+  drilled-more lines first commands so_far h =
+      let edits : List Edit = fold edits_with [] commands in
+      let give : Layers → ScriptCommand → Finding = finding_on (replies_of first.session) in
+      let here : found ≡ give (edited first.session.layers edits) command =
+      is ∙ ap (λ (d : SessionData). finding_on (replies_of d) d.layers command) h.session in
+      record {
+        more = [];
+        stand = record {
+          summed = counts (findings_by first commands) h.summed
+              ∙ ap sums_of (ap (λ (f : Finding). findings_by first commands ++ f ∷ []) here
+              ∙ sym (in_turn-more give first.session.layers [] commands (command ∷ [])));
+          session = session-more first.session job.session now.session commands command h.session on;
+          none = append-nil so_far ∙ h.none;
+        };
+        appended = sym (append-nil lines);
+      }
 
   -- and the counter rose for it
   pub taken-more : (old new : ℕ) → RoseForCommand job.session now.session command old new → (first : Summary)
@@ -119,13 +120,7 @@ module _ (job now : Summary) (command : ScriptCommand) (found : Finding)
 
 -- nothing was worked yet
 pub drilled-none : (job : Summary) → job.sums ≡ sums_of [] → HasDrilled job job [] []
-drilled-none job e = record {
-  found = [];
-  are = tt;
-  summed = e;
-  session = nothing_edited job.session;
-  none = refl;
-}
+drilled-none job e = record { summed = e; session = nothing_edited job.session; none = refl }
 
 pub taken-none : (job : Summary) (start : ℕ) → HaveCounted job job [] start start
 taken-none job start = record { rose = refl; session = nothing_edited job.session }
@@ -140,48 +135,23 @@ pub drilled-all : (job : Summary) (before after : List ℕ) → after ≡ before
     → (first : Summary) (commands : List ScriptCommand) (lines : List (List ℕ))
     → HasDrilled first job commands lines
     → Adds (λ all. IsDrilled first commands all 0) lines before after
-drilled-all job before after w first commands lines h = record {
-  more = drill_line h.found ∷ [];
-  stand = record {
-    found = h.found;
-    are = h.are;
-    all = ap (λ (l : List (List ℕ)). l ++ drill_line h.found ∷ []) h.none;
-    good = refl;
-  };
-  appended = w ∙ ap (λ (l : List ℕ). before ++ l)
-      (ap sums_text h.summed ∙ sym (append-nil (drill_line h.found)));
-}
-
--- every command comes to something
-pub finding_exists : (d : SessionData) (edits : List Edit) (command : ScriptCommand)
-    → (found : Finding) × FindsAfter d edits command found
-finding_exists d edits (Block x y) =
-    (finding_of_edit (reply_to_edit (session_after d edits) (edit_at x y Blocked)), refl)
-finding_exists d edits (Free x y) =
-    (finding_of_edit (reply_to_edit (session_after d edits) (edit_at x y Land)), refl)
-finding_exists d edits (Flood x y) =
-    (finding_of_edit (reply_to_edit (session_after d edits) (edit_at x y Water)), refl)
-finding_exists d edits (Query sx sy gx gy) =
-    let r = reply_exists (who_is (session_after d edits)) (record { x = sx; y = sy }) (record { x = gx; y = gy }) in
-    (finding_of r.0, record { reply = r.0; is_reply = r.1; is = refl })
+drilled-all job before after w first commands lines h =
+    let line : List ℕ = drill_line (findings_by first commands) in
+    record {
+      more = line ∷ [];
+      stand = record { all = ap (λ (l : List (List ℕ)). l ++ line ∷ []) h.none; code = refl };
+      appended = w ∙ ap (λ (l : List ℕ). before ++ l) (ap sums_text h.summed ∙ sym (append-nil line));
+    }
 
 -- so the line of the sums can follow
 pub drill-complete : CanComplete HasDrilled IsDrilled true
 drill-complete first now some others lines h =
-    let all = turns-all (FindsAfter first.session) edits_with (finding_exists first.session) [] some
-    others h.found
-    h.are in
-    let found : List Finding = h.found ++ all.0 in
+    let line : List ℕ = drill_line (findings_by first (some ++ others)) in
     record {
-      more = drill_line found ∷ [];
+      more = line ∷ [];
       status = 0;
-      whole = record {
-        found = found;
-        are = all.1;
-        all = ap (λ (l : List (List ℕ)). l ++ drill_line found ∷ []) h.none;
-        good = refl;
-      };
-      some = λ left e. (let never : drill_line found ∷ [] ≡ [] = e in cc);
+      whole = record { all = ap (λ (l : List (List ℕ)). l ++ line ∷ []) h.none; code = refl };
+      some = λ left e. (let never : line ∷ [] ≡ [] = e in cc);
     }
 
 -- a drill has 150 commands

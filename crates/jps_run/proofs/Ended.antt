@@ -7,7 +7,7 @@ use Rattle.word_list.specs.Calls.{is_call}
 use Rattle.word_list.specs.Request.{Call}
 use Rattle.word_list.specs.Rule.{IsBadWord}
 use Rattle.jps_run.specs.Counting.{RoseAsCalled, RoseForCall}
-use Rattle.jps_run.specs.Ending.{CanHear, Comes, Gets, HasFailed, HasLines, HasPart, InputRose, NamedRose}
+use Rattle.jps_run.specs.Ending.{CanHear, Comes, ComesRight, Gets, HasFailed, HasLines, HasPart, InputRose, NamedRose}
 use Rattle.jps_run.specs.Ending.{ending_line, of_file, of_input, of_all, of_taken, none, some, first}
 use Rattle.call_files.specs.FaultLines.{word_line}
 use Rattle.call_files.specs.Files.{HasRefused, FileRose}
@@ -16,6 +16,8 @@ use Rattle.jps_run.specs.Calls.{MayHear, files_of, reads_input}
 use Rattle.jps_run.specs.Outcome.{Spell, IsOutput, answered, bad_line, bad_word, bad_text, done}
 use Rattle.line_work.specs.Sending.{IsAll, IsPart, AreLines, Wrote}
 use Rattle.line_work.proofs.Pieces.{nothing}
+use Rattle.jps_run.specs.Who.{replies_by}
+use Rattle.jps_run.proofs.Existing.{replies_right}
 use Rattle.jps_run.proofs.Opening.{as_live}
 
 module _ (words : List (List ℕ)) (holds : List ℕ → Held) (input : Option (List ℕ))
@@ -24,7 +26,7 @@ module _ (words : List (List ℕ)) (holds : List ℕ → Held) (input : Option (
     -- the words are refused
     word-comes : (number status : ℕ) → IsBadWord is_call words number → (status ≡ 2) ⊎ (status ≡ 6)
         → (status ≡ 2 → Gets err err_now (word_line number)) → status ≤ 3
-        → Comes words holds input out out err err_now status
+        → Comes replies_by words holds input out out err err_now status
     word-comes number status bad (inl two) printed few = record {
       outcome = record { status = 2; out = []; line = word_line number };
       is = bad_word number bad;
@@ -35,15 +37,15 @@ module _ (words : List (List ℕ)) (holds : List ℕ → Held) (input : Option (
     word-comes number status bad (inr six) printed few = absurd (omega arith)
 
     heard-by : (call : Call) {refusal : Option (List ℕ)}
-        → (h : WroteHeard call holds out out_now input refusal)
-        → AreHeard call holds input h.such.lines refusal
+        → (h : WroteHeard replies_by call holds out out_now input refusal)
+        → AreHeard replies_by call holds input h.such.lines refusal
     heard-by call h = as_live h h.such.stand
 
     -- the call was done
     call-comes : (call : Call) (status : ℕ) → Spell words call
-        → IsAll (IsOutput call holds) out out_now status
-        ⊎ ((status ≡ 0) × WroteHeard call holds out out_now input None) → Gets err err_now []
-        → Comes words holds input out out_now err err_now status
+        → IsAll (IsOutput replies_by call holds) out out_now status
+        ⊎ ((status ≡ 0) × WroteHeard replies_by call holds out out_now input None) → Gets err err_now []
+        → Comes replies_by words holds input out out_now err err_now status
     call-comes call status spelled (inl a) printed = record {
       outcome = record { status = status; out = a.lines; line = [] };
       is = done call a.lines status spelled a.whole;
@@ -62,8 +64,8 @@ module _ (words : List (List ℕ)) (holds : List ℕ → Held) (input : Option (
     -- a text is refused, or what comes in
     text-comes : (call : Call) (line bytes : List ℕ) → Spell words call
         → (HasRefused holds (files_of call) line × Wrote out out_now [])
-        ⊎ WroteHeard call holds out out_now input (Some line) → bytes ≡ line
-        → Gets err err_now bytes → Comes words holds input out out_now err err_now 3
+        ⊎ WroteHeard replies_by call holds out out_now input (Some line) → bytes ≡ line
+        → Gets err err_now bytes → Comes replies_by words holds input out out_now err err_now 3
     text-comes call line bytes spelled (inl r) e printed = record {
       outcome = record { status = 3; out = []; line = line };
       is = bad_text call line spelled r.0;
@@ -84,36 +86,43 @@ module _ (words : List (List ℕ)) (disk disk_now : Disk) (input input_now : Inf
   -- a read failed
   read-comes : (FileRose (files_of call) disk disk_now × Wrote out out_now [])
       ⊎ ((reads_input call.request.command ≡ true) × Rose input.faults input_now.faults
-      × WrotePending call disk.holds out out_now input.left input_now.left)
-      → HasFailed words disk disk_now input input_now out out_now
+      × WrotePending replies_by call disk.holds out out_now input.left input_now.left)
+      → HasFailed replies_by words disk disk_now input input_now out out_now
   read-comes (inl f) = of_file (record { call = call; spelled = spelled; rose = f.0 }) f.1
   read-comes (inr f) = of_input (record { call = call; spelled = spelled; reads = f.0; rose = f.1 }) f.2
 
   -- a write failed
-  part-comes : IsPart (IsOutput call disk.holds) out out_now
-      ⊎ WroteSomeTaken call disk.holds out out_now input.left input_now.left
-      → HasPart words disk.holds input input_now out out_now
+  part-comes : IsPart (IsOutput replies_by call disk.holds) out out_now
+      ⊎ WroteSomeTaken replies_by call disk.holds out out_now input.left input_now.left
+      → HasPart replies_by words disk.holds input input_now out out_now
   part-comes (inl p) = of_all call spelled p
   part-comes (inr p) = of_taken call spelled p
 
   -- memory was refused
   memory-comes : Wrote out out_now []
-      ⊎ (AreLines (IsOutput call disk.holds) out out_now
-      ⊎ WroteLinesTaken call disk.holds out out_now input.left input_now.left)
-      → HasLines words disk.holds input input_now out out_now
+      ⊎ (AreLines (IsOutput replies_by call disk.holds) out out_now
+      ⊎ WroteLinesTaken replies_by call disk.holds out out_now input.left input_now.left)
+      → HasLines replies_by words disk.holds input input_now out out_now
   memory-comes (inl n) = none n
   memory-comes (inr (inl l)) = some call spelled l
   memory-comes (inr (inr l)) = first call spelled l
+
+-- so it did by right replies
+pub rightly : {words : List (List ℕ)} {holds : List ℕ → Held} {input : Option (List ℕ)}
+    {out out_now err err_now : Outflow} {status : ℕ}
+    → Comes replies_by words holds input out out_now err err_now status
+    → ComesRight words holds input out out_now err err_now status
+rightly comes = record { replies = replies_by; right = replies_right; comes = comes }
 
 -- what is known of a call of `run` that ended with this status
 pub record EndsAs (words : List (List ℕ)) (disk disk_now : Disk) (input input_now : Inflow)
     (out out_now err err_now : Outflow) (old new status : ℕ) : Type 0 where
   pub statuses : status ≤ 6
-  pub outcome : status ≤ 3 → Comes words disk.holds input.left out out_now err err_now status
-  pub read : status ≡ 4 → HasFailed words disk disk_now input input_now out out_now
+  pub outcome : status ≤ 3 → Comes replies_by words disk.holds input.left out out_now err err_now status
+  pub read : status ≡ 4 → HasFailed replies_by words disk disk_now input input_now out out_now
   pub write : status ≡ 5 → Rose out.faults out_now.faults
-  pub part : status ≡ 5 → HasPart words disk.holds input input_now out out_now
-  pub memory : status ≡ 6 → HasLines words disk.holds input input_now out out_now
+  pub part : status ≡ 5 → HasPart replies_by words disk.holds input input_now out out_now
+  pub memory : status ≡ 6 → HasLines replies_by words disk.holds input input_now out out_now
   pub line : 4 ≤ status → Gets err err_now (ending_line status)
   pub complete : (NamedRose words disk disk_now → ⊥) → (InputRose words input input_now → ⊥)
       → (Rose out.faults out_now.faults → ⊥) → (status ≤ 3) ⊎ (status ≡ 6)
@@ -161,8 +170,8 @@ module _ (words : List (List ℕ)) (disk disk_now : Disk) (input input_now : Inf
   stays-so not = stays (λ may. not (record { call = call; spelled = spelled; may = may }))
 
   -- the call was done
-  pub done-ends : (status : ℕ) → (status ≤ 1) × (IsAll (IsOutput call disk.holds) out out_now status
-      ⊎ ((status ≡ 0) × WroteHeard call disk.holds out out_now input.left None)) → Gets err err_now []
+  pub done-ends : (status : ℕ) → (status ≤ 1) × (IsAll (IsOutput replies_by call disk.holds) out out_now status
+      ⊎ ((status ≡ 0) × WroteHeard replies_by call disk.holds out out_now input.left None)) → Gets err err_now []
       → RoseForCall call disk.holds input.left old new
       → EndsAs words disk disk_now input input_now out out_now err err_now old new status
   done-ends status served printed rose = let small : status ≤ 1 = served.0 in record {
@@ -182,7 +191,7 @@ module _ (words : List (List ℕ)) (disk disk_now : Disk) (input input_now : Inf
 
   -- a text was refused, or what came in
   pub text-ends : (line bytes : List ℕ) → (HasRefused disk.holds (files_of call) line × Wrote out out_now [])
-      ⊎ WroteHeard call disk.holds out out_now input.left (Some line) → bytes ≡ line → Gets err err_now bytes
+      ⊎ WroteHeard replies_by call disk.holds out out_now input.left (Some line) → bytes ≡ line → Gets err err_now bytes
       → EndsAs words disk disk_now input input_now out out_now err err_now old new 3
   text-ends line bytes served e printed = record {
     statuses = omega arith;
@@ -201,7 +210,7 @@ module _ (words : List (List ℕ)) (disk disk_now : Disk) (input input_now : Inf
 
   one-rose : (FileRose (files_of call) disk disk_now × Wrote out out_now [])
       ⊎ ((reads_input call.request.command ≡ true) × Rose input.faults input_now.faults
-      × WrotePending call disk.holds out out_now input.left input_now.left)
+      × WrotePending replies_by call disk.holds out out_now input.left input_now.left)
       → (NamedRose words disk disk_now → ⊥) → (InputRose words input input_now → ⊥) → ⊥
   one-rose (inl f) named heard = named (record { call = call; spelled = spelled; rose = f.0 })
   one-rose (inr f) named heard =
@@ -210,7 +219,7 @@ module _ (words : List (List ℕ)) (disk disk_now : Disk) (input input_now : Inf
   -- a read failed
   pub read-ends : (FileRose (files_of call) disk disk_now × Wrote out out_now [])
       ⊎ ((reads_input call.request.command ≡ true) × Rose input.faults input_now.faults
-      × WrotePending call disk.holds out out_now input.left input_now.left) → Gets err err_now (ending_line 4)
+      × WrotePending replies_by call disk.holds out out_now input.left input_now.left) → Gets err err_now (ending_line 4)
       → EndsAs words disk disk_now input input_now out out_now err err_now old new 4
   read-ends served printed = record {
     statuses = omega arith;
@@ -227,8 +236,8 @@ module _ (words : List (List ℕ)) (disk disk_now : Disk) (input input_now : Inf
   }
 
   -- a write failed
-  pub write-ends : Rose out.faults out_now.faults × (IsPart (IsOutput call disk.holds) out out_now
-      ⊎ WroteSomeTaken call disk.holds out out_now input.left input_now.left) → Gets err err_now (ending_line 5)
+  pub write-ends : Rose out.faults out_now.faults × (IsPart (IsOutput replies_by call disk.holds) out out_now
+      ⊎ WroteSomeTaken replies_by call disk.holds out out_now input.left input_now.left) → Gets err err_now (ending_line 5)
       → EndsAs words disk disk_now input input_now out out_now err err_now old new 5
   write-ends served printed = record {
     statuses = omega arith;
@@ -245,8 +254,8 @@ module _ (words : List (List ℕ)) (disk disk_now : Disk) (input input_now : Inf
   }
 
   -- memory was refused
-  starved : Wrote out out_now [] ⊎ (AreLines (IsOutput call disk.holds) out out_now
-      ⊎ WroteLinesTaken call disk.holds out out_now input.left input_now.left)
+  starved : Wrote out out_now [] ⊎ (AreLines (IsOutput replies_by call disk.holds) out out_now
+      ⊎ WroteLinesTaken replies_by call disk.holds out out_now input.left input_now.left)
       → Gets err err_now (ending_line 6)
       → EndsAs words disk disk_now input input_now out out_now err err_now old new 6
   starved served printed = record {
@@ -264,8 +273,8 @@ module _ (words : List (List ℕ)) (disk disk_now : Disk) (input input_now : Inf
   }
 
   pub memory-ends : (status : ℕ) → status ≡ 6 → Wrote out out_now []
-      ⊎ (AreLines (IsOutput call disk.holds) out out_now
-      ⊎ WroteLinesTaken call disk.holds out out_now input.left input_now.left)
+      ⊎ (AreLines (IsOutput replies_by call disk.holds) out out_now
+      ⊎ WroteLinesTaken replies_by call disk.holds out out_now input.left input_now.left)
       → Gets err err_now (ending_line 6)
       → EndsAs words disk disk_now input input_now out out_now err err_now old new status
   memory-ends status six served printed =

@@ -1,6 +1,9 @@
 -- The steps that the commands count which come in.
 use Rattle.std.proofs.Common.{◌≡◌, sym, ap, ◌∙◌, subst, List, [], ◌++◌, ℕ, ◌+◌, ◌≤◌, length, length-append}
 use Rattle.std.proofs.Common.{take, min, arith}
+use Rattle.std.specs.Option.{option_map}
+use Rattle.call_files.specs.FaultLines.{script_line}
+use Rattle.jps_run.specs.Rising.{RoseForCommands}
 use Rattle.std.specs.Prelude.{◌≢◌, ◌^◌, Option, Result, Ok, Err, OnOk}
 use Rattle.std.specs.Io.KnownBytes.{Consumes, IsAtEnd}
 use Rattle.std.proofs.lemmas.List.{append-nil}
@@ -19,7 +22,7 @@ use Rattle.line_work.specs.Working.{CountsMore}
 use Rattle.jps_run.specs.declared.replies.answers.Answers.{Answers}
 use Rattle.line_work.specs.declared.stop.Stop.{Stop}
 use Rattle.jps_run.proofs.Rising.{taken-none}
-use Rattle.jps_run.proofs.Listening.{consumes-both, consumes-none, input-all}
+use Rattle.jps_run.proofs.Listening.{consumes-both, consumes-none, few-heard, input-all}
 
 -- the commands that were appended to none are those that became known
 all-known : (earlier later before got slice : List ScriptCommand) → before ≡ [] → slice ≡ got
@@ -91,4 +94,15 @@ module _ {first job : Answers} {feeder : LineFeeder} {input mid : Option (List �
       → (result : Result ℕ Stop) → OnOk result (RiseEnd job new feeder at now)
       → OnOk result (RoseHeard first.session input start now)
   rising-ended bytes read ended few (Err error) rise = tt
-  rising-ended bytes read ended few (Ok status) rise = grind (arith, input-all, append-nil, consumes-both)
+  rising-ended bytes read ended few (Ok status) rise =
+      let e = rise first r.text start r.fed r.taken in
+      let so = few-heard r.text (let same : length r.text ≡ feeder.taken = r.counted in
+      let h : length r.text ≤ 2 ^ 26 = omega arith in h) in
+      record {
+        script = r.text;
+        comes = input-all input left r.text (subst (λ (t : List ℕ). Consumes input left t) (append-nil r.text)
+            (consumes-both input mid left r.text [] r.consumed read)) ended;
+        clean = so.1 ∙ ap (option_map script_line) e.0;
+        rose = subst (λ (commands : List ScriptCommand). RoseForCommands first.session commands start now)
+            (sym so.0) e.1.rose;
+      }

@@ -11,12 +11,11 @@ use Rattle.script_text.specs.Fed.{HasTaken, HasFed, HasEnded}
 use Rattle.script_text.specs.Feeding.{commands_so_far, commands_of, fault_so_far, fault_of, Appended}
 use Rattle.script_text.specs.Feeding as feeding
 use Rattle.script_text.proofs.Feeding.{commands-grow, commands-end}
-use Rattle.jps_run.specs.Answering.{IsSolved}
+use Rattle.jps_run.specs.Answering.{IsSolved, lines_by}
 use Rattle.call_files.specs.FaultLines.{script_line}
 use Rattle.jps_run.specs.Hearing.{HasWritten, known_stops, AnswersKnown, AreKnownCommands, Refuses, HasHeard}
 use Rattle.jps_run.specs.Hearing.{HearsPiece}
 use Rattle.io_edge.specs.Known.{Outflow}
-use Rattle.jps_run.specs.Answers.{AreAnswers}
 use Rattle.jps_run.specs.Heard.{WroteLines}
 use Rattle.line_work.specs.Sending.{work_stops}
 use Rattle.line_work.specs.Stops.{StopsSo, EndsOrStops}
@@ -44,7 +43,7 @@ known-stopped first new answer earlier more all f before now k Done result stop 
       refused = λ line no. absurd no;
       read = λ no. absurd no;
       write = λ w. w;
-      memory = λ l. record { lines = l.lines; stand = l.whole.answers; count = l.count; wrote = l.wrote };
+      memory = λ l. record { lines = l.lines; stand = l.whole.all; count = l.count; wrote = l.wrote };
     })
 
 -- the answers end, and a fault is known behind them or none
@@ -58,14 +57,13 @@ module _ (first new : Answers) (answer : Result (Unit {0}) ScriptFault)
       (sym (k.are ∙ ap (λ (o : List ScriptCommand). earlier ++ (more ++ o)) (k.exact other).0
       ∙ ap (λ (l : List ScriptCommand). earlier ++ l) (append-nil more))) w
 
-  first-lines : WroteLines (AreAnswers first.session first.show all) before now
+  first-lines : WroteLines (λ lines. lines ≡ lines_by first all) before now
   first-lines =
       let c = answers-complete first new (earlier ++ more) k.others w.lines w.worked in
       let sent = all-sent before now w.lines w.wrote w.later in
       record {
         lines = w.lines ++ c.more;
-        stand = subst (λ (a : List ScriptCommand). AreAnswers first.session first.show a (w.lines ++ c.more))
-            (append_assoc earlier more k.others ∙ sym k.are) c.whole.answers;
+        stand = c.whole.all ∙ ap (lines_by first) (append_assoc earlier more k.others ∙ sym k.are);
         count = length sent.written;
         wrote = front-sent before now [] w.lines c.more sent;
       }

@@ -9,7 +9,7 @@ use Rattle.script_text.specs.declared.feeder.LineFeeder.{LineFeeder}
 use Rattle.script_text.specs.Fed.{HasTaken}
 use Rattle.script_text.specs.Feeding.{commands_so_far, commands_of, fault_so_far, fault_of}
 use Rattle.script_text.proofs.Feeding.{begun-known}
-use Rattle.jps_run.specs.Answering.{HasAnswered}
+use Rattle.jps_run.specs.Answering.{HasAnswered, lines_by}
 use Rattle.call_files.specs.FaultLines.{long_line, script_line}
 use Rattle.call_files.specs.Kinds.{limit_of}
 use Rattle.call_files.specs.declared.kind.TextKind.TheVariants as kind
@@ -45,7 +45,7 @@ pub starved-first : (first : Answers) (input : Inflow) (before : Outflow) (resul
     → IsErrAnd result (λ s. s ≡ stop.Memory) → Hears first input input before before result
 starved-first first input before result m =
     passed _
-    (no_stops (WroteLines (AnswerTaken first.session first.show input.left input.left) before before)) _
+    (no_stops (WroteLines (AnswerTaken (lines_by first) input.left input.left) before before)) _
     result stop.Memory m
     (written-heard first input.left input.left [] before before (consumes-none input.left)
     (commands_so_far [])
@@ -156,7 +156,7 @@ module _ {first job : Answers} {feeder : LineFeeder} {input mid : Inflow} {buffe
       -- too many bytes came in
       pub long-refused : (line : List ℕ) → room < count → count ≤ length bytes
           → line ≡ long_line (codes "script")
-          → WroteAll (AnswerHeard first.session first.show input.left (Some line)) before after
+          → WroteAll (AnswerHeard (lines_by first) input.left (Some line)) before after
       long-refused line more inside named =
           long-heard first input.left now.left (h.text ++ take count bytes) before after consumed new line
           (let e : length h.text ≡ feeder.taken = h.counted in
@@ -175,7 +175,7 @@ module _ {first job : Answers} {feeder : LineFeeder} {input mid : Inflow} {buffe
           → EndsOrStops Done (hear_stops first input now before after) result
       long-starved Done result m =
           passed Done
-          (no_stops (WroteLines (AnswerTaken first.session first.show input.left now.left) before after)) _
+          (no_stops (WroteLines (AnswerTaken (lines_by first) input.left now.left) before after)) _
           result stop.Memory m
           (written-heard first input.left now.left (h.text ++ take count bytes) before after consumed
           (commands_so_far (h.text ++ piece)) (so_far (ap commands_so_far (sym same))) new heard.written)

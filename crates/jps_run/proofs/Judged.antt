@@ -3,93 +3,58 @@ use Rattle.std.proofs.Common.{◌≡◌, refl, sym, ap, ◌∙◌, subst, List, 
 use Rattle.std.proofs.Common.{◌+◌, ◌^◌, ◌<◌, ◌≤◌, length, length-append, drop, arith}
 use Rattle.std.proofs.Common.{true, false, Bool}
 use Rattle.std.specs.Prelude.{if◌then◌else◌, nat_eq, count_by}
-use Rattle.std.specs.Prelude.{Option, Some, Result, Ok, Err, OnOk, Vec, slice_get}
+use Rattle.std.specs.Prelude.{Option, Some, Result, Ok, Err, OnOk, Vec, map, slice_get, zip}
 use Rattle.std.specs.Global.{Global}
 use Rattle.std.proofs.lemmas.Bool.Decides.{nat_tests}
-use Rattle.std.proofs.lemmas.List.{append-nil}
+use Rattle.std.proofs.lemmas.List.{append-nil, map-append}
 use Rattle.root2_cost.specs.declared.Cost.{Cost}
 use Rattle.grid_moves.specs.declared.Cell.{Cell}
-use Rattle.grid_moves.specs.Grid.{GridData}
-use Rattle.grid_moves.specs.Layers.{Layers, query_grid}
-use Rattle.grid_moves.specs.Reply.{are_free_ends}
-use Rattle.walk_judge.specs.declared.judging.Judged.{Judged}
-use Rattle.walk_judge.specs.Judgement.{IsJudgement, judgement_of}
-use Rattle.walk_judge.proofs.Judgements.{judgements_are_made}
+use Rattle.grid_moves.specs.Layers.{Layers}
 use Rattle.scen_text.specs.declared.entry.Entry.{Entry}
 use Rattle.walk_judge.specs.declared.claims.Claimed.{Claimed}
 use Rattle.call_files.specs.Reading.{AreFit}
-use Rattle.jps_run.specs.Judging.{IsReady, CanGoOn, HasJudged, IsJudged, counts_of, sum_text}
-use Rattle.jps_run.specs.Rows.{has_sides}
-use Rattle.jps_run.specs.Rulings.{IsRuling, with_claims, scale, outside, blocked, judged, goal_of, start_of}
-use Rattle.jps_run.specs.Rulings.{is_refused, judge_status, ruling_line, ruling_lines, rulings_line}
-use Rattle.line_work.specs.Turns.{AreInTurn}
+use Rattle.jps_run.specs.Judging.{IsReady, CanGoOn, HasJudged, IsJudged, counts_of, rulings_by, sum_text}
+use Rattle.jps_run.specs.Rulings.{is_refused, judge_status, ruling_line, ruling_lines, ruling_of, rulings_line}
 use Rattle.line_work.specs.Working.{Adds, CanComplete, HasRoomForOne}
 use Rattle.jps_run.specs.declared.replies.judge.Judge.{Judge}
 use Rattle.jps_run.specs.declared.replies.ruling.Counts.{Counts}
 use Rattle.jps_run.specs.declared.replies.ruling.Ruling.{Ruling}
-use Rattle.jps_run.specs.declared.replies.ruling.Ruling.TheVariants as ruling
-use Rattle.scen_maker.proofs.Searching.{settled_exists}
-use Rattle.scen_maker.specs.Settling.{IsSearched, IsSettled}
+use Rattle.scen_maker.proofs.Searching.{settled_is}
+use Rattle.scen_maker.specs.Settling.{IsSearched, IsSettled, settled_of}
 use Rattle.scen_maker.specs.declared.costs.Settled.{Settled}
 use Rattle.scen_maker.specs.declared.costs.Settled.TheVariants as settled
 use Rattle.jps_run.proofs.ScenRows.{not-empty}
-use Rattle.line_work.proofs.Turns.{turns-more, turns-all}
-
--- what is claimed between free cells is judged, and its row says how
-pub ruled-so : (ls : Layers) (entry : Entry) (claimed : Claimed) (how : Judged) (from to : Cell)
-    (g : GridData)
-    → has_sides ls entry ≡ true → from ≡ start_of entry → to ≡ goal_of entry → are_free_ends ls from to ≡ true
-    → g ≡ query_grid ls from → IsJudgement g from to claimed how
-    → IsRuling ls entry claimed (ruling.Judged how)
-ruled-so ls entry claimed how from to g sides f t free e j =
-    judged how sides
-    (ap (λ (c : Cell). are_free_ends ls c (goal_of entry)) (sym f)
-    ∙ ap (λ (c : Cell). are_free_ends ls from c) (sym t) ∙ free)
-    (subst (λ (c : Cell). IsJudgement (query_grid ls c) c (goal_of entry) claimed how) f
-    (subst (λ (c : Cell). IsJudgement (query_grid ls from) from c claimed how) t
-    (subst (λ (q : GridData). IsJudgement q from to claimed how) e j))) refl
 
 -- a query that was settled so was searched
 pub searched-so : (ls : Layers) (entry : Entry) (how : Settled) (from to : Cell) (least : Option Cost)
-    → IsSettled ls entry how → how ≡ settled.Searched from to least → IsSearched ls entry from to least
-searched-so ls entry how from to least is e = subst (λ (s : Settled). IsSettled ls entry s) e is
-
-pub ruled-searched : (ls : Layers) (entry : Entry) (claimed : Claimed) (how : Judged) (from to : Cell)
-    (least : Option Cost) (g : GridData) → IsSearched ls entry from to least → g ≡ query_grid ls from
-    → IsJudgement g from to claimed how → IsRuling ls entry claimed (ruling.Judged how)
-ruled-searched ls entry claimed how from to least g is e j =
-    ruled-so ls entry claimed how from to g is.sides is.start is.goal is.free e j
+    → how ≡ settled_of ls entry → how ≡ settled.Searched from to least → IsSearched ls entry from to least
+searched-so ls entry how from to least is e = subst (λ (s : Settled). IsSettled ls entry s) (sym is ∙ e)
+    (settled_is ls entry)
 
 abbrev Both : Type 0
 Both = Entry × Claimed
 
-abbrev Stands : Layers → Unit {0} → Both → Ruling → Type 0
-Stands ls s both r = IsRuling ls both.0 both.1 r
-
-abbrev stays : Unit {0} → Both → Unit {0}
-stays s both = s
-
 -- one entry more, with what is claimed of it
-with_claims-more : (entries : List Entry) (walks : List Claimed) (entry : Entry) (claimed : Claimed)
+zip-more : (entries : List Entry) (walks : List Claimed) (entry : Entry) (claimed : Claimed)
     → slice_get walks (length entries) ≡ Some claimed
-    → with_claims (entries ++ entry ∷ []) walks ≡ with_claims entries walks ++ (entry, claimed) ∷ []
-with_claims-more [] [] entry claimed found = absurd (cc)
-with_claims-more [] (w ∷ walks) entry claimed found =
+    → zip (entries ++ entry ∷ []) walks ≡ zip entries walks ++ (entry, claimed) ∷ []
+zip-more [] [] entry claimed found = absurd (cc)
+zip-more [] (w ∷ walks) entry claimed found =
     ap (λ (t : Claimed). (let both : Both = (entry, t) in both) ∷ []) (let same : w ≡ claimed = cc in same)
-with_claims-more (e ∷ entries) [] entry claimed found = absurd (cc)
-with_claims-more (e ∷ entries) (w ∷ walks) entry claimed found =
+zip-more (e ∷ entries) [] entry claimed found = absurd (cc)
+zip-more (e ∷ entries) (w ∷ walks) entry claimed found =
     ap (λ (l : List Both). (let both : Both = (e, w) in both) ∷ l)
-    (with_claims-more entries walks entry claimed found)
+    (zip-more entries walks entry claimed found)
 
 -- more entries, with what is claimed of them behind
-with_claims-append : (some others : List Entry) (walks : List Claimed)
-    → with_claims (some ++ others) walks
-    ≡ with_claims some walks ++ with_claims others (drop (length some) walks)
-with_claims-append [] others walks = refl
-with_claims-append (e ∷ some) [] [] = refl
-with_claims-append (e ∷ some) (o ∷ others) [] = refl
-with_claims-append (e ∷ some) others (w ∷ walks) =
-    ap (λ (l : List Both). (let both : Both = (e, w) in both) ∷ l) (with_claims-append some others walks)
+zip-append : (some others : List Entry) (walks : List Claimed)
+    → zip (some ++ others) walks
+    ≡ zip some walks ++ zip others (drop (length some) walks)
+zip-append [] others walks = refl
+zip-append (e ∷ some) [] [] = refl
+zip-append (e ∷ some) (o ∷ others) [] = refl
+zip-append (e ∷ some) others (w ∷ walks) =
+    ap (λ (l : List Both). (let both : Both = (e, w) in both) ∷ l) (zip-append some others walks)
 
 ruling_lines-append : (number : ℕ) (some others : List Ruling)
     → ruling_lines number (some ++ others) ≡ ruling_lines number some
@@ -135,7 +100,7 @@ goes-on (Ok done) job now r room walks counts = λ n h.
 -- one entry more has its row
 pub judged-more : {T E : Type 0} (result : Result T E) (job now : Judge) (entry : Entry) (claimed : Claimed)
     (r : Ruling)
-    (before after : List ℕ) → IsRuling job.costs entry claimed r
+    (before after : List ℕ) → r ≡ ruling_of job.costs (entry, claimed)
     → slice_get job.walks.items job.counts.rows ≡ Some claimed → now.costs ≡ job.costs → now.walks ≡ job.walks
     → ((rulings : List Ruling) → job.counts ≡ counts_of rulings → now.counts ≡ counts_of (rulings ++ r ∷ []))
     → OnOk result (after ≡ before ++ ruling_line now.counts.rows r)
@@ -145,29 +110,32 @@ pub judged-more : {T E : Type 0} (result : Result T E) (job now : Judge) (entry 
 judged-more (Err error) job now entry claimed r before after is found costs walks counts w = tt
 judged-more (Ok done) job now entry claimed r before after is found costs walks counts w =
     λ first entries lines h.
-    let old : job.counts.rows ≡ length h.rulings = ap (λ (c : Counts). c.rows) h.counted in
-    let one : now.counts.rows ≡ length (h.rulings ++ r ∷ []) =
-    ap (λ (c : Counts). c.rows) (counts h.rulings h.counted) in
-    let both : length (h.rulings ++ r ∷ []) ≡ length h.rulings + 1 = length-append h.rulings (r ∷ []) in
+    let rulings : List Ruling = rulings_by first entries in
+    let old : job.counts.rows ≡ length rulings = ap (λ (c : Counts). c.rows) h.counted in
+    let one : now.counts.rows ≡ length (rulings ++ r ∷ []) =
+    ap (λ (c : Counts). c.rows) (counts rulings h.counted) in
+    let both : length (rulings ++ r ∷ []) ≡ length rulings + 1 = length-append rulings (r ∷ []) in
     let longer : length (entries ++ entry ∷ []) ≡ length entries + 1 = length-append entries (entry ∷ []) in
-    let place : now.counts.rows ≡ 1 + length h.rulings = omega arith in
+    let place : now.counts.rows ≡ 1 + length rulings = omega arith in
     let here : slice_get first.walks.items (length entries) ≡ Some claimed =
     subst (λ k. slice_get first.walks.items k ≡ Some claimed) (old ∙ h.as_many)
     (subst (λ (v : Vec Claimed Global). slice_get v.items job.counts.rows ≡ Some claimed) h.claimed found) in
+    let grown : rulings ++ r ∷ [] ≡ rulings_by first (entries ++ entry ∷ []) =
+    ap (λ (x : Ruling). rulings ++ x ∷ [])
+    (is ∙ ap (λ (ls : Layers). ruling_of ls (entry, claimed)) h.same)
+    ∙ sym (map-append (ruling_of first.costs) (zip entries first.walks.items) ((entry, claimed) ∷ []))
+    ∙ ap (λ (l : List Both). map (ruling_of first.costs) l)
+    (sym (zip-more entries first.walks.items entry claimed here)) in
     record {
       more = ruling_line now.counts.rows r ∷ [];
       stand = record {
-        rulings = h.rulings ++ r ∷ [];
-        are = subst (λ (l : List Both).
-            AreInTurn {S = Unit {0}} (Stands first.costs) stays tt l (h.rulings ++ r ∷ []))
-            (sym (with_claims-more entries first.walks.items entry claimed here))
-            (turns-more (Stands first.costs) stays tt (with_claims entries first.walks.items) h.rulings
-            (entry, claimed) r h.are (subst (λ (ls : Layers). IsRuling ls entry claimed r) h.same is));
         all = ap (λ (l : List (List ℕ)). l ++ ruling_line now.counts.rows r ∷ []) h.all
-            ∙ ap (λ k. ruling_lines 1 h.rulings ++ ruling_line k r ∷ []) place
-            ∙ sym (ruling_lines-append 1 h.rulings (r ∷ []));
-        as_many = (let many : length h.rulings ≡ length entries = h.as_many in omega arith);
-        counted = counts h.rulings h.counted;
+            ∙ ap (λ k. ruling_lines 1 rulings ++ ruling_line k r ∷ []) place
+            ∙ sym (ruling_lines-append 1 rulings (r ∷ []))
+            ∙ ap (λ (l : List Ruling). ruling_lines 1 l) grown;
+        as_many = ap (λ (l : List Ruling). length l) (sym grown)
+            ∙ (let many : length rulings ≡ length entries = h.as_many in omega arith);
+        counted = counts rulings h.counted ∙ ap counts_of grown;
         same = costs ∙ h.same;
         claimed = walks ∙ h.claimed;
       };
@@ -180,71 +148,47 @@ pub judged-all : (job : Judge) (status : ℕ) (before after : List ℕ)
     → ((rulings : List Ruling) → job.counts ≡ counts_of rulings → status ≡ judge_status rulings)
     → (first : Judge) (entries : List Entry) (lines : List (List ℕ)) → HasJudged first job entries lines
     → Adds (λ all. IsJudged first entries all status) lines before after
-judged-all job status before after w s first entries lines h = record {
-  more = rulings_line h.rulings ∷ [];
-  stand = record {
-    rulings = h.rulings;
-    are = h.are;
-    all = ap (λ (l : List (List ℕ)). l ++ rulings_line h.rulings ∷ []) h.all;
-    same_status = s h.rulings h.counted;
-  };
-  appended = w ∙ ap (λ (c : Counts). before ++ sum_text c) h.counted
-      ∙ ap (λ (l : List ℕ). before ++ l) (sym (append-nil (rulings_line h.rulings)));
-}
+judged-all job status before after w s first entries lines h =
+    let rulings : List Ruling = rulings_by first entries in
+    record {
+      more = rulings_line rulings ∷ [];
+      stand = record {
+        all = ap (λ (l : List (List ℕ)). l ++ rulings_line rulings ∷ []) h.all;
+        code = s rulings h.counted;
+      };
+      appended = w ∙ ap (λ (c : Counts). before ++ sum_text c) h.counted
+          ∙ ap (λ (l : List ℕ). before ++ l) (sym (append-nil (rulings_line rulings)));
+    }
 
--- a query that was settled gives a row, whatever is claimed
-pub settled-ruled : (ls : Layers) (entry : Entry) (claimed : Claimed) (how : Settled) → IsSettled ls entry how
-    → (r : Ruling) × IsRuling ls entry claimed r
-settled-ruled ls entry claimed settled.Scale sides = (ruling.Scale, scale sides refl)
-settled-ruled ls entry claimed settled.Outside is = (ruling.Outside, outside is.0 is.1 refl)
-settled-ruled ls entry claimed settled.Blocked is = (ruling.Blocked, blocked is.0 is.1 refl)
-settled-ruled ls entry claimed (settled.Searched from to least) is =
-    let g = query_grid ls from in
-    let how = judgement_of g from to claimed least in
-    let made = judgements_are_made g from to claimed least is.least how in
-    (ruling.Judged how, ruled-searched ls entry claimed how from to least g is refl (made.1 refl))
-
-ruling_exists : (ls : Layers) (s : Unit {0}) (both : Both) → (r : Ruling) × Stands ls s both r
-ruling_exists ls s both =
-    let h = settled_exists ls both.0 in settled-ruled ls both.0 both.1 h.0 h.1
-
--- so the first rows can be completed
+-- the first rows can be completed
 pub rulings-complete : CanComplete HasJudged IsJudged true
 rulings-complete first now some others lines h =
     let walks : List Claimed = first.walks.items in
-    let all = turns-all (Stands first.costs) stays (ruling_exists first.costs) tt
-    (with_claims some walks)
-    (with_claims others (drop (length some) walks)) h.rulings h.are in
-    let rulings : List Ruling = h.rulings ++ all.0 in
-    let rest : List (List ℕ) = ruling_lines (1 + length h.rulings) all.0 in
+    let rule : Both → Ruling = ruling_of first.costs in
+    let done : List Ruling = rulings_by first some in
+    let left : List Ruling = map rule (zip others (drop (length some) walks)) in
+    let rulings : List Ruling = rulings_by first (some ++ others) in
+    let rest : List (List ℕ) = ruling_lines (1 + length done) left in
     let sum : List ℕ = rulings_line rulings in
+    let all : done ++ left ≡ rulings =
+    sym (map-append rule (zip some walks) (zip others (drop (length some) walks)))
+    ∙ ap (λ (l : List Both). map rule l) (sym (zip-append some others walks)) in
     record {
       more = rest ++ sum ∷ [];
       status = judge_status rulings;
       whole = record {
-        rulings = rulings;
-        are =
-            subst (λ (l : List Both). AreInTurn {S = Unit {0}} (Stands first.costs) stays tt l rulings)
-            (sym (with_claims-append some others walks)) all.1;
         all = sym (append_assoc lines rest (sum ∷ []))
             ∙ ap (λ (l : List (List ℕ)). (l ++ rest) ++ sum ∷ []) h.all
-            ∙ ap (λ (l : List (List ℕ)). l ++ sum ∷ []) (sym (ruling_lines-append 1 h.rulings all.0));
-        same_status = refl;
+            ∙ ap (λ (l : List (List ℕ)). l ++ sum ∷ []) (sym (ruling_lines-append 1 done left))
+            ∙ ap (λ (l : List Ruling). ruling_lines 1 l ++ sum ∷ []) all;
+        code = refl;
       };
       some = λ left. not-empty rest sum;
     }
 
 -- nothing is judged yet
 pub judged-none : (job : Judge) → job.counts ≡ counts_of [] → HasJudged job job [] []
-judged-none job e = record {
-  rulings = [];
-  are = tt;
-  all = refl;
-  as_many = refl;
-  counted = e;
-  same = refl;
-  claimed = refl;
-}
+judged-none job e = record { all = refl; as_many = refl; counted = e; same = refl; claimed = refl }
 
 -- and all walks are left
 pub all-left : (job : Judge) (count : ℕ) → IsReady job count → count < 2 ^ 64 → CanGoOn job count

@@ -1,7 +1,8 @@
 -- What comes in, read by read, and how a call ends that answers it.
 use Rattle.std.proofs.Common.{◌≡◌, refl, sym, ap, ◌∙◌, subst, List, [], ◌∷◌, ◌++◌, append_assoc, ℕ, suc, zero}
 use Rattle.std.proofs.Common.{◌+◌, ◌<◌, ◌≤◌, ◌⊎◌, inl, inr, length, length-append, take, min, arith}
-use Rattle.std.specs.Prelude.{Option, Some, None, codes}
+use Rattle.std.specs.Prelude.{Option, Some, None, codes, true, false, if◌then◌else◌}
+use Rattle.std.proofs.lemmas.Bool.Decides.{nat_tests}
 use Rattle.std.specs.List.{concat}
 use Rattle.std.specs.Option.{option_map, option_map_or}
 use Rattle.std.specs.Io.KnownBytes.{Consumes, IsAtEnd}
@@ -12,13 +13,13 @@ use Rattle.script_text.specs.declared.command.ScriptCommand.{ScriptCommand}
 use Rattle.script_text.specs.declared.fault.ScriptFault.{ScriptFault}
 use Rattle.script_text.specs.Feeding.{commands_so_far, commands_of, fault_so_far, fault_of}
 use Rattle.script_text.proofs.Feeding.{fault-stays, whole-refused}
-use Rattle.jps_run.specs.Answering.{IsSolved}
-use Rattle.jps_run.specs.Answers.{AreAnswers}
+use Rattle.jps_run.specs.Answering.{IsSolved, lines_by}
 use Rattle.call_files.specs.FaultLines.{long_line, script_line}
 use Rattle.call_files.specs.Kinds.{limit_of}
 use Rattle.call_files.specs.declared.kind.TextKind.TheVariants as kind
-use Rattle.jps_run.specs.Heard.{AnswerHeard, AnswerTaken, AreWhole, IsHeard, IsInput, WroteAll, WroteFirst}
-use Rattle.jps_run.specs.Heard.{WroteLines, counted, whole, too_long}
+use Rattle.jps_run.specs.Heard.{AnswerHeard, AnswerTaken, AreWhole, IsInput, WroteAll, WroteFirst, heard_commands, heard_refusal}
+use Rattle.jps_run.specs.Heard.{is_long}
+use Rattle.jps_run.specs.Heard.{WroteLines, counted}
 use Rattle.jps_run.specs.Hearing.{HasWritten}
 use Rattle.io_edge.specs.Known.{Outflow}
 use Rattle.line_work.specs.Sending.{Wrote, IsPart}
@@ -75,22 +76,41 @@ counted-more text bytes count room e =
     ap (λ n. take n (text ++ take count bytes)) (sym e) ∙ take-append-add text (take count bytes) room
     ∙ ap (λ (l : List ℕ). text ++ l) (take-twice room count bytes)
 
+-- a script that is not too long, and one that is
+pub few-heard : (script : List ℕ) → length script ≤ limit_of kind.Script
+    → (heard_commands script ≡ commands_of script)
+    × (heard_refusal script ≡ option_map script_line (fault_of script))
+few-heard script few =
+    let off : is_long script ≡ false = grind (arith, nat_tests) in (rw off refl, rw off refl)
+
+long-heard_of : (script : List ℕ) → limit_of kind.Script < length script
+    → (heard_commands script ≡ commands_so_far (counted script))
+    × (heard_refusal script
+    ≡ Some (option_map_or script_line (fault_so_far (counted script)) (long_line (codes "script"))))
+long-heard_of script long =
+    let on : is_long script ≡ true = grind (arith, nat_tests) in (rw on refl, rw on refl)
+
 -- a script with a refused line among the bytes that count, whatever comes behind them
 refused-script : (full rest : List ℕ) (fault : ScriptFault) (line : List ℕ)
     → fault_so_far (counted full) ≡ Some fault → script_line fault ≡ line
-    → IsHeard (full ++ rest) (commands_so_far (counted full)) (Some line)
+    → (heard_commands (full ++ rest) ≡ commands_so_far (counted full))
+    × (heard_refusal (full ++ rest) ≡ Some line)
 refused-script full rest fault line is named = elim (at-most (length (full ++ rest)) (limit_of kind.Script)) [
   | inl h ↦
       let e : counted (full ++ rest) ≡ full ++ rest = take_all (limit_of kind.Script) (full ++ rest) h in
       let known : fault_so_far (full ++ rest) ≡ Some fault
       = ap fault_so_far (sym e ∙ front.1) ∙ stays.0 in
       let w = whole-refused (full ++ rest) fault known in
-      whole h (sym (w.1 ∙ ap commands_so_far (sym e ∙ front.1) ∙ stays.1))
-      (sym (ap (option_map script_line) w.0 ∙ ap (λ (l : List ℕ). Some l) named))
+      let so = few-heard (full ++ rest) h in (
+        so.0 ∙ w.1 ∙ ap commands_so_far (sym e ∙ front.1) ∙ stays.1,
+        so.1 ∙ ap (option_map script_line) w.0 ∙ ap (λ (l : List ℕ). Some l) named,
+      )
   | inr h ↦
-      too_long h (sym (ap commands_so_far front.1 ∙ stays.1))
-      (sym (ap (λ (f : Option ScriptFault). Some (option_map_or script_line f (long_line (codes "script"))))
-      (ap fault_so_far front.1 ∙ stays.0) ∙ ap (λ (l : List ℕ). Some l) named))
+      let so = long-heard_of (full ++ rest) h in (
+        so.0 ∙ ap commands_so_far front.1 ∙ stays.1,
+        so.1 ∙ ap (λ (f : Option ScriptFault). Some (option_map_or script_line f (long_line (codes "script"))))
+        (ap fault_so_far front.1 ∙ stays.0) ∙ ap (λ (l : List ℕ). Some l) named,
+      )
 ]
   where
     front : (more : List ℕ) × (counted (full ++ rest) ≡ counted full ++ more)
@@ -106,23 +126,23 @@ module _ (first : Answers) (input left : Option (List ℕ)) (full : List ℕ) (b
   pub refused-heard : (new : Answers) (line : List ℕ)
       → option_map script_line (fault_so_far (counted full)) ≡ Some line
       → HasWritten first new (commands_so_far (counted full)) before now
-      → WroteAll (AnswerHeard first.session first.show input (Some line)) before now
+      → WroteAll (AnswerHeard (lines_by first) input (Some line)) before now
   refused-heard new line named w = by_fault (fault_so_far (counted full)) refl named
     where
       by_fault : (f : Option ScriptFault) → fault_so_far (counted full) ≡ f
           → option_map script_line f ≡ Some line
-          → WroteAll (AnswerHeard first.session first.show input (Some line)) before now
+          → WroteAll (AnswerHeard (lines_by first) input (Some line)) before now
       by_fault None is named = absurd cc
       by_fault (Some fault) is named =
           let comes = input-more input left full consumed in
+          let so = refused-script full comes.0 fault line is (let e : script_line fault ≡ line = cc in e) in
           record {
             lines = w.lines;
             stand = record {
               script = full ++ comes.0;
               comes = comes.1;
-              commands = commands_so_far (counted full);
-              heard = refused-script full comes.0 fault line is (let e : script_line fault ≡ line = cc in e);
-              answers = w.worked.answers;
+              refused = sym so.1;
+              are = w.worked.answers ∙ ap (lines_by first) (sym so.0);
             };
             wrote = w.wrote;
           }
@@ -131,25 +151,22 @@ module _ (first : Answers) (input left : Option (List ℕ)) (full : List ℕ) (b
   pub long-heard : (new : Answers) (line : List ℕ) → limit_of kind.Script < length full
       → line ≡ long_line (codes "script") → fault_so_far (counted full) ≡ None
       → HasWritten first new (commands_so_far (counted full)) before now
-      → WroteAll (AnswerHeard first.session first.show input (Some line)) before now
+      → WroteAll (AnswerHeard (lines_by first) input (Some line)) before now
   long-heard new line long named clean w =
       let comes = input-more input left full consumed in
       let sum : length (full ++ comes.0) ≡ length full + length comes.0 = length-append full comes.0 in
       let same : counted (full ++ comes.0) ≡ counted full
       = take-append-le (limit_of kind.Script) full comes.0 (omega (arith, long)) in
+      let so = long-heard_of (full ++ comes.0) (omega (arith, long, sum)) in
       record {
         lines = w.lines;
         stand = record {
           script = full ++ comes.0;
           comes = comes.1;
-          commands = commands_so_far (counted full);
-          heard = too_long (omega (arith, long, sum)) (ap commands_so_far (sym same))
-              (ap (λ (l : List ℕ). Some l) named
-              ∙ sym
-              (ap (λ (f : Option ScriptFault). Some
-              (option_map_or script_line f (long_line (codes "script"))))
-              (ap fault_so_far same ∙ clean)));
-          answers = w.worked.answers;
+          refused = ap (λ (l : List ℕ). Some l) named ∙ sym (so.1
+              ∙ ap (λ (f : Option ScriptFault). Some
+              (option_map_or script_line f (long_line (codes "script")))) (ap fault_so_far same ∙ clean));
+          are = w.worked.answers ∙ ap (lines_by first) (sym (so.0 ∙ ap commands_so_far same));
         };
         wrote = w.wrote;
       }
@@ -158,13 +175,24 @@ module _ (first : Answers) (input left : Option (List ℕ)) (full : List ℕ) (b
   pub all-heard : (new : Answers) (refusal : Option (List ℕ)) → IsAtEnd left
       → length full ≤ limit_of kind.Script → refusal ≡ option_map script_line (fault_of full)
       → HasWritten first new (commands_of full) before now
-      → WroteAll (AnswerHeard first.session first.show input refusal) before now
-  all-heard new refusal ended few named w = grind (arith, input-all)
+      → WroteAll (AnswerHeard (lines_by first) input refusal) before now
+  all-heard new refusal ended few named w =
+      let so = few-heard full few in
+      record {
+        lines = w.lines;
+        stand = record {
+          script = full;
+          comes = input-all input left full consumed ended;
+          refused = named ∙ sym so.1;
+          are = w.worked.answers ∙ ap (lines_by first) (sym so.0);
+        };
+        wrote = w.wrote;
+      }
 
   module _ (commands : List ScriptCommand) (are : AreWhole left full commands) where
     -- a first part of the lines was written
     pub part-heard : IsPart (IsSolved first commands) before now
-        → WroteFirst (AnswerTaken first.session first.show input left) before now
+        → WroteFirst (AnswerTaken (lines_by first) input left) before now
     part-heard p = record {
       lines = p.lines;
       stand = record {
@@ -172,14 +200,14 @@ module _ (first : Answers) (input left : Option (List ℕ)) (full : List ℕ) (b
         consumed = consumed;
         commands = commands;
         whole = are;
-        answers = p.whole.answers;
+        are = p.whole.all;
       };
       wrote = p.wrote;
     }
 
     -- the first lines were
-    pub lines-heard : WroteLines (AreAnswers first.session first.show commands) before now
-        → WroteLines (AnswerTaken first.session first.show input left) before now
+    pub lines-heard : WroteLines (λ lines. lines ≡ lines_by first commands) before now
+        → WroteLines (AnswerTaken (lines_by first) input left) before now
     lines-heard l = record {
       lines = l.lines;
       stand = record {
@@ -187,7 +215,7 @@ module _ (first : Answers) (input left : Option (List ℕ)) (full : List ℕ) (b
         consumed = consumed;
         commands = commands;
         whole = are;
-        answers = l.stand;
+        are = l.stand;
       };
       count = l.count;
       wrote = l.wrote;
@@ -195,7 +223,7 @@ module _ (first : Answers) (input left : Option (List ℕ)) (full : List ℕ) (b
 
     -- or all lines of them
     pub written-heard : (new : Answers) → HasWritten first new commands before now
-        → WroteLines (AnswerTaken first.session first.show input left) before now
+        → WroteLines (AnswerTaken (lines_by first) input left) before now
     written-heard new w = record {
       lines = w.lines;
       stand = record {
@@ -203,7 +231,7 @@ module _ (first : Answers) (input left : Option (List ℕ)) (full : List ℕ) (b
         consumed = consumed;
         commands = commands;
         whole = are;
-        answers = w.worked.answers;
+        are = w.worked.answers;
       };
       count = length w.lines;
       wrote = subst (λ (l : List (List ℕ)). Wrote before now (concat l))

@@ -1,99 +1,67 @@
 -- A call is opened as work whose output answers it.
 use Rattle.std.proofs.Common.{◌≡◌, ◌∙◌, refl, sym, ap, subst, inl, false, List, [], ◌∷◌, ◌++◌, ℕ, ◌≤◌, arith}
-use Rattle.std.specs.Prelude.{Ok, Err, Result}
+use Rattle.std.specs.Prelude.{Ok, Err, Result, Option, Some}
 use Rattle.io_edge.specs.Known.{Disk, Held}
 use Rattle.map_text.specs.Faults.{map_of}
 use Rattle.map_text.specs.Map.{Map}
-use Rattle.edit_replay.specs.Session.{SessionData}
 use Rattle.word_list.specs.Request.{Call, asking, called}
 use Rattle.word_list.specs.declared.request.Settings.{Settings}
-use Rattle.word_list.specs.declared.request.Show.{Show}
 use Rattle.word_list.specs.declared.rows.Command.{Command}
 use Rattle.word_list.specs.declared.rows.Request.{Request}
-use Rattle.call_files.specs.Files.{AreAccepted}
 use Rattle.line_work.specs.Sending.{IsText}
 use Rattle.line_work.specs.declared.stop.Stop.{Stop}
-use Rattle.jps_run.specs.Calls.{IsAnswered, call_with, files_of, searches}
+use Rattle.jps_run.specs.Calls.{call_with, files_of, output_of}
 use Rattle.jps_run.specs.Live.{OnLive}
-use Rattle.jps_run.specs.Opened.{IsWorkOf, IsWorkOn, Opens, OpensWork, opened_as}
+use Rattle.jps_run.specs.Opened.{IsCounted, IsWorkOf, Opens, OpensWork, opened_as}
 use Rattle.jps_run.specs.declared.commands.Opened.{Opened}
-use Rattle.jps_run.specs.Parts.{OnLast, OnMap, Prints, Says}
+use Rattle.jps_run.specs.Parts.{Is, Output, on_last, on_map, on_read, printed}
 use Rattle.jps_run.specs.declared.work.Work.{Work}
-use Rattle.jps_run.specs.Works.{CanPerform, IsWhole}
+use Rattle.jps_run.specs.Works.{CanPerform, HasRisen, IsWhole}
+use Rattle.jps_run.specs.Who.{replies_by}
 
--- what is printed of a map is right, where the text is
-module _ {Such : Map → List ℕ → ℕ → Type 0} (text : List ℕ) (m : Map) (read : map_of text ≡ Ok m) where
-  pub prints : (printed : List ℕ) (code : ℕ) → Such m printed code → (lines : List (List ℕ)) (status : ℕ)
-      → IsText printed code lines status → Prints (text ∷ []) lines status Such
-  prints printed code such lines status is = record {
-    text = text;
-    map = m;
-    is = refl;
-    read = read;
-    printed = printed;
-    all = is.0;
-    such = subst (λ (n : ℕ). Such m printed n) (sym is.1) such;
-  }
+-- what is made of a value that is read, and of the last text
+pub value-read : {V F X : Type 0} (read : Result V F) (value : V) (make : V → Option X) → read ≡ Ok value
+    → on_read read make ≡ make value
+value-read read value make e = ap (λ r. on_read r make) e
 
-  -- so it is work of a call that searches nothing
-  pub prints-on : (call : Call) (holds : List ℕ → Held) → AreAccepted holds [] (files_of call) (text ∷ [])
-      → searches call.request.command ≡ false → (job : Work) (printed : List ℕ) (code : ℕ)
-      → CanPerform job → ((lines : List (List ℕ)) (status : ℕ) → IsWhole job lines status
-      → IsText printed code lines status)
-      → ((lines : List (List ℕ)) (status : ℕ) → Prints (text ∷ []) lines status Such
-      → IsAnswered call (text ∷ []) lines status)
-      → Such m printed code → code ≤ 1 → IsWorkOn call holds job
-  prints-on call holds accepted none job printed code can whole answers such small = record {
-    texts = text ∷ [];
-    accepted = accepted;
-    is = record {
-      can = can;
-      right = λ lines status w.
-          let is = whole lines status w in (
-            subst (λ (n : ℕ). n ≤ 1) (sym is.1) small,
-            answers lines status (prints printed code such lines status is),
-          );
-      counted = λ old new rose. inl none;
-    };
-  }
+last-read : {X : Type 0} (before : List (List ℕ)) (text : List ℕ) (make : List ℕ → Option X)
+    → on_last (before ++ text ∷ []) make ≡ make text
+last-read [] text make = refl
+last-read (first ∷ []) text make = refl
+last-read (first ∷ next ∷ before) text make = last-read (next ∷ before) text make
 
--- a text of the program's own is work of a call that reads nothing
-pub says-of : (call : Call) (job : Work) (text printed : List ℕ) → printed ≡ text
-    → searches call.request.command ≡ false → CanPerform job
-    → ((lines : List (List ℕ)) (status : ℕ) → IsWhole job lines status → IsText printed 0 lines status)
-    → ((lines : List (List ℕ)) (status : ℕ) → Says text [] lines status → IsAnswered call [] lines status)
-    → IsWorkOf call [] job
-says-of call job text printed e none can whole answers = record {
+-- so it is of a map and the last text
+pub both-read : {V F X : Type 0} (text : List ℕ) (loaded : List (List ℕ)) (m : Map) (last : List ℕ)
+    (read : List ℕ → Result V F) (value : V) (make : Map → V → Option X) → map_of text ≡ Ok m
+    → read last ≡ Ok value
+    → on_read (map_of text) (λ m. on_last (loaded ++ last ∷ []) (λ second. on_read (read second) (make m)))
+    ≡ make m value
+both-read text loaded m last read value make e is =
+    value-read (map_of text) m (λ m. on_last (loaded ++ last ∷ []) (λ second. on_read (read second) (make m))) e
+    ∙ last-read loaded last (λ second. on_read (read second) (make m)) ∙ value-read (read last) value (make m) is
+
+-- the work of a call prints what the call asks for
+pub work-of : (call : Call) (texts : List (List ℕ)) (job : Work) (o : Output)
+    → output_of replies_by call texts ≡ Some o → o.status ≤ 1 → CanPerform job
+    → ((lines : List (List ℕ)) (status : ℕ) → IsWhole job lines status → Is o lines status)
+    → ((old new : ℕ) → HasRisen job old new → IsCounted call texts old new) → IsWorkOf call texts job
+work-of call texts job o e small can whole counted = record {
   can = can;
   right = λ lines status w.
-      let is = whole lines status w in (
-        (let good : status ≡ 0 = is.1 in omega arith),
-        answers lines status (record {
-          none = refl;
-          all = is.0 ∙ ap (λ (t : List ℕ). t ∷ []) e;
-          good = is.1;
-        }),
-      );
-  counted = λ old new rose. inl none;
+      let is = whole lines status w in
+      let same : o ≡ record { lines = lines; status = status } = rw (is.all, is.code) refl in
+      (subst (λ (n : ℕ). n ≤ 1) (sym is.code) small, e ∙ ap (λ (x : Output). Some x) same);
+  counted = counted;
 }
 
--- what holds of the last text, behind that of a map and the one of a table file
-pub on-last : {Such : Map → List ℕ → Type 0} (text : List ℕ) (m : Map) → map_of text ≡ Ok m
-    → (loaded : List (List ℕ)) (more : List ℕ) → Such m more
-    → OnMap (text ∷ (loaded ++ more ∷ [])) (λ m behind. OnLast behind (Such m))
-on-last text m read loaded more such = record {
-  text = text;
-  behind = loaded ++ more ∷ [];
-  map = m;
-  is = refl;
-  read = read;
-  such = record { before = loaded; last = more; is = refl; such = such };
-}
+-- a text is printed
+pub texted : (text : List ℕ) (code : ℕ) (lines : List (List ℕ)) (status : ℕ) → IsText text code lines status
+    → Is (printed text code) lines status
+texted text code lines status w = record { all = w.0; code = w.1 }
 
--- what holds of the session that answers what comes in holds of the call
-pub as_live : {call : Call} {holds : List ℕ → Held} {K L : SessionData → Show → Type 0}
-    (p : OnLive call holds K)
-    → L p.session call.settings.show → OnLive call holds L
+-- what holds of the map of a call that answers what comes in
+pub as_live : {call : Call} {holds : List ℕ → Held} {K L : Map → Type 0} (p : OnLive call holds K) → L p.read
+    → OnLive call holds L
 as_live p such = record {
   is = p.is;
   text = p.text;
@@ -101,8 +69,6 @@ as_live p such = record {
   accepted = p.accepted;
   read = p.read;
   spelled = p.spelled;
-  session = p.session;
-  answers = p.answers;
   such = such;
 }
 

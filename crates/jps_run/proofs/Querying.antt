@@ -3,20 +3,24 @@ use Rattle.std.proofs.Common.{◌≡◌, ◌*◌, ◌∙◌, ℕ, refl, sym, ap,
 use Rattle.std.specs.Global.{Vec}
 use Rattle.std.specs.Prelude.{None}
 use Rattle.grid_moves.specs.declared.Cell.{Cell}
+use Rattle.grid_moves.specs.Layers.{Layers}
+use Rattle.edit_replay.proofs.Edits.{edited-nothing}
 use Rattle.edit_replay.specs.Counting.{states_away}
 use Rattle.edit_replay.specs.Session.{SessionData}
 use Rattle.edit_replay.specs.declared.reply.Reply.{Reply}
 use Rattle.script_text.specs.declared.command.ScriptCommand.TheVariants.{Query}
 use Rattle.word_list.specs.declared.request.Show.{Show}
-use Rattle.jps_run.specs.Answers.{AreAnswers, IsReplyLine}
+use Rattle.jps_run.specs.Answers.{query_line, solve_output}
+use Rattle.jps_run.specs.Parts.{Is, printed}
+use Rattle.jps_run.specs.Session.{replies_of}
 use Rattle.jps_run.specs.Rising.{RoseForQuery, RoseForCommands}
 use Rattle.jps_run.specs.Lines.{reply_line}
-use Rattle.jps_run.specs.Querying.{IsOneReply, IsQueryWork}
+use Rattle.jps_run.specs.Querying.{IsQueryWork}
 use Rattle.jps_run.specs.Who.{by_small}
 use Rattle.word_list.specs.declared.request.SmallEngine.{SmallEngine}
 use Rattle.word_list.specs.declared.request.SmallEngine.TheVariants.{Boxes, Moves}
 use Rattle.jps_run.specs.declared.work.Work.TheVariants as work
-use Rattle.jps_run.specs.Who.{Who, IsReplyBy, fewest_by, most_by, who_is}
+use Rattle.jps_run.specs.Who.{Who, fewest_by, most_by, reply_to, who_is}
 use Rattle.jps_run.proofs.Solving.{nothing_edited}
 
 -- a session that is asked one query as its script
@@ -27,16 +31,13 @@ module _ (d : SessionData) (show : Show) (sx sy gx gy : ℕ) where
   abbrev goal : Cell
   goal = record { x = gx; y = gy }
 
-  pub one-line : (lines : List (List ℕ)) → AreAnswers d show (Query sx sy gx gy ∷ []) lines
-      → IsOneReply (who_is d) show start goal lines
-  one-line [] a = absurd a
-  one-line (line ∷ []) a = record {
-    line = line;
-    is = subst (λ (k : SessionData). IsReplyLine (who_is k) show start goal line) (sym (nothing_edited d))
-        a.0;
-    all = refl;
+  pub one-line : (lines : List (List ℕ)) (status : ℕ)
+      → Is (solve_output (replies_of d) show d.layers (Query sx sy gx gy ∷ [])) lines status
+      → Is (printed (query_line (replies_of d) show d.layers start goal) 0) lines status
+  one-line lines status w = record {
+    all = w.all ∙ ap (λ (ls : Layers). query_line (replies_of d) show ls start goal ∷ []) (edited-nothing d.layers);
+    code = w.code;
   }
-  one-line (line ∷ other ∷ lines) a = absurd a.1
 
   pub one-rose : (old new : ℕ) → RoseForCommands d (Query sx sy gx gy ∷ []) old new
       → RoseForQuery (who_is d) start goal old new
@@ -56,27 +57,18 @@ small_most Moves = refl
 
 -- the line of one reply that was made at once, where no most is known and nothing is counted
 pub replied-work : (who : Who) (show : Show) (s t : Cell) (reply : Reply) (width : ℕ) (text : Vec ℕ)
-    → IsReplyBy who s t reply → fewest_by who.by ≡ 0 → most_by who.by ≡ None
+    → reply ≡ reply_to who s t → fewest_by who.by ≡ 0 → most_by who.by ≡ None
     → width ≡ who.layers.land.width → text.items ≡ reply_line width show reply
     → IsQueryWork who show s t (work.Print text 0)
 replied-work who show s t reply width text is none unbounded wide e = record {
   can = tt;
-  right = λ lines status w. (
-    w.1,
-    record {
-      line = text.items;
-      is = record {
-        reply = reply;
-        is_reply = is;
-        shown = e ∙ ap (λ (w : ℕ). reply_line w show reply) wide;
-      };
-      all = w.0;
-    },
-  );
+  right = λ lines status w. record {
+    all = w.0 ∙ ap (λ (l : List ℕ). l ∷ []) (e ∙ ap (λ (w : ℕ). reply_line w show reply) wide
+        ∙ ap (λ (r : Reply). reply_line who.layers.land.width show r) is);
+    code = w.1;
+  };
   counted = λ old new later. record {
-    reply = reply;
-    is_reply = is;
-    fewest = rw none (let least : states_away reply * 0 ≡ 0 = omega arith in omega arith);
+    fewest = rw none (let least : states_away (reply_to who s t) * 0 ≡ 0 = omega arith in omega arith);
     most = rw unbounded tt;
   };
 }

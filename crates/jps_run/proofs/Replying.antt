@@ -19,10 +19,9 @@ use Rattle.path_points.specs.Least.{IsLeastOrNone}
 use Rattle.best_first.specs.declared.found.Found.{Found}
 use Rattle.edit_replay.specs.Found.{reply_with, reply_without}
 use Rattle.edit_replay.specs.ReplyOf.{reply_finding}
-use Rattle.edit_replay.specs.Replies.{IsRightOn, IsShort, answer_of}
+use Rattle.edit_replay.specs.Replies.{IsShort, answer_of}
 use Rattle.edit_replay.specs.declared.reply.Reply.{Reply}
 use Rattle.edit_replay.specs.declared.reply.Reply.TheVariants.{Walk, None, Outside, Blocked}
-use Rattle.edit_replay.proofs.Answering.{result_on_grid, unsearched_right}
 use Rattle.grid_moves.proofs.Short.{least_steps, steps-cost_of}
 use Rattle.goal_boxes.specs.Answer.{IsBoxedRunOn}
 use Rattle.goal_boxes.proofs.Answering as boxed
@@ -30,41 +29,29 @@ use Rattle.first_moves.specs.Follow.{IsLedOrNone}
 use Rattle.first_moves.proofs.Following.{stands}
 use Rattle.first_moves.proofs.Led.{walks_are}
 use Rattle.call_files.specs.Reading.{AreSmall}
-use Rattle.jps_run.specs.Who.{By, IsFoundReply, IsReplyBy, Who, by_boxes, by_moves, found_by, reply_to}
+use Rattle.jps_run.specs.Who.{By, IsFoundReply, Who, by_boxes, by_moves, found_by, replies_by, reply_to}
 
 -- between free cells of one grid the reply is that of what is found there
 searched : (ls : Layers) (by : By) (s t : Cell) → (is_on_map ls s && is_on_map ls t) ≡ true
     → are_free_ends ls s t ≡ true → in_one_layer ls s t ≡ true
-    → reply_to (record { layers = ls; by = by }) s t
+    → replies_by by ls s t
     ≡ reply_with (found_by by (query_grid ls s) s t).walk (found_by by (query_grid ls s) s t).taken
 unfolding reply_finding
 searched ls by s t on free one = rw (on, free, one) refl
 
--- so a reply on the grid of the query is one on the map
-reply-on-map : (ls : Layers) (by : By) (s t : Cell) (ends : Ends) (reply : Reply) → AreEnds ls s t ends
-    → IsRightOn (query_grid ls s) s t reply → IsFoundReply by (query_grid ls s) s t reply
-    → IsReplyBy (record { layers = ls; by = by }) s t reply
-reply-on-map ls by s t ends reply are right found = record {
-  right = result_on_grid {E = Unit {0}} ls (query_grid ls s) s t (Ok reply) refl are.free right;
-  is = found.is ∙ sym (searched ls by s t are.on are.free are.one);
-}
-
--- and so is that of a call on this grid, between the ends of the query
+-- so what was found on the grid of the query, between its ends, is replied on the map
 pub result-on-map : {E : Type 0} (result : Result Reply E) (ls : Layers) (by : By) (g : GridData)
     (s t : Cell) (ends : Ends)
     → AreEnds ls s t ends → g ≡ query_grid ls ends.from
-    → IfOk result (IsRightOn g ends.from ends.to) → IfOk result (IsFoundReply by g ends.from ends.to)
-    → IfOk result (IsReplyBy (record { layers = ls; by = by }) s t)
-result-on-map (Err error) ls by g s t ends are same right found = tt
-result-on-map (Ok reply) ls by g s t ends are same right found =
+    → IfOk result (IsFoundReply by g ends.from ends.to) → IfOk result (λ reply. reply ≡ replies_by by ls s t)
+result-on-map (Err error) ls by g s t ends are same found = tt
+result-on-map (Ok reply) ls by g s t ends are same found =
     let at : g ≡ query_grid ls s = same ∙ ap (λ (c : Cell). query_grid ls c) are.from in
-    reply-on-map ls by s t ends reply are
-    (subst (λ (k : GridData). IsRightOn k s t reply) at
-    (subst (λ (c : Cell). IsRightOn g s c reply) are.to
-    (subst (λ (c : Cell). IsRightOn g c ends.to reply) are.from right)))
-    (subst (λ (k : GridData). IsFoundReply by k s t reply) at
+    let there : IsFoundReply by (query_grid ls s) s t reply =
+    subst (λ (k : GridData). IsFoundReply by k s t reply) at
     (subst (λ (c : Cell). IsFoundReply by g s c reply) are.to
-    (subst (λ (c : Cell). IsFoundReply by g c ends.to reply) are.from found)))
+    (subst (λ (c : Cell). IsFoundReply by g c ends.to reply) are.from found)) in
+    there.is ∙ sym (searched ls by s t are.on are.free are.one)
 
 -- both ends are free there
 pub goal-free : (ls : Layers) (g : GridData) (s t from to : Cell) → from ≡ s → to ≡ t → g ≡ query_grid ls from
@@ -76,17 +63,12 @@ goal-free ls g s t from to e f same one =
     (and_parts (is_free (query_grid ls s) s) (is_free (query_grid ls s) t) one).1))
 
 -- where nothing is searched, the reply says why
-unsearched_is : (who : Who) (s t : Cell) (reason : Unsearched) → IsUnsearched who.layers s t reason
+pub unsearched_is : (who : Who) (s t : Cell) (reason : Unsearched) → IsUnsearched who.layers s t reason
     → reply_without reason ≡ reply_to who s t
 unfolding reply_finding
 unsearched_is who s t why.Outside is = rw is refl
 unsearched_is who s t why.Blocked is = rw (is.0, is.1) refl
 unsearched_is who s t (why.Apart ends) is = rw (is.on, is.free, is.two) refl
-
-pub unsearched-reply : (who : Who) (s t : Cell) (reason : Unsearched) → IsUnsearched who.layers s t reason
-    → IsReplyBy who s t (reply_without reason)
-unsearched-reply who s t reason is =
-    record { right = unsearched_right who.layers s t reason is; is = unsearched_is who s t reason is }
 
 -- what was found between free cells by the boxed run, or by first moves, is the function's
 module _ (g : GridData) (s t : Cell) where
@@ -128,8 +110,3 @@ small-short ls s t (Walk points cost taken) small right =
     = least_steps (query_grid ls s) s t right.1.cells right.1.least in
     let few : (query_grid ls s).height * (query_grid ls s).width ≤ 16384 = few-on ls s small in
     omega arith)
-
-pub result-short : {E : Type 0} (result : Result Reply E) (ls : Layers) (by : By) (s t : Cell) → AreSmall ls
-    → IfOk result (IsReplyBy (record { layers = ls; by = by }) s t) → IfOk result (λ r. IsShort (answer_of r))
-result-short (Err error) ls by s t small is = tt
-result-short (Ok reply) ls by s t small is = small-short ls s t reply small is.right

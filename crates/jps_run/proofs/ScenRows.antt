@@ -1,30 +1,21 @@
 -- The rows of entries.
 use Rattle.std.proofs.Common.{◌≡◌, refl, sym, ap, ◌∙◌, subst, List, [], ◌∷◌, ◌++◌, append_assoc, ℕ, suc, ◌+◌}
-use Rattle.std.proofs.Common.{◌^◌, ◌<◌, length, length-append, arith, true, false, Bool}
+use Rattle.std.proofs.Common.{◌^◌, ◌<◌, length, length-append, arith, true}
 use Rattle.std.specs.Prelude.{◌≢◌, Result, Ok, Err, OnOk}
-use Rattle.std.proofs.lemmas.List.{append-nil}
+use Rattle.std.proofs.lemmas.List.{append-nil, map-append}
 use Rattle.scen_text.specs.declared.entry.Entry.{Entry}
 use Rattle.jps_run.specs.Answerers.{CanAnswer, who_of}
-use Rattle.jps_run.specs.ScenRows.{HasRows, HasRoom, AreAllRows}
-use Rattle.jps_run.specs.Rows.{has_sides, row_of, IsRow, scale, replied, row_line, row_lines, scen_status}
+use Rattle.jps_run.specs.ScenRows.{HasRows, HasRoom, AreAllRows, rows_by}
+use Rattle.jps_run.specs.Rows.{row_for, row_line, row_lines, scen_status}
 use Rattle.jps_run.specs.Rows.{sum_line}
 use Rattle.word_list.specs.declared.request.Show.{Show}
 use Rattle.jps_run.specs.Tally.{IsSmall, tally_of, sum_text}
-use Rattle.jps_run.specs.Who.{Who}
+use Rattle.jps_run.specs.Who.{replies_by}
 use Rattle.line_work.specs.Working.{Adds, CanComplete, HasRoomForOne}
 use Rattle.jps_run.specs.declared.replies.answerer.Answerer.{Answerer}
 use Rattle.jps_run.specs.declared.replies.row.Row.{Row}
-use Rattle.jps_run.specs.declared.replies.row.Row.TheVariants as row
 use Rattle.jps_run.specs.declared.replies.row.Tally.{Tally}
 use Rattle.jps_run.specs.declared.replies.scenario.Scen.{Scen}
-use Rattle.jps_run.proofs.Existing.{reply_exists}
-use Rattle.line_work.proofs.Turns.{turns-more, turns-all}
-
-abbrev Stands : Who → Unit {0} → Entry → Row → Type 0
-Stands who s entry r = IsRow who entry r
-
-abbrev stays : Unit {0} → Entry → Unit {0}
-stays s entry = s
 
 -- where nothing is counted yet there is room for a list's entries
 pub new-room : (job : Scen) (count : ℕ) → CanAnswer job.answerer → job.tally ≡ tally_of [] → count < 2 ^ 64
@@ -71,8 +62,9 @@ room-more (Ok done) job now r room counts small same = λ n h.
 
 -- one entry more has its row
 pub rows-more : {T E : Type 0} (result : Result T E) (job now : Scen) (entry : Entry) (r : Row)
-    (before after : List ℕ) → IsRow (who_of job.answerer) entry r → now.answerer ≡ job.answerer
-    → now.show ≡ job.show
+    (before after : List ℕ)
+    → r ≡ row_for (replies_by (who_of job.answerer).by) (who_of job.answerer).layers entry
+    → now.answerer ≡ job.answerer → now.show ≡ job.show
     → ((rows : List Row) → job.tally ≡ tally_of rows → now.tally ≡ tally_of (rows ++ r ∷ []))
     → OnOk result (after ≡ before ++ row_line job.show now.tally.rows r)
     → OnOk result ((first : Scen) (entries : List Entry) (lines : List (List ℕ))
@@ -80,23 +72,28 @@ pub rows-more : {T E : Type 0} (result : Result T E) (job now : Scen) (entry : E
     → Adds (HasRows first now (entries ++ entry ∷ [])) lines before after)
 rows-more (Err error) job now entry r before after is same shown counts w = tt
 rows-more (Ok done) job now entry r before after is same shown counts w = λ first entries lines h.
+    let rows : List Row = rows_by first entries in
     let line : Show → ℕ → List ℕ = λ show k. row_line show k r in
-    let one : now.tally.rows ≡ length (h.rows ++ r ∷ []) =
-    ap (λ (t : Tally). t.rows) (counts h.rows h.counted) in
-    let both : length (h.rows ++ r ∷ []) ≡ length h.rows + 1 = length-append h.rows (r ∷ []) in
-    let place : now.tally.rows ≡ 1 + length h.rows = omega arith in
+    let one : now.tally.rows ≡ length (rows ++ r ∷ []) =
+    ap (λ (t : Tally). t.rows) (counts rows h.counted) in
+    let both : length (rows ++ r ∷ []) ≡ length rows + 1 = length-append rows (r ∷ []) in
+    let place : now.tally.rows ≡ 1 + length rows = omega arith in
+    let here : r ≡ row_for (replies_by (who_of first.answerer).by) (who_of first.answerer).layers entry =
+    is ∙ ap (λ (a : Answerer). row_for (replies_by (who_of a).by) (who_of a).layers entry) h.same in
+    let grown : rows ++ r ∷ [] ≡ rows_by first (entries ++ entry ∷ []) =
+    ap (λ (x : Row). rows ++ x ∷ []) here
+    ∙ sym (map-append (row_for (replies_by (who_of first.answerer).by) (who_of first.answerer).layers) entries
+    (entry ∷ [])) in
     record {
       more = line job.show now.tally.rows ∷ [];
       stand = record {
-        rows = h.rows ++ r ∷ [];
         ready = h.ready;
-        are = turns-more (Stands (who_of first.answerer)) stays tt entries h.rows entry r h.are
-            (subst (λ (a : Answerer). IsRow (who_of a) entry r) h.same is);
         all = ap (λ (l : List (List ℕ)). l ++ line job.show now.tally.rows ∷ []) h.all
-            ∙ ap (λ (show : Show). row_lines first.show 1 h.rows ++ line show now.tally.rows ∷ []) h.shown
-            ∙ ap (λ k. row_lines first.show 1 h.rows ++ line first.show k ∷ []) place
-            ∙ sym (row_lines-append first.show 1 h.rows (r ∷ []));
-        counted = counts h.rows h.counted;
+            ∙ ap (λ (show : Show). row_lines first.show 1 rows ++ line show now.tally.rows ∷ []) h.shown
+            ∙ ap (λ k. row_lines first.show 1 rows ++ line first.show k ∷ []) place
+            ∙ sym (row_lines-append first.show 1 rows (r ∷ []))
+            ∙ ap (λ (l : List Row). row_lines first.show 1 l) grown;
+        counted = counts rows h.counted ∙ ap tally_of grown;
         same = same ∙ h.same;
         shown = shown ∙ h.shown;
       };
@@ -109,58 +106,46 @@ pub rows-all : (job : Scen) (status : ℕ) (before after : List ℕ)
     → ((rows : List Row) → job.tally ≡ tally_of rows → status ≡ scen_status rows)
     → (first : Scen) (entries : List Entry) (lines : List (List ℕ)) → HasRows first job entries lines
     → Adds (λ all. AreAllRows first entries all status) lines before after
-rows-all job status before after w s first entries lines h = record {
-  more = sum_line first.show h.rows ∷ [];
-  stand = record {
-    rows = h.rows;
-    are = h.are;
-    all = ap (λ (l : List (List ℕ)). l ++ sum_line first.show h.rows ∷ []) h.all;
-    same_status = s h.rows h.counted;
-  };
-  appended = w ∙ ap (λ (t : Tally). before ++ sum_text job.show t) h.counted
-      ∙ ap (λ (show : Show). before ++ sum_line show h.rows) h.shown
-      ∙ ap (λ (l : List ℕ). before ++ l) (sym (append-nil (sum_line first.show h.rows)));
-}
-
--- every entry has a row
-row_exists : (a : Answerer) (s : Unit {0}) (entry : Entry) → (r : Row) × Stands (who_of a) s entry r
-row_exists a s entry = by_sides (has_sides (who_of a).layers entry) refl
-  where
-    by_sides : (b : Bool) → has_sides (who_of a).layers entry ≡ b → (r : Row) × IsRow (who_of a) entry r
-    by_sides false e = (row.Scale, scale e refl)
-    by_sides true e =
-        let p = reply_exists (who_of a) (record { x = entry.sx; y = entry.sy })
-        (record { x = entry.gx; y = entry.gy }) in
-        (row_of entry.length p.0, replied p.0 e p.1 refl)
+rows-all job status before after w s first entries lines h =
+    let rows : List Row = rows_by first entries in
+    record {
+      more = sum_line first.show rows ∷ [];
+      stand = record {
+        all = ap (λ (l : List (List ℕ)). l ++ sum_line first.show rows ∷ []) h.all;
+        code = s rows h.counted;
+      };
+      appended = w ∙ ap (λ (t : Tally). before ++ sum_text job.show t) h.counted
+          ∙ ap (λ (show : Show). before ++ sum_line show rows) h.shown
+          ∙ ap (λ (l : List ℕ). before ++ l) (sym (append-nil (sum_line first.show rows)));
+    }
 
 pub not-empty : (lines : List (List ℕ)) (line : List ℕ) → lines ++ line ∷ [] ≢ []
 not-empty [] line = λ e. (let never : line ∷ [] ≡ [] = e in cc)
 not-empty (l ∷ lines) line = λ e. (let never : l ∷ (lines ++ line ∷ []) ≡ [] = e in cc)
 
--- so the first rows can be completed
+-- the first rows can be completed
 pub rows-complete : CanComplete HasRows AreAllRows true
 rows-complete first now some others lines h =
-    let all = turns-all (Stands (who_of first.answerer)) stays (row_exists first.answerer) tt some
-    others h.rows
-    h.are in
-    let rows : List Row = h.rows ++ all.0 in
-    let rest : List (List ℕ) = row_lines first.show (1 + length h.rows) all.0 in
+    let done : List Row = rows_by first some in
+    let left : List Row = rows_by first others in
+    let rows : List Row = rows_by first (some ++ others) in
+    let rest : List (List ℕ) = row_lines first.show (1 + length done) left in
     let sum : List ℕ = sum_line first.show rows in
+    let all : done ++ left ≡ rows =
+    sym (map-append (row_for (replies_by (who_of first.answerer).by) (who_of first.answerer).layers) some others) in
     record {
       more = rest ++ sum ∷ [];
       status = scen_status rows;
       whole = record {
-        rows = rows;
-        are = all.1;
         all = sym (append_assoc lines rest (sum ∷ []))
             ∙ ap (λ (l : List (List ℕ)). (l ++ rest) ++ sum ∷ []) h.all
-            ∙ ap (λ (l : List (List ℕ)). l ++ sum ∷ []) (sym (row_lines-append first.show 1 h.rows all.0));
-        same_status = refl;
+            ∙ ap (λ (l : List (List ℕ)). l ++ sum ∷ []) (sym (row_lines-append first.show 1 done left))
+            ∙ ap (λ (l : List Row). row_lines first.show 1 l ++ sum ∷ []) all;
+        code = refl;
       };
-      some = λ left. not-empty rest sum;
+      some = λ more. not-empty rest sum;
     }
 
 -- nothing is judged yet
 pub rows-none : (job : Scen) → CanAnswer job.answerer → job.tally ≡ tally_of [] → HasRows job job [] []
-rows-none job ready e =
-    record { rows = []; ready = ready; are = tt; all = refl; counted = e; same = refl; shown = refl }
+rows-none job ready e = record { ready = ready; all = refl; counted = e; same = refl; shown = refl }

@@ -1,13 +1,20 @@
 -- The work on a call, from its files to its output.
-use Rattle.std.proofs.Common.{◌≡◌, subst, inl, inr, List, ◌∷◌, ℕ, arith}
+use Rattle.std.proofs.Common.{◌≡◌, ◌∙◌, ap, subst, inl, inr, List, ◌∷◌, ℕ, arith}
 use Rattle.std.specs.Prelude.{None, Some, Option, Result, IsErrAnd}
 use Rattle.io_edge.specs.Known.{Disk, Held, Inflow, Outflow}
 use Rattle.edit_replay.specs.Session.{SessionData}
 use Rattle.word_list.specs.Request.{Call}
 use Rattle.word_list.specs.declared.request.Show.{Show}
+use Rattle.script_text.specs.declared.command.ScriptCommand.{ScriptCommand}
+use Rattle.call_files.specs.Layered.{layers_on}
+use Rattle.jps_run.specs.Answering.{lines_by}
+use Rattle.jps_run.specs.Answers.{answer_lines}
+use Rattle.jps_run.specs.Replies.{session_by}
+use Rattle.jps_run.specs.Session.{replies_of, session_on}
+use Rattle.jps_run.specs.Who.{replies_by}
 use Rattle.jps_run.specs.Counting.{RoseForCall, none, read, some}
-use Rattle.jps_run.specs.Heard.{WroteAll, WroteFirst, WroteLines, AnswerHeard, AnswerPending, AnswerTaken}
-use Rattle.jps_run.specs.Live.{OnLive}
+use Rattle.jps_run.specs.Heard.{Answering, WroteAll, WroteFirst, WroteLines, AnswerHeard, AnswerPending, AnswerTaken}
+use Rattle.jps_run.specs.Live.{OnLive, answers_on}
 use Rattle.jps_run.specs.Hearing.{Hears}
 use Rattle.call_files.specs.Reading.{open_stops}
 use Rattle.jps_run.specs.Works.{HasRisen, IsWhole}
@@ -25,11 +32,23 @@ use Rattle.jps_run.proofs.Opening.{as_live}
 use Rattle.line_work.proofs.Stopping.{passed, ends-on}
 
 -- what holds of the session holds of the call
-pub on-live : (call : Call) (holds : List ℕ → Held) (job : Answers) → IsListener call holds job
-    → (Such : SessionData → Show → Type 0) → Such job.session job.show → OnLive call holds Such
-on-live call holds job l Such k =
-    as_live l.on (subst (λ (show : Show). Such l.on.session show) l.on.such.1
-    (subst (λ (d : SessionData). Such d job.show) l.on.such.0 k))
+module _ (call : Call) (holds : List ℕ → Held) (job : Answers) (l : IsListener call holds job) where
+  -- its lines are those of the call
+  lines_are : lines_by job ≡ answers_on replies_by call l.on.read
+  lines_are =
+      ap (λ (d : SessionData). λ (commands : List ScriptCommand). answer_lines (replies_of d) job.show d.layers commands)
+      l.on.such.session
+      ∙ ap (λ (show : Show). λ (commands : List ScriptCommand). answer_lines (replies_by (session_by call.settings)) show
+      (layers_on call.settings l.on.read) commands) l.on.such.show
+
+  pub on-live : (Such : Answering → Type 0) → Such (lines_by job)
+      → OnLive call holds (λ m. Such (answers_on replies_by call m))
+  on-live Such k = as_live l.on (subst (λ (a : Answering). Such a) lines_are k)
+
+  -- and its session is that on the map
+  pub on-session : (Such : SessionData → Type 0) → Such job.session
+      → OnLive call holds (λ m. Such (session_on call.settings m))
+  on-session Such k = as_live l.on (subst (λ (d : SessionData). Such d) l.on.such.session k)
 
 -- a session that answers what comes in was opened behind accepted files
 pub may-hear : (call : Call) (holds : List ℕ → Held) (job : Answers) → IsListener call holds job
@@ -66,7 +85,7 @@ module _ (call : Call) (disk disk_now : Disk) (input input_now : Inflow) (out ou
       → HasServed call disk disk_now input input_now out out_now result
   work-served work w s =
       let output : (lines : List (List ℕ)) (status : ℕ) → IsWhole work lines status
-      → IsOutput call disk.holds lines status
+      → IsOutput replies_by call disk.holds lines status
       = λ lines status whole.
       record { texts = w.texts; accepted = w.accepted; answered = (w.is.right lines status whole).1 } in
       ends-on (IsAll (IsWhole work) out out_now) _ (work_stops (IsWhole work) out out_now)
@@ -103,32 +122,32 @@ module _ (call : Call) (disk disk_now : Disk) (input input_now : Inflow) (out ou
       → HasServed call disk disk_now input input_now out out_now result
   heard-served job l h =
       ends-on (λ status. (status ≡ 0)
-      × WroteAll (AnswerHeard job.session job.show input.left None) out out_now) _ _
+      × WroteAll (AnswerHeard (lines_by job) input.left None) out out_now) _ _
       (served_stops call disk disk_now input input_now out out_now) result
       (λ status e. (
         (let good : status ≡ 0 = e.0 in omega arith),
         inr (
           e.0,
-          on-live call disk.holds job l (λ d show. WroteAll (AnswerHeard d show input.left None) out
+          on-live call disk.holds job l (λ answers. WroteAll (AnswerHeard answers input.left None) out
               out_now) e.1,
         ),
       ))
       (record {
         refused = λ line w. inr
-            (on-live call disk.holds job l (λ d show. WroteAll (AnswerHeard d show input.left (Some line)) out
+            (on-live call disk.holds job l (λ answers. WroteAll (AnswerHeard answers input.left (Some line)) out
             out_now) w);
         read = λ w. inr (
           l.reads,
           w.0,
-          on-live call disk.holds job l (λ d show. WroteAll (AnswerPending d show input.left input_now.left)
+          on-live call disk.holds job l (λ answers. WroteAll (AnswerPending answers input.left input_now.left)
               out out_now) w.1,
         );
         write = λ w. (
           w.0,
           inr (on-live call disk.holds job l
-              (λ d show. WroteFirst (AnswerTaken d show input.left input_now.left) out out_now) w.1),
+              (λ answers. WroteFirst (AnswerTaken answers input.left input_now.left) out out_now) w.1),
         );
         memory = λ w. inr
             (inr (on-live call disk.holds job l
-            (λ d show. WroteLines (AnswerTaken d show input.left input_now.left) out out_now) w));
+            (λ answers. WroteLines (AnswerTaken answers input.left input_now.left) out out_now) w));
       }) h

@@ -1,27 +1,23 @@
 -- The answers to commands.
 use Rattle.std.proofs.Common.{◌≡◌, refl, sym, ap, ◌∙◌, subst, List, [], ◌∷◌, ◌++◌, ℕ, inl, inr, true, false}
-use Rattle.std.proofs.Common.{length, arith}
-use Rattle.std.specs.Prelude.{◌≢◌, ⊤, Result, Ok, Err, OnOk}
+use Rattle.std.proofs.Common.{length, suc, arith}
+use Rattle.std.specs.Prelude.{◌≢◌, Result, Ok, Err, OnOk}
 use Rattle.std.specs.List.{fold}
 use Rattle.std.proofs.lemmas.List.{append-nil}
 use Rattle.grid_moves.specs.Layers.{Layers}
-use Rattle.grid_moves.specs.declared.Ground.TheVariants.{Blocked, Land, Water}
-use Rattle.edit_replay.specs.Edited.{Edit, edit_at, edited}
+use Rattle.edit_replay.specs.Edited.{Edit, edited}
 use Rattle.edit_replay.specs.Session.{SessionData}
 use Rattle.edit_replay.specs.declared.engine.Engine.{Engine}
 use Rattle.edit_replay.proofs.Edits.{edited-nothing}
 use Rattle.script_text.specs.declared.command.ScriptCommand.{ScriptCommand}
-use Rattle.script_text.specs.declared.command.ScriptCommand.TheVariants.{Block, Free, Flood, Query}
+use Rattle.script_text.specs.declared.command.ScriptCommand.TheVariants.{Query}
 use Rattle.word_list.specs.declared.request.Show.{Show}
-use Rattle.jps_run.specs.Answers.{IsAnswerLine, AnswersAfter, edits_of, edits_with}
-use Rattle.jps_run.specs.Answering.{PutsAnswer, GoesOn, HasAnswered, IsSolved}
-use Rattle.jps_run.specs.Lines.{reply_line, edit_line}
-use Rattle.jps_run.specs.Session.{session_after, reply_to_edit, width_of}
+use Rattle.jps_run.specs.Answers.{answer_line, edits_of, edits_with, in_turn}
+use Rattle.jps_run.specs.Answering.{GoesOn, HasAnswered, IsSolved}
+use Rattle.jps_run.specs.Session.{replies_of, session_after}
 use Rattle.line_work.specs.Working.{Adds, CanComplete, IsLeft}
 use Rattle.jps_run.specs.declared.replies.answers.Answers.{Answers}
-use Rattle.jps_run.proofs.Existing.{reply_exists}
-use Rattle.jps_run.specs.Who.{who_is}
-use Rattle.line_work.proofs.Turns.{turns-more, turns-all, turns-left, fold-more}
+use Rattle.std.proofs.lemmas.List.Sums.{fold_push}
 
 -- a query leaves the session as it is
 pub query-goes-on : {T E : Type 0} (result : Result T E) (old new : SessionData) (command : ScriptCommand)
@@ -54,12 +50,26 @@ pub session-more : (d old new : SessionData) (commands : List ScriptCommand) (co
 session-more d old new commands command e on =
     after-more d old new (fold edits_with [] commands) command on e
     ∙ ap (λ (all : List Edit). session_after d all)
-    (sym (fold-more {Y = ℕ} (λ _ _ _. ⊤) edits_with [] commands command))
+    (sym (fold_push edits_with [] commands command))
+
+-- what more commands give stands behind what the first ones give
+module _ {Y : Type 0} (give : Layers → ScriptCommand → Y) (ls : Layers) where
+  pub in_turn-more : (edits : List Edit) (some others : List ScriptCommand)
+      → in_turn give ls edits (some ++ others)
+      ≡ in_turn give ls edits some ++ in_turn give ls (fold edits_with edits some) others
+  in_turn-more edits [] others = refl
+  in_turn-more edits (c ∷ some) others = ap (λ (l : List Y). give (edited ls edits) c ∷ l)
+      (in_turn-more (edits_with edits c) some others)
+
+  in_turn-count : (edits : List Edit) (commands : List ScriptCommand)
+      → length (in_turn give ls edits commands) ≡ length commands
+  in_turn-count edits [] = refl
+  in_turn-count edits (c ∷ commands) = ap (λ n. suc n) (in_turn-count (edits_with edits c) commands)
 
 -- one command more is answered
 pub answered-more : {T E : Type 0} (result : Result T E) (job now : Answers) (command : ScriptCommand)
     (before after : List ℕ) → now.show ≡ job.show
-    → OnOk result (PutsAnswer job.session job.show command before after)
+    → OnOk result (after ≡ before ++ answer_line (replies_of job.session) job.show job.session.layers command)
     → OnOk result (GoesOn job.session command now.session)
     → OnOk result ((first : Answers) (commands : List ScriptCommand) (lines : List (List ℕ))
     → HasAnswered first job commands lines
@@ -67,45 +77,38 @@ pub answered-more : {T E : Type 0} (result : Result T E) (job now : Answers) (co
 answered-more (Err error) job now command before after same p on = tt
 answered-more (Ok done) job now command before after same p on = λ first commands lines h.
     let edits : List Edit = fold edits_with [] commands in
+    let give : Layers → ScriptCommand → List ℕ = answer_line (replies_of first.session) first.show in
+    let line : List ℕ = give (edited first.session.layers edits) command in
+    let is : answer_line (replies_of job.session) job.show job.session.layers command ≡ line =
+    ap (λ (d : SessionData). answer_line (replies_of d) job.show d.layers command) h.session
+    ∙ ap (λ (show : Show). answer_line (replies_of first.session) show (edited first.session.layers edits) command)
+    h.show in
     record {
-      more = p.line ∷ [];
+      more = line ∷ [];
       stand = record {
-        answers = turns-more (AnswersAfter first.session first.show) edits_with [] commands lines command
-            p.line h.answers
-            (subst (λ (show : Show). IsAnswerLine (session_after first.session edits) show command p.line)
-            h.show (subst (λ (d : SessionData). IsAnswerLine d job.show command p.line) h.session p.answers));
+        answers = ap (λ (l : List (List ℕ)). l ++ line ∷ []) h.answers
+            ∙ sym (in_turn-more give first.session.layers [] commands (command ∷ []));
         session = session-more first.session job.session now.session commands command h.session on;
         show = same ∙ h.show;
       };
-      appended = p.appended ∙ ap (λ (l : List ℕ). before ++ l) (sym (append-nil p.line));
+      appended = p ∙ ap (λ (l : List ℕ). before ++ l) (is ∙ sym (append-nil line));
     }
 
--- every command has an answer
-pub line_exists : (d : SessionData) (show : Show) (edits : List Edit) (command : ScriptCommand)
-    → (line : List ℕ) × AnswersAfter d show edits command line
-line_exists d show edits (Block x y) =
-    (edit_line (reply_to_edit (session_after d edits) (edit_at x y Blocked)), refl)
-line_exists d show edits (Free x y) =
-    (edit_line (reply_to_edit (session_after d edits) (edit_at x y Land)), refl)
-line_exists d show edits (Flood x y) =
-    (edit_line (reply_to_edit (session_after d edits) (edit_at x y Water)), refl)
-line_exists d show edits (Query sx sy gx gy) =
-    let r = reply_exists (who_is (session_after d edits)) (record { x = sx; y = sy }) (record { x = gx; y = gy }) in
-    let line : List ℕ = reply_line (width_of (session_after d edits)) show r.0 in
-    (line, record { reply = r.0; is_reply = r.1; shown = refl })
-
--- so the first answers can be completed, with a line for each command that is left
+-- the first answers can be completed, with a line for each command that is left
 pub answers-complete : CanComplete HasAnswered IsSolved false
 answers-complete first now some others lines h =
-    let all = turns-all (AnswersAfter first.session first.show) edits_with
-    (line_exists first.session first.show) [] some others lines h.answers in
+    let give : Layers → ScriptCommand → List ℕ = answer_line (replies_of first.session) first.show in
+    let edits : List Edit = fold edits_with [] some in
+    let more : List (List ℕ) = in_turn give first.session.layers edits others in
     record {
-      more = all.0;
+      more = more;
       status = 0;
-      whole = record { answers = all.1; good = refl };
-      some = λ left. left-over others all.0 left
-          (turns-left (AnswersAfter first.session first.show) edits_with [] some others lines all.0
-          h.answers all.1);
+      whole = record {
+        all = ap (λ (l : List (List ℕ)). l ++ more) h.answers
+            ∙ sym (in_turn-more give first.session.layers [] some others);
+        code = refl;
+      };
+      some = λ left. left-over others more left (in_turn-count give first.session.layers edits others);
     }
   where
     left-over : (others : List ScriptCommand) (more : List (List ℕ)) → IsLeft false others
@@ -120,4 +123,4 @@ nothing_edited d = same_session d d.engine (edited d.layers []) refl (sym (edite
 
 -- nothing is answered yet
 pub answered-none : (job : Answers) → HasAnswered job job [] []
-answered-none job = record { answers = tt; session = nothing_edited job.session; show = refl }
+answered-none job = record { answers = refl; session = nothing_edited job.session; show = refl }

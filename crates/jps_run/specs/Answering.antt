@@ -1,5 +1,5 @@
 -- How far the answers to commands have come.
-use Rattle.std.specs.Prelude.{◌≡◌, ℕ, List, [], ◌++◌}
+use Rattle.std.specs.Prelude.{◌≡◌, ℕ, List, []}
 use Rattle.std.specs.List.{fold}
 use Rattle.grid_moves.specs.Layers.{Layers}
 use Rattle.map_text.specs.Map.{Map}
@@ -8,9 +8,10 @@ use Rattle.edit_replay.specs.Session.{SessionData}
 use Rattle.script_text.specs.declared.command.ScriptCommand.{ScriptCommand}
 use Rattle.word_list.specs.declared.request.Settings.{Settings}
 use Rattle.word_list.specs.declared.request.Show.{Show}
-use Rattle.jps_run.specs.Answers.{IsAnswerLine, AreAnswers, edits_with}
+use Rattle.jps_run.specs.Answers.{answer_lines, edits_with, solve_output}
+use Rattle.jps_run.specs.Parts.{Is}
 use Rattle.jps_run.specs.Rising.{RoseForCommands}
-use Rattle.jps_run.specs.Session.{IsSessionOn, session_after}
+use Rattle.jps_run.specs.Session.{IsSessionOn, replies_of, session_after}
 use Rattle.jps_run.specs.declared.replies.answers.Answers.{Answers}
 
 -- the session on a map answers, and shows what the settings ask for
@@ -18,12 +19,9 @@ pub record AreAnswersOn (set : Settings) (m : Map) (job : Answers) : Type 0 wher
   pub session : IsSessionOn set m job.session
   pub show : job.show ≡ set.show
 
--- a line that answers the command was appended
-pub record PutsAnswer (d : SessionData) (show : Show) (command : ScriptCommand) (before now : List ℕ)
-    : Type 0 where
-  pub line : List ℕ
-  pub answers : IsAnswerLine d show command line
-  pub appended : now ≡ before ++ line
+-- the lines that answer commands by this job
+abbrev pub lines_by : Answers → List ScriptCommand → List (List ℕ)
+lines_by job commands = answer_lines (replies_of job.session) job.show job.session.layers commands
 
 -- the session goes on with the edits of the command
 pub record GoesOn (old : SessionData) (command : ScriptCommand) (new : SessionData) : Type 0 where
@@ -39,12 +37,11 @@ pub record HaveCounted (first now : Answers) (commands : List ScriptCommand) (ol
 -- the commands have these lines, and their edits were made
 pub record HasAnswered (first now : Answers) (commands : List ScriptCommand) (lines : List (List ℕ))
     : Type 0 where
-  pub answers : AreAnswers first.session first.show commands lines
+  pub answers : lines ≡ lines_by first commands
   pub session : now.session ≡ session_after first.session (fold edits_with [] commands)
   pub show : now.show ≡ first.show
 
 -- one line answers each command, with status 0
-pub record IsSolved (first : Answers) (commands : List ScriptCommand) (lines : List (List ℕ)) (status : ℕ)
-    : Type 0 where
-  pub answers : AreAnswers first.session first.show commands lines
-  pub good : status ≡ 0
+abbrev pub IsSolved : Answers → List ScriptCommand → List (List ℕ) → ℕ → Type 0
+IsSolved first commands =
+    Is (solve_output (replies_of first.session) first.show first.session.layers commands)

@@ -1,17 +1,15 @@
 -- The lines that answer commands.
-use Rattle.std.specs.Prelude.{◌≡◌, ℕ, List, [], ◌∷◌, ◌++◌}
+use Rattle.std.specs.Prelude.{ℕ, List, [], ◌∷◌, ◌++◌}
 use Rattle.grid_moves.specs.declared.Cell.{Cell}
 use Rattle.grid_moves.specs.declared.Ground.TheVariants.{Blocked, Land, Water}
-use Rattle.edit_replay.specs.Edited.{Edit, edit_at}
-use Rattle.edit_replay.specs.Session.{SessionData}
-use Rattle.edit_replay.specs.declared.reply.Reply.{Reply}
+use Rattle.grid_moves.specs.Layers.{Layers}
+use Rattle.edit_replay.specs.Edited.{Edit, edit_at, edit_reply, edited}
 use Rattle.script_text.specs.declared.command.ScriptCommand.{ScriptCommand}
 use Rattle.script_text.specs.declared.command.ScriptCommand.TheVariants.{Block, Free, Flood, Query}
 use Rattle.word_list.specs.declared.request.Show.{Show}
 use Rattle.jps_run.specs.Lines.{reply_line, edit_line}
-use Rattle.jps_run.specs.Session.{session_after, reply_to_edit}
-use Rattle.line_work.specs.Turns.{AreInTurn}
-use Rattle.jps_run.specs.Who.{Who, who_is, IsReplyBy}
+use Rattle.jps_run.specs.Parts.{Output}
+use Rattle.jps_run.specs.Replies.{Replies}
 
 -- the edits that a command makes
 abbrev pub edits_of : ScriptCommand → List Edit
@@ -20,28 +18,33 @@ edits_of (Free x y) = edit_at x y Land ∷ []
 edits_of (Flood x y) = edit_at x y Water ∷ []
 edits_of (Query sx sy gx gy) = []
 
--- the line is that of a right reply to the query, which is come to as the one who answers does
-pub record IsReplyLine (who : Who) (show : Show) (s t : Cell) (line : List ℕ) : Type 0 where
-  pub reply : Reply
-  pub is_reply : IsReplyBy who s t reply
-  pub shown : line ≡ reply_line who.layers.land.width show reply
-
--- the line answers the command
-abbrev pub IsAnswerLine : SessionData → Show → ScriptCommand → List ℕ → Type 0
-IsAnswerLine d show (Block x y) line = line ≡ edit_line (reply_to_edit d (edit_at x y Blocked))
-IsAnswerLine d show (Free x y) line = line ≡ edit_line (reply_to_edit d (edit_at x y Land))
-IsAnswerLine d show (Flood x y) line = line ≡ edit_line (reply_to_edit d (edit_at x y Water))
-IsAnswerLine d show (Query sx sy gx gy) line =
-    IsReplyLine (who_is d) show (record { x = sx; y = sy }) (record { x = gx; y = gy }) line
-
--- the line answers the command on the map's session as these edits leave it
-abbrev pub AnswersAfter : SessionData → Show → List Edit → ScriptCommand → List ℕ → Type 0
-AnswersAfter d show edits command line = IsAnswerLine (session_after d edits) show command line
-
 -- these edits, and then those of the command
 abbrev pub edits_with : List Edit → ScriptCommand → List Edit
 edits_with edits command = edits ++ edits_of command
 
--- one line answers each command, on the map's session as the edits before the command leave it
-abbrev pub AreAnswers : SessionData → Show → List ScriptCommand → List (List ℕ) → Type 0
-AreAnswers d show commands lines = AreInTurn (AnswersAfter d show) edits_with [] commands lines
+-- what each command gives on the grids as the edits before it leave them
+abbrev pub in_turn : {Y : Type 0} → (Layers → ScriptCommand → Y) → Layers → List Edit → List ScriptCommand
+    → List Y
+in_turn give ls edits [] = []
+in_turn give ls edits (command ∷ commands) =
+    give (edited ls edits) command ∷ in_turn give ls (edits_with edits command) commands
+
+-- the line of the reply to a query
+abbrev pub query_line : Replies → Show → Layers → Cell → Cell → List ℕ
+query_line replies show ls s t = reply_line ls.land.width show (replies ls s t)
+
+-- the line that answers a command
+abbrev pub answer_line : Replies → Show → Layers → ScriptCommand → List ℕ
+answer_line replies show ls (Block x y) = edit_line (edit_reply ls (edit_at x y Blocked))
+answer_line replies show ls (Free x y) = edit_line (edit_reply ls (edit_at x y Land))
+answer_line replies show ls (Flood x y) = edit_line (edit_reply ls (edit_at x y Water))
+answer_line replies show ls (Query sx sy gx gy) =
+    query_line replies show ls (record { x = sx; y = sy }) (record { x = gx; y = gy })
+
+-- one line for each command, on the grids as the edits before it leave them
+abbrev pub answer_lines : Replies → Show → Layers → List ScriptCommand → List (List ℕ)
+answer_lines replies show ls commands = in_turn (answer_line replies show) ls [] commands
+
+-- what is printed for commands, and the status
+abbrev pub solve_output : Replies → Show → Layers → List ScriptCommand → Output
+solve_output replies show ls commands = record { lines = answer_lines replies show ls commands; status = 0 }

@@ -1,10 +1,10 @@
 -- What the commands of a drill come to, and the line that sums it up.
-use Rattle.std.specs.Prelude.{◌≡◌, ℕ, ◌+◌, ◌<◌, ◌^◌, Bool, true, false, ⊤, List, [], ◌++◌, codes, decimal}
+use Rattle.std.specs.Prelude.{ℕ, ◌+◌, ◌<◌, ◌^◌, Bool, true, false, ⊤, List, [], ◌++◌, codes, decimal}
 use Rattle.std.specs.Prelude.{count_by}
 use Rattle.std.specs.List.{sum_by}
 use Rattle.grid_moves.specs.declared.Cell.{Cell}
-use Rattle.edit_replay.specs.Edited.{Edit, edit_at}
-use Rattle.edit_replay.specs.Session.{SessionData}
+use Rattle.grid_moves.specs.Layers.{Layers}
+use Rattle.edit_replay.specs.Edited.{edit_at, edit_reply}
 use Rattle.edit_replay.specs.declared.reply.EditReply.{EditReply}
 use Rattle.edit_replay.specs.declared.reply.EditReply.TheVariants as edit
 use Rattle.edit_replay.specs.declared.reply.Reply.{Reply}
@@ -15,9 +15,9 @@ use Rattle.map_maker.specs.Making.{made_map}
 use Rattle.script_text.specs.declared.command.ScriptCommand.{ScriptCommand}
 use Rattle.script_text.specs.declared.command.ScriptCommand.TheVariants.{Block, Free, Flood, Query}
 use Rattle.word_list.specs.declared.request.Settings.{Settings}
-use Rattle.jps_run.specs.Answers.{edits_with}
-use Rattle.jps_run.specs.Session.{IsReply, OnSession, reply_to_edit, session_after}
-use Rattle.line_work.specs.Turns.{AreInTurn}
+use Rattle.call_files.specs.Layered.{layers_on}
+use Rattle.jps_run.specs.Answers.{in_turn}
+use Rattle.jps_run.specs.Replies.{Replies}
 use Rattle.jps_run.specs.declared.replies.findings.Finding.{Finding}
 use Rattle.jps_run.specs.declared.replies.findings.Finding.TheVariants as finding
 
@@ -34,27 +34,17 @@ finding_of_edit edit.Done = finding.Done
 finding_of_edit edit.Same = finding.Same
 finding_of_edit edit.Outside = finding.Outside
 
--- a query comes to this by a right reply
-pub record IsQueried (d : SessionData) (s t : Cell) (found : Finding) : Type 0 where
-  pub reply : Reply
-  pub is_reply : IsReply d s t reply
-  pub is : found ≡ finding_of reply
+-- what a command comes to
+abbrev pub finding_on : Replies → Layers → ScriptCommand → Finding
+finding_on replies ls (Block x y) = finding_of_edit (edit_reply ls (edit_at x y Blocked))
+finding_on replies ls (Free x y) = finding_of_edit (edit_reply ls (edit_at x y Land))
+finding_on replies ls (Flood x y) = finding_of_edit (edit_reply ls (edit_at x y Water))
+finding_on replies ls (Query sx sy gx gy) =
+    finding_of (replies ls (record { x = sx; y = sy }) (record { x = gx; y = gy }))
 
--- the command comes to this
-abbrev pub IsFinding : SessionData → ScriptCommand → Finding → Type 0
-IsFinding d (Block x y) found = found ≡ finding_of_edit (reply_to_edit d (edit_at x y Blocked))
-IsFinding d (Free x y) found = found ≡ finding_of_edit (reply_to_edit d (edit_at x y Land))
-IsFinding d (Flood x y) found = found ≡ finding_of_edit (reply_to_edit d (edit_at x y Water))
-IsFinding d (Query sx sy gx gy) found =
-    IsQueried d (record { x = sx; y = sy }) (record { x = gx; y = gy }) found
-
--- the command comes to this on the map's session as these edits leave it
-abbrev pub FindsAfter : SessionData → List Edit → ScriptCommand → Finding → Type 0
-FindsAfter d edits command found = IsFinding (session_after d edits) command found
-
--- each command comes to one of these, on the map's session as the edits before the command leave it
-abbrev pub AreFindings : SessionData → List ScriptCommand → List Finding → Type 0
-AreFindings d commands found = AreInTurn (FindsAfter d) edits_with [] commands found
+-- what each command comes to, on the grids as the edits before it leave them
+abbrev pub findings_of : Replies → Layers → List ScriptCommand → List Finding
+findings_of replies ls commands = in_turn (finding_on replies) ls [] commands
 
 abbrev pub is_walk : Finding → Bool
 is_walk (finding.Walk cost) = true
@@ -115,7 +105,6 @@ drill_line found =
     ++ edits_text (count_by is_done found) (count_by is_same found)
     ++ costs_text (sum_by straight_in found) (sum_by diagonal_in found)
 
--- the commands of the seed come to these, on the map of the seed: 256 by 256, a quarter of it blocked
-abbrev pub AreDrilled : Settings → ℕ → List Finding → Type 0
-AreDrilled set seed found =
-    OnSession set (made_map seed 256 256 25) (λ d. AreFindings d (drill_commands seed) found)
+-- what the commands of the seed come to, on the map of the seed: 256 by 256, a quarter of it blocked
+abbrev pub drilled : Replies → Settings → ℕ → List Finding
+drilled replies set seed = findings_of replies (layers_on set (made_map seed 256 256 25)) (drill_commands seed)

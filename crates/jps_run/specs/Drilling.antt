@@ -1,12 +1,13 @@
 -- How far a drill has come.
-use Rattle.std.specs.Prelude.{◌≡◌, ℕ, ◌+◌, ◌<◌, ◌≤◌, ◌^◌, List, [], ◌∷◌, ◌++◌, length, count_by}
+use Rattle.std.specs.Prelude.{◌≡◌, ℕ, ◌+◌, ◌<◌, ◌≤◌, ◌^◌, List, [], ◌++◌, length, count_by}
 use Rattle.std.specs.List.{All, fold, sum_by}
 use Rattle.script_text.specs.declared.command.ScriptCommand.{ScriptCommand}
 use Rattle.jps_run.specs.Answers.{edits_with}
+use Rattle.jps_run.specs.Parts.{Is, printed}
 use Rattle.jps_run.specs.Rising.{RoseForCommands}
-use Rattle.jps_run.specs.Drill.{AreFindings, IsShortFinding, drill_line, queries_text, edits_text, costs_text}
+use Rattle.jps_run.specs.Drill.{IsShortFinding, drill_line, findings_of, queries_text, edits_text, costs_text}
 use Rattle.jps_run.specs.Drill.{is_walk, is_none, is_blocked, is_done, is_same, straight_in, diagonal_in}
-use Rattle.jps_run.specs.Session.{session_after}
+use Rattle.jps_run.specs.Session.{replies_of, session_after}
 use Rattle.jps_run.specs.declared.replies.findings.Summary.{Summary}
 use Rattle.jps_run.specs.declared.replies.findings.Finding.{Finding}
 use Rattle.jps_run.specs.declared.replies.findings.Sums.{Sums}
@@ -46,13 +47,15 @@ pub record LeavesRoom (job : Summary) (more : ℕ) : Type 0 where
   pub short : All IsShortFinding found
   pub few : length found + more ≤ 2 ^ 32
 
+-- what commands come to by this job
+abbrev pub findings_by : Summary → List ScriptCommand → List Finding
+findings_by job commands = findings_of (replies_of job.session) job.session.layers commands
+
 -- the commands came to findings with these sums, and their edits were made; no line is written before the
 -- sums
 pub record HasDrilled (first now : Summary) (commands : List ScriptCommand) (lines : List (List ℕ))
     : Type 0 where
-  pub found : List Finding
-  pub are : AreFindings first.session commands found
-  pub summed : now.sums ≡ sums_of found
+  pub summed : now.sums ≡ sums_of (findings_by first commands)
   pub session : now.session ≡ session_after first.session (fold edits_with [] commands)
   pub none : lines ≡ []
 
@@ -62,9 +65,5 @@ pub record HaveCounted (first now : Summary) (commands : List ScriptCommand) (ol
   pub session : now.session ≡ session_after first.session (fold edits_with [] commands)
 
 -- one line sums up what the commands come to, with status 0
-pub record IsDrilled (first : Summary) (commands : List ScriptCommand) (lines : List (List ℕ))
-    (status : ℕ) : Type 0 where
-  pub found : List Finding
-  pub are : AreFindings first.session commands found
-  pub all : lines ≡ drill_line found ∷ []
-  pub good : status ≡ 0
+abbrev pub IsDrilled : Summary → List ScriptCommand → List (List ℕ) → ℕ → Type 0
+IsDrilled first commands = Is (printed (drill_line (findings_by first commands)) 0)

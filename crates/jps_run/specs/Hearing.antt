@@ -11,8 +11,7 @@ use Rattle.script_text.specs.declared.feeder.LineFeeder.{LineFeeder}
 use Rattle.script_text.specs.Fed.{HasTaken}
 use Rattle.script_text.specs.Feeding.{commands_so_far, commands_of, fault_so_far, fault_of}
 use Rattle.script_text.specs.Feeding as feeding
-use Rattle.jps_run.specs.Answering.{HasAnswered, IsSolved}
-use Rattle.jps_run.specs.Answers.{AreAnswers}
+use Rattle.jps_run.specs.Answering.{HasAnswered, IsSolved, lines_by}
 use Rattle.call_files.specs.FaultLines.{script_line}
 use Rattle.jps_run.specs.Heard.{AnswerHeard, AnswerTaken, AnswerPending, WroteAll, WroteFirst, WroteLines}
 use Rattle.io_edge.specs.Known.{Inflow, Outflow}
@@ -41,7 +40,7 @@ known_stops first new all fault before now = record {
   Refused = λ line. (option_map script_line fault ≡ Some line) × HasWritten first new all before now;
   Read = ⊥;
   Write = Rose before.faults now.faults × IsPart (IsSolved first all) before now;
-  Memory = WroteLines (AreAnswers first.session first.show all) before now;
+  Memory = WroteLines (λ lines. lines ≡ lines_by first all) before now;
 }
 
 -- all known commands were answered, and no fault is known; or that stops
@@ -102,18 +101,18 @@ pub record IsHearing (first now : Answers) (feeder : LineFeeder) (input input_no
 -- what is known where it stops
 abbrev pub hear_stops : Answers → Inflow → Inflow → Outflow → Outflow → Stops
 hear_stops first input input_now before now = record {
-  Refused = λ line. WroteAll (AnswerHeard first.session first.show input.left (Some line)) before now;
+  Refused = λ line. WroteAll (AnswerHeard (lines_by first) input.left (Some line)) before now;
   Read = Rose input.faults input_now.faults
-      × WroteAll (AnswerPending first.session first.show input.left input_now.left) before now;
+      × WroteAll (AnswerPending (lines_by first) input.left input_now.left) before now;
   Write = Rose before.faults now.faults
-      × WroteFirst (AnswerTaken first.session first.show input.left input_now.left) before now;
-  Memory = WroteLines (AnswerTaken first.session first.show input.left input_now.left) before now;
+      × WroteFirst (AnswerTaken (lines_by first) input.left input_now.left) before now;
+  Memory = WroteLines (AnswerTaken (lines_by first) input.left input_now.left) before now;
 }
 
 -- all that came in is answered, with this status
 abbrev pub AllIsHeard : Answers → Inflow → Outflow → Outflow → ℕ → Type 0
 AllIsHeard first input before now status =
-    (status ≡ 0) × WroteAll (AnswerHeard first.session first.show input.left None) before now
+    (status ≡ 0) × WroteAll (AnswerHeard (lines_by first) input.left None) before now
 
 -- all that came in is answered, or that stops
 abbrev pub Hears : Answers → Inflow → Inflow → Outflow → Outflow → Result ℕ Stop → Type 0

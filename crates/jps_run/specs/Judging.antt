@@ -2,8 +2,9 @@
 use Rattle.std.specs.Prelude.{◌≡◌, ℕ, ◌+◌, ◌^◌, ◌<◌, ◌≤◌, ◌++◌, List, [], length, count_by, codes, decimal}
 use Rattle.scen_text.specs.declared.entry.Entry.{Entry}
 use Rattle.call_files.specs.Reading.{AreFit}
-use Rattle.jps_run.specs.Rulings.{AreRulings, is_accepted, is_refused, is_unjudged, judge_lines, judge_status}
-use Rattle.jps_run.specs.Rulings.{ruling_lines}
+use Rattle.jps_run.specs.Parts.{Is}
+use Rattle.jps_run.specs.Rulings.{is_accepted, is_refused, is_unjudged, judge_output}
+use Rattle.jps_run.specs.Rulings.{ruling_lines, rulings_of}
 use Rattle.jps_run.specs.declared.replies.judge.Judge.{Judge}
 use Rattle.jps_run.specs.declared.replies.ruling.Counts.{Counts}
 use Rattle.jps_run.specs.declared.replies.ruling.Ruling.{Ruling}
@@ -31,13 +32,15 @@ sum_text counts =
     ++ codes " other " ++ decimal counts.other
     ++ codes "\n"
 
+-- the rows of entries by this job
+abbrev pub rulings_by : Judge → List Entry → List Ruling
+rulings_by job entries = rulings_of job.costs entries job.walks.items
+
 -- the entries have their rows with these lines, and the rows are counted
 pub record HasJudged (first now : Judge) (entries : List Entry) (lines : List (List ℕ)) : Type 0 where
-  pub rulings : List Ruling
-  pub are : AreRulings first.costs entries first.walks.items rulings
-  pub all : lines ≡ ruling_lines 1 rulings
-  pub as_many : length rulings ≡ length entries
-  pub counted : now.counts ≡ counts_of rulings
+  pub all : lines ≡ ruling_lines 1 (rulings_by first entries)
+  pub as_many : length (rulings_by first entries) ≡ length entries
+  pub counted : now.counts ≡ counts_of (rulings_by first entries)
   pub same : now.costs ≡ first.costs
   pub claimed : now.walks ≡ first.walks
 
@@ -55,9 +58,5 @@ pub record CanGoOn (job : Judge) (more : ℕ) : Type 0 where
   pub few : job.counts.rows + more < 2 ^ 64
 
 -- the lines are a row for each entry and the sum, and the status is that of the rows
-pub record IsJudged (first : Judge) (entries : List Entry) (lines : List (List ℕ))
-    (status : ℕ) : Type 0 where
-  pub rulings : List Ruling
-  pub are : AreRulings first.costs entries first.walks.items rulings
-  pub all : lines ≡ judge_lines rulings
-  pub same_status : status ≡ judge_status rulings
+abbrev pub IsJudged : Judge → List Entry → List (List ℕ) → ℕ → Type 0
+IsJudged first entries = Is (judge_output first.costs entries first.walks.items)

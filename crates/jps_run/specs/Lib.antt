@@ -1,3 +1,4 @@
+pub mod Replies
 pub mod Who
 pub mod Session
 pub mod Answerers

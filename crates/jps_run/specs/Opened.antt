@@ -1,17 +1,20 @@
 -- What a call is opened as: the work that is left to be done once its files are read. No public clause cites
 -- this module.
-use Rattle.std.specs.Prelude.{◌≡◌, ℕ, ◌≤◌, ◌⊎◌, true, false, List, [], Result, Ok, Err}
+use Rattle.std.specs.Prelude.{◌≡◌, ℕ, ◌≤◌, ◌⊎◌, true, false, List, [], Result, Ok, Err, Some}
 use Rattle.io_edge.specs.Known.{Disk, Held}
 use Rattle.word_list.specs.Request.{Call}
 use Rattle.call_files.specs.Files.{AreAccepted}
 use Rattle.jps_run.specs.Live.{OnLive}
-use Rattle.jps_run.specs.Calls.{IsAnswered, RoseFor, files_of, reads_input, searches}
+use Rattle.jps_run.specs.Calls.{files_of, output_of, reads_input}
+use Rattle.jps_run.specs.Counting.{RoseFor, searches}
 use Rattle.call_files.specs.Reading.{open_stops}
 use Rattle.line_work.specs.Stops.{EndsOrStops}
 use Rattle.jps_run.specs.declared.replies.answers.Answers.{Answers}
 use Rattle.line_work.specs.declared.stop.Stop.{Stop}
 use Rattle.jps_run.specs.declared.commands.Opened.{Opened}
 use Rattle.jps_run.specs.declared.commands.Opened.TheVariants as opened
+use Rattle.jps_run.specs.Answering.{AreAnswersOn}
+use Rattle.jps_run.specs.Who.{replies_by}
 use Rattle.jps_run.specs.Works.{CanPerform, HasRisen, IsWhole}
 use Rattle.jps_run.specs.declared.work.Work.{Work}
 
@@ -23,7 +26,7 @@ IsCounted call texts old new = (searches call.request.command ≡ false) ⊎ Ros
 pub record IsWorkOf (call : Call) (texts : List (List ℕ)) (work : Work) : Type 0 where
   pub can : CanPerform work
   pub right : (lines : List (List ℕ)) (status : ℕ) → IsWhole work lines status
-      → (status ≤ 1) × IsAnswered call texts lines status
+      → (status ≤ 1) × (output_of replies_by call texts ≡ Some (record { lines = lines; status = status }))
   pub counted : (old new : ℕ) → HasRisen work old new → IsCounted call texts old new
 
 -- so it is, and the files hold these texts
@@ -35,7 +38,7 @@ pub record IsWorkOn (call : Call) (holds : List ℕ → Held) (work : Work) : Ty
 -- a session that answers what comes in, as the call asks
 pub record IsListener (call : Call) (holds : List ℕ → Held) (job : Answers) : Type 0 where
   pub reads : reads_input call.request.command ≡ true
-  pub on : OnLive call holds (λ d show. (job.session ≡ d) × (job.show ≡ show))
+  pub on : OnLive call holds (λ m. AreAnswersOn call.settings m job)
 
 -- the call was opened as this
 abbrev pub IsOpenedAs : Call → (List ℕ → Held) → Opened → Type 0

@@ -1,58 +1,35 @@
--- What an answer is said of: the texts of a call's files, what these are read as, and the lines.
-use Rattle.std.specs.Prelude.{◌≡◌, ℕ, List, [], ◌∷◌, ◌++◌, Ok}
+-- What an answer is made of: the texts of a call's files, and what these are read as.
+use Rattle.std.specs.Prelude.{◌≡◌, ℕ, List, [], ◌∷◌, Ok, Err, Option, Some, None}
 use Rattle.std.specs.declared.result.Result.{Result}
 use Rattle.map_text.specs.Map.{Map}
 use Rattle.map_text.specs.Faults.{map_of}
 
--- the first of the texts is that of a map, and of the map and the texts behind it this holds
-pub record OnMap (texts : List (List ℕ)) (Such : Map → List (List ℕ) → Type 0) : Type 0 where
-  pub text : List ℕ
-  pub behind : List (List ℕ)
-  pub map : Map
-  pub is : texts ≡ text ∷ behind
-  pub read : map_of text ≡ Ok map
-  pub such : Such map behind
+-- what is printed, line by line, and the status
+pub record Output : Type 0 where
+  pub lines : List (List ℕ)
+  pub status : ℕ
 
--- of the last of the texts this holds
-pub record OnLast (texts : List (List ℕ)) (Such : List ℕ → Type 0) : Type 0 where
-  pub before : List (List ℕ)
-  pub last : List ℕ
-  pub is : texts ≡ before ++ last ∷ []
-  pub such : Such last
+-- one text with a status
+abbrev pub printed : List ℕ → ℕ → Output
+printed text status = record { lines = text ∷ []; status = status }
 
--- there is one text, or one line, of which this holds
-pub record One (all : List (List ℕ)) (Such : List ℕ → Type 0) : Type 0 where
-  pub one : List ℕ
-  pub is : all ≡ one ∷ []
-  pub such : Such one
+-- these lines and this status are the output
+pub record Is (output : Output) (lines : List (List ℕ)) (status : ℕ) : Type 0 where
+  pub all : lines ≡ output.lines
+  pub code : status ≡ output.status
 
--- a text is read as a value, of which this holds
-pub record Reads {V F : Type 0} (read : Result V F) (Such : V → Type 0) : Type 0 where
-  pub value : V
-  pub is : read ≡ Ok value
-  pub such : Such value
+-- what is made of a value, where there is one
+abbrev pub on_read : {V F X : Type 0} → Result V F → (V → Option X) → Option X
+on_read (Ok value) make = make value
+on_read (Err fault) make = None
 
--- the lines and the status are made so of something of which this holds
-pub record MadeOf {X : Type 0} (lines : List (List ℕ)) (status : ℕ) (lines_of : X → List (List ℕ))
-    (status_of : X → ℕ) (Such : X → Type 0) : Type 0 where
-  pub from : X
-  pub all : lines ≡ lines_of from
-  pub code : status ≡ status_of from
-  pub such : Such from
+-- what is made of the map that the first text spells, and of the texts behind it
+abbrev pub on_map : {X : Type 0} → List (List ℕ) → (Map → List (List ℕ) → Option X) → Option X
+on_map [] make = None
+on_map (text ∷ behind) make = on_read (map_of text) (λ m. make m behind)
 
--- there is no file, and this text is printed, with status 0
-pub record Says (text : List ℕ) (texts lines : List (List ℕ)) (status : ℕ) : Type 0 where
-  pub none : texts ≡ []
-  pub all : lines ≡ text ∷ []
-  pub good : status ≡ 0
-
--- the only text is that of a map, and one text is printed of it, of which with its status this holds
-pub record Prints (texts lines : List (List ℕ)) (status : ℕ) (Such : Map → List ℕ → ℕ → Type 0)
-    : Type 0 where
-  pub text : List ℕ
-  pub map : Map
-  pub is : texts ≡ text ∷ []
-  pub read : map_of text ≡ Ok map
-  pub printed : List ℕ
-  pub all : lines ≡ printed ∷ []
-  pub such : Such map printed status
+-- what is made of the last text
+abbrev pub on_last : {X : Type 0} → List (List ℕ) → (List ℕ → Option X) → Option X
+on_last [] make = None
+on_last (text ∷ []) make = make text
+on_last (text ∷ next ∷ behind) make = on_last (next ∷ behind) make

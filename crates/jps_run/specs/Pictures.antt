@@ -1,16 +1,18 @@
 -- What `draw` prints.
-use Rattle.std.specs.Prelude.{◌≡◌, ℕ, List, [], ◌∷◌, codes, Option, Some, None}
+use Rattle.std.specs.Prelude.{◌≡◌, ℕ, List, codes, Option, Some, None}
 use Rattle.grid_moves.specs.declared.Cell.{Cell}
 use Rattle.map_text.specs.Map.{Map}
 use Rattle.map_text.specs.Faults.{plain}
-use Rattle.edit_replay.specs.Session.{SessionData}
 use Rattle.edit_replay.specs.declared.reply.Reply.{Reply}
 use Rattle.edit_replay.specs.declared.reply.Reply.TheVariants as reply
 use Rattle.picture.specs.Picture.{picture_of}
 use Rattle.word_list.specs.declared.request.Settings.{Settings}
 use Rattle.word_list.specs.declared.request.Show.{Show}
 use Rattle.word_list.specs.declared.request.Show.TheVariants.{Points, Cells, Trace, Taken}
-use Rattle.jps_run.specs.Session.{IsReply, IsSessionOn}
+use Rattle.grid_moves.specs.Layers.{Layers}
+use Rattle.jps_run.specs.Parts.{Is, Output, printed}
+use Rattle.jps_run.specs.Replies.{Replies}
+use Rattle.jps_run.specs.Session.{IsSessionOn, replies_of}
 use Rattle.jps_run.specs.declared.replies.drawing.Canvas.{Canvas}
 
 -- the states that a search took, where a picture shows them
@@ -35,21 +37,15 @@ drawing_status reply.Blocked = 1
 drawing_status (reply.None taken) = 0
 drawing_status (reply.Walk points cost taken) = 0
 
--- the text and the status are those of a right reply to the query, which is that of the run of the session's
--- engine
-pub record IsDrawing (d : SessionData) (m : Map) (s t : Cell) (show : Show) (text : List ℕ) (status : ℕ)
-    : Type 0 where
-  pub reply : Reply
-  pub is_reply : IsReply d s t reply
-  pub drawn : text ≡ drawing_of m s t show reply
-  pub same_status : status ≡ drawing_status reply
+-- what is drawn of a query from s to t, and the status
+abbrev pub drawing : Replies → Show → Map → Layers → Cell → Cell → Output
+drawing replies show m ls s t =
+    printed (drawing_of m s t show (replies ls s t)) (drawing_status (replies ls s t))
 
--- the whole output is such a text
-pub record IsPictured (canvas : Canvas) (s t : Cell) (show : Show) (lines : List (List ℕ)) (status : ℕ)
-    : Type 0 where
-  pub text : List ℕ
-  pub is : IsDrawing canvas.session (plain canvas.map) s t show text status
-  pub all : lines ≡ text ∷ []
+-- the lines and the status are those of a drawing
+abbrev pub IsPictured : Canvas → Cell → Cell → Show → List (List ℕ) → ℕ → Type 0
+IsPictured canvas s t show =
+    Is (drawing (replies_of canvas.session) show (plain canvas.map) canvas.session.layers s t)
 
 -- a map, and the session on it, as the settings ask
 abbrev pub IsCanvasOf : Settings → Map → Canvas → Type 0

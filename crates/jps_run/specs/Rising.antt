@@ -6,23 +6,19 @@ use Rattle.edit_replay.specs.Counting.{RoseByStates, RoseWithin}
 use Rattle.edit_replay.specs.Edited.{Edit}
 use Rattle.edit_replay.specs.Mended.{IsEditCounted}
 use Rattle.edit_replay.specs.Session.{SessionData}
-use Rattle.edit_replay.specs.declared.reply.Reply.{Reply}
 use Rattle.scen_text.specs.declared.entry.Entry.{Entry}
 use Rattle.script_text.specs.declared.command.ScriptCommand.{ScriptCommand}
 use Rattle.script_text.specs.declared.command.ScriptCommand.TheVariants as command
 use Rattle.jps_run.specs.Answers.{edits_with}
-use Rattle.jps_run.specs.Rows.{has_sides}
+use Rattle.jps_run.specs.Rows.{goal_of, has_sides, start_of}
 use Rattle.jps_run.specs.Session.{session_after}
-use Rattle.jps_run.specs.Who.{Who, IsReplyBy, fewest_by, most_by, who_is}
+use Rattle.jps_run.specs.Who.{Who, fewest_by, most_by, reply_to, who_is}
 
--- the counter rose for what comes to a right reply to the query: by at least the fewest steps for each state
--- that is taken away from the goal, and, where a most is known, by no more than that for each state that is
--- taken
+-- the counter rose for the reply to the query: by at least the fewest steps for each state that is taken away
+-- from the goal, and, where a most is known, by no more than that for each state that is taken
 pub record RoseForQuery (who : Who) (s t : Cell) (old new : ℕ) : Type 0 where
-  pub reply : Reply
-  pub is_reply : IsReplyBy who s t reply
-  pub fewest : RoseByStates (fewest_by who.by) old new reply
-  pub most : RoseWithin (most_by who.by) old new reply
+  pub fewest : RoseByStates (fewest_by who.by) old new (reply_to who s t)
+  pub most : RoseWithin (most_by who.by) old new (reply_to who s t)
 
 -- it rose for each item in turn, as the item makes it where the earlier ones lead
 abbrev pub RoseInTurn : {S X : Type 0} → (S → X → ℕ → ℕ → Type 0) → (S → X → S) → S → List X → ℕ → ℕ → Type 0
@@ -56,8 +52,7 @@ RoseForCommands d commands old new = RoseInTurn (RoseAfter d) edits_with [] comm
 pub data RoseForEntry (who : Who) (entry : Entry) (old new : ℕ) : Type 0 where
   unsearched : has_sides who.layers entry ≡ false → new ≡ old → RoseForEntry who entry old new
   searched : has_sides who.layers entry ≡ true
-      → RoseForQuery who (record { x = entry.sx; y = entry.sy }) (record { x = entry.gx; y = entry.gy }) old
-      new
+      → RoseForQuery who (start_of entry) (goal_of entry) old new
       → RoseForEntry who entry old new
 
 -- it rose for each of the entries in turn

@@ -1,6 +1,6 @@
 -- The rows that judge a scenario.
-use Rattle.std.specs.Prelude.{◌≡◌, ℕ, ◌+◌, Bool, true, false, ◌||◌, if◌then◌else◌, List, []}
-use Rattle.std.specs.Prelude.{◌∷◌, ◌++◌, length, codes, decimal, count_by}
+use Rattle.std.specs.Prelude.{ℕ, ◌+◌, Bool, true, false, ◌||◌, if◌then◌else◌, List, []}
+use Rattle.std.specs.Prelude.{◌∷◌, ◌++◌, length, codes, decimal, count_by, map}
 use Rattle.std.specs.List.{list_all, sum_by}
 use Rattle.root2_cost.specs.declared.lengths.Decimal.{Decimal}
 use Rattle.root2_cost.specs.declared.lengths.Verdict.{Verdict}
@@ -11,9 +11,10 @@ use Rattle.edit_replay.specs.declared.reply.Reply.TheVariants as reply
 use Rattle.scen_text.specs.declared.entry.Entry.{Entry}
 use Rattle.word_list.specs.declared.request.Show.{Show}
 use Rattle.word_list.specs.declared.request.Show.TheVariants.{Points, Cells, Trace, Taken}
-use Rattle.line_work.specs.Turns.{AreInTurn}
-pub use Rattle.scen_maker.specs.Settling.{has_sides}
-use Rattle.jps_run.specs.Who.{Who, IsReplyBy}
+pub use Rattle.scen_maker.specs.Settling.{goal_of, has_sides, start_of}
+use Rattle.grid_moves.specs.Layers.{Layers}
+use Rattle.jps_run.specs.Parts.{Output}
+use Rattle.jps_run.specs.Replies.{Replies}
 use Rattle.jps_run.specs.declared.replies.row.Row.{Row}
 use Rattle.jps_run.specs.declared.replies.row.Row.TheVariants as row
 
@@ -24,17 +25,14 @@ row_of listed reply.Blocked = row.Blocked
 row_of listed (reply.None taken) = row.None (length taken)
 row_of listed (reply.Walk points cost taken) = row.Judged (verdict_of listed cost) cost (length taken)
 
--- the row of an entry: of another size, or what a right reply to its query makes of it
-pub data IsRow (who : Who) (entry : Entry) (r : Row) : Type 0 where
-  scale : has_sides who.layers entry ≡ false → r ≡ row.Scale → IsRow who entry r
-  replied : (reply : Reply) → has_sides who.layers entry ≡ true
-      → IsReplyBy who (record { x = entry.sx; y = entry.sy }) (record { x = entry.gx; y = entry.gy }) reply
-      → r ≡ row_of entry.length reply → IsRow who entry r
+-- the row of an entry: of another size, or what the reply to its query makes of it
+abbrev pub row_for : Replies → Layers → Entry → Row
+row_for replies ls entry =
+    if has_sides ls entry then row_of entry.length (replies ls (start_of entry) (goal_of entry)) else row.Scale
 
--- one row for each entry, by the one who answers
-abbrev pub AreRows : Who → List Entry → List Row → Type 0
-AreRows who entries rows = AreInTurn {S = Unit {0}} (λ _ entry r. IsRow who entry r) (λ s _. s) tt
-    entries rows
+-- one row for each entry
+abbrev pub rows_of : Replies → Layers → List Entry → List Row
+rows_of replies ls entries = map (row_for replies ls) entries
 
 -- a verdict's word
 abbrev pub verdict_text : Verdict → List ℕ
@@ -114,3 +112,10 @@ scen_status rows = if list_all (λ r. is_agree r || is_near r) rows then 0 else 
 -- all lines: a row for each entry, and the sum
 abbrev pub scen_lines : Show → List Row → List (List ℕ)
 scen_lines show rows = row_lines show 1 rows ++ sum_line show rows ∷ []
+
+-- what is printed, and the status
+abbrev pub scen_output : Replies → Show → Layers → List Entry → Output
+scen_output replies show ls entries = record {
+  lines = scen_lines show (rows_of replies ls entries);
+  status = scen_status (rows_of replies ls entries);
+}

@@ -1,46 +1,35 @@
 -- The rows that judge what another program tells of a scenario's entries.
-use Rattle.std.specs.Prelude.{◌≡◌, ℕ, ◌+◌, Bool, true, false, nat_eq, if◌then◌else◌, List, [], ◌∷◌, ◌++◌}
-use Rattle.std.specs.Prelude.{length, codes, decimal, count_by}
+use Rattle.std.specs.Prelude.{ℕ, ◌+◌, Bool, true, false, nat_eq, if◌then◌else◌, List, [], ◌∷◌, ◌++◌}
+use Rattle.std.specs.Prelude.{length, codes, decimal, count_by, map, zip}
 use Rattle.root2_cost.specs.declared.Cost.{Cost}
 use Rattle.grid_moves.specs.Layers.{Layers, query_grid}
-use Rattle.grid_moves.specs.Reply as answer
-use Rattle.grid_moves.specs.Reply.{IsRight, are_free_ends}
 use Rattle.scen_text.specs.declared.entry.Entry.{Entry}
 use Rattle.walk_judge.specs.declared.judging.Judged.{Judged}
 use Rattle.walk_judge.specs.declared.judging.Judged.TheVariants.{Least, NoWalk, BadWalk, Longer, Exists}
 use Rattle.walk_judge.specs.declared.claims.Claimed.{Claimed}
-use Rattle.walk_judge.specs.Judgement.{IsJudgement}
-pub use Rattle.scen_maker.specs.Settling.{goal_of, start_of}
-use Rattle.jps_run.specs.Rows.{has_sides}
-use Rattle.line_work.specs.Turns.{AreInTurn}
+use Rattle.walk_judge.specs.Judgement.{judgement_of}
+use Rattle.scen_maker.specs.Settling.{settled_of}
+use Rattle.scen_maker.specs.declared.costs.Settled.{Settled}
+use Rattle.scen_maker.specs.declared.costs.Settled.TheVariants as settled
+use Rattle.jps_run.specs.Parts.{Output}
 use Rattle.jps_run.specs.declared.replies.ruling.Ruling.{Ruling}
 use Rattle.jps_run.specs.declared.replies.ruling.Ruling.TheVariants as ruling
 
--- each entry with what is claimed of it
-abbrev pub with_claims : List Entry → List Claimed → List (Entry × Claimed)
-with_claims [] walks = []
-with_claims (entry ∷ entries) [] = []
-with_claims (entry ∷ entries) (claimed ∷ walks) = (entry, claimed) ∷ with_claims entries walks
-
 -- the row of an entry and of what is claimed of it: the entry is meant for another size; or an end lies
--- outside, or is blocked; else what is claimed is judged so on the grid of the query
-pub data IsRuling (ls : Layers) (entry : Entry) (claimed : Claimed) (r : Ruling) : Type 0 where
-  scale : has_sides ls entry ≡ false → r ≡ ruling.Scale → IsRuling ls entry claimed r
-  outside : has_sides ls entry ≡ true → IsRight ls (start_of entry) (goal_of entry) answer.outside
-      → r ≡ ruling.Outside → IsRuling ls entry claimed r
-  blocked : has_sides ls entry ≡ true → IsRight ls (start_of entry) (goal_of entry) answer.blocked
-      → r ≡ ruling.Blocked → IsRuling ls entry claimed r
-  judged : (how : Judged) → has_sides ls entry ≡ true
-      → are_free_ends ls (start_of entry) (goal_of entry) ≡ true
-      → IsJudgement (query_grid ls (start_of entry)) (start_of entry) (goal_of entry) claimed how
-      → r ≡ ruling.Judged how → IsRuling ls entry claimed r
+-- outside, or is blocked; else how what is claimed is judged on the grid of the query
+abbrev pub ruling_by : Claimed → Layers → Settled → Ruling
+ruling_by claimed ls settled.Scale = ruling.Scale
+ruling_by claimed ls settled.Outside = ruling.Outside
+ruling_by claimed ls settled.Blocked = ruling.Blocked
+ruling_by claimed ls (settled.Searched from to least) =
+    ruling.Judged (judgement_of (query_grid ls from) from to claimed least)
+
+abbrev pub ruling_of : Layers → (Entry × Claimed) → Ruling
+ruling_of ls both = ruling_by both.1 ls (settled_of ls both.0)
 
 -- one row for each entry, by what is claimed of it
-abbrev pub AreRulings : Layers → List Entry → List Claimed → List Ruling → Type 0
-AreRulings ls entries walks rulings =
-    AreInTurn {S = Unit {0}} (λ _ both r. IsRuling ls both.0 both.1 r) (λ s _. s) tt
-    (with_claims entries walks)
-    rulings
+abbrev pub rulings_of : Layers → List Entry → List Claimed → List Ruling
+rulings_of ls entries walks = map (ruling_of ls) (zip entries walks)
 
 -- ` A B` of a cost
 abbrev pub pair_text : Cost → List ℕ
@@ -108,3 +97,10 @@ judge_status rulings = if nat_eq (count_by is_refused rulings) 0 then 0 else 1
 -- all lines: a row for each entry, and the sum
 abbrev pub judge_lines : List Ruling → List (List ℕ)
 judge_lines rulings = ruling_lines 1 rulings ++ rulings_line rulings ∷ []
+
+-- what is printed, and the status
+abbrev pub judge_output : Layers → List Entry → List Claimed → Output
+judge_output ls entries walks = record {
+  lines = judge_lines (rulings_of ls entries walks);
+  status = judge_status (rulings_of ls entries walks);
+}

@@ -2,19 +2,23 @@
 use Rattle.std.specs.Prelude.{◌≡◌, ℕ, ◌+◌, ◌^◌, ◌<◌, List}
 use Rattle.scen_text.specs.declared.entry.Entry.{Entry}
 use Rattle.jps_run.specs.Answerers.{CanAnswer, who_of}
+use Rattle.jps_run.specs.Parts.{Is}
 use Rattle.jps_run.specs.Rising.{RoseForEntries}
-use Rattle.jps_run.specs.Rows.{AreRows, row_lines, scen_lines, scen_status}
+use Rattle.jps_run.specs.Rows.{row_lines, rows_of, scen_output}
 use Rattle.jps_run.specs.Tally.{IsSmall, IsTally, tally_of}
+use Rattle.jps_run.specs.Who.{replies_by}
 use Rattle.jps_run.specs.declared.replies.row.Row.{Row}
 use Rattle.jps_run.specs.declared.replies.scenario.Scen.{Scen}
 
+-- the rows of entries by this job
+abbrev pub rows_by : Scen → List Entry → List Row
+rows_by job entries = rows_of (replies_by (who_of job.answerer).by) (who_of job.answerer).layers entries
+
 -- the entries have their rows with these lines, by one who can answer, and the rows are counted
 pub record HasRows (first now : Scen) (entries : List Entry) (lines : List (List ℕ)) : Type 0 where
-  pub rows : List Row
   pub ready : CanAnswer first.answerer
-  pub are : AreRows (who_of first.answerer) entries rows
-  pub all : lines ≡ row_lines first.show 1 rows
-  pub counted : now.tally ≡ tally_of rows
+  pub all : lines ≡ row_lines first.show 1 (rows_by first entries)
+  pub counted : now.tally ≡ tally_of (rows_by first entries)
   pub same : now.answerer ≡ first.answerer
   pub shown : now.show ≡ first.show
 
@@ -31,8 +35,6 @@ pub record HaveCounted (first now : Scen) (entries : List Entry) (old new : ℕ)
   pub same : now.answerer ≡ first.answerer
 
 -- the lines are a row for each entry and the sum, and the status is that of the rows
-pub record AreAllRows (first : Scen) (entries : List Entry) (lines : List (List ℕ)) (status : ℕ) : Type 0 where
-  pub rows : List Row
-  pub are : AreRows (who_of first.answerer) entries rows
-  pub all : lines ≡ scen_lines first.show rows
-  pub same_status : status ≡ scen_status rows
+abbrev pub AreAllRows : Scen → List Entry → List (List ℕ) → ℕ → Type 0
+AreAllRows first entries = Is (scen_output (replies_by (who_of first.answerer).by) first.show
+    (who_of first.answerer).layers entries)

@@ -7,6 +7,7 @@ use Rattle.call_files.specs.Files.{HasRefused, FileRose}
 use Rattle.jps_run.specs.Live.{WroteHeard, WrotePending, WroteSomeTaken, WroteLinesTaken}
 use Rattle.jps_run.specs.Calls.{files_of, reads_input}
 use Rattle.jps_run.specs.Outcome.{IsOutput}
+use Rattle.jps_run.specs.Who.{replies_by}
 use Rattle.line_work.specs.Sending.{IsAll, IsPart, AreLines, Wrote}
 use Rattle.line_work.specs.Stops.{Stops, EndsOrStops}
 use Rattle.line_work.specs.declared.stop.Stop.{Stop}
@@ -15,22 +16,22 @@ use Rattle.line_work.specs.declared.stop.Stop.{Stop}
 abbrev pub served_stops : Call → Disk → Disk → Inflow → Inflow → Outflow → Outflow → Stops
 served_stops call disk disk_now input input_now out out_now = record {
   Refused = λ line. (HasRefused disk.holds (files_of call) line × Wrote out out_now [])
-      ⊎ WroteHeard call disk.holds out out_now input.left (Some line);
+      ⊎ WroteHeard replies_by call disk.holds out out_now input.left (Some line);
   Read = (FileRose (files_of call) disk disk_now × Wrote out out_now [])
       ⊎ ((reads_input call.request.command ≡ true) × Rose input.faults input_now.faults
-      × WrotePending call disk.holds out out_now input.left input_now.left);
+      × WrotePending replies_by call disk.holds out out_now input.left input_now.left);
   Write = Rose out.faults out_now.faults
-      × (IsPart (IsOutput call disk.holds) out out_now
-      ⊎ WroteSomeTaken call disk.holds out out_now input.left input_now.left);
+      × (IsPart (IsOutput replies_by call disk.holds) out out_now
+      ⊎ WroteSomeTaken replies_by call disk.holds out out_now input.left input_now.left);
   Memory = Wrote out out_now []
-      ⊎ (AreLines (IsOutput call disk.holds) out out_now
-      ⊎ WroteLinesTaken call disk.holds out out_now input.left input_now.left);
+      ⊎ (AreLines (IsOutput replies_by call disk.holds) out out_now
+      ⊎ WroteLinesTaken replies_by call disk.holds out out_now input.left input_now.left);
 }
 
 -- the work on a call came to a right output, or it stops
 abbrev pub HasServed : Call → Disk → Disk → Inflow → Inflow → Outflow → Outflow → Result ℕ Stop → Type 0
 HasServed call disk disk_now input input_now out out_now result = EndsOrStops
     (λ status. (status ≤ 1)
-    × (IsAll (IsOutput call disk.holds) out out_now status
-    ⊎ ((status ≡ 0) × WroteHeard call disk.holds out out_now input.left None)))
+    × (IsAll (IsOutput replies_by call disk.holds) out out_now status
+    ⊎ ((status ≡ 0) × WroteHeard replies_by call disk.holds out out_now input.left None)))
     (served_stops call disk disk_now input input_now out out_now) result

@@ -3,31 +3,17 @@ use Rattle.std.specs.Prelude.{◌≡◌, ℕ, [], Option, None}
 use Rattle.grid_moves.specs.declared.Cell.{Cell}
 use Rattle.grid_moves.specs.Grid.{GridData}
 use Rattle.grid_moves.specs.Layers.{Layers, query_grid}
-use Rattle.grid_moves.specs.Reply.{IsRight}
 use Rattle.best_first.specs.declared.found.Found.{Found}
 use Rattle.edit_replay.specs.Counting.{fewest_of, most_of}
 use Rattle.edit_replay.specs.Found.{reply_with}
 use Rattle.edit_replay.specs.ReplyOf.{found_with, reply_finding, states_of}
-use Rattle.edit_replay.specs.Replies.{answer_of}
 use Rattle.edit_replay.specs.Session.{SessionData}
 use Rattle.edit_replay.specs.declared.engine.Engine.{Engine}
 use Rattle.edit_replay.specs.declared.reply.Reply.{Reply}
 use Rattle.goal_boxes.specs.Made.{boxed_found}
 use Rattle.first_moves.specs.Follow.{led_walk}
-use Rattle.word_list.specs.declared.request.SmallEngine.{SmallEngine}
-use Rattle.word_list.specs.declared.request.SmallEngine.TheVariants as small
-
--- how a query is answered: by the search of a session's engine, by the search that goes by goal boxes, or by
--- the walk of first moves
-pub data By : Type 0 where
-  by_session : Engine → By
-  by_boxes : By
-  by_moves : By
-
--- how an engine for small maps answers
-abbrev pub by_small : SmallEngine → By
-by_small small.Boxes = by_boxes
-by_small small.Moves = by_moves
+pub use Rattle.jps_run.specs.Replies.{By, by_boxes, by_moves, by_session, by_small}
+use Rattle.jps_run.specs.Replies.{Replies}
 
 -- who answers: the grids of a map, and how
 pub record Who : Type 0 where
@@ -45,14 +31,13 @@ found_by (by_session engine) g s t = found_with (states_of engine) g s t
 found_by by_boxes g s t = boxed_found g s t
 found_by by_moves g s t = record { walk = led_walk g s t; taken = [] }
 
+-- the replies of who answers so
+abbrev pub replies_by : By → Replies
+replies_by by ls s t = reply_finding ls s t (found_by by (query_grid ls s) s t)
+
 -- the reply to a query from s to t
 abbrev pub reply_to : Who → Cell → Cell → Reply
-reply_to who s t = reply_finding who.layers s t (found_by who.by (query_grid who.layers s) s t)
-
--- the reply is the one to this query, and it is right
-pub record IsReplyBy (who : Who) (s t : Cell) (reply : Reply) : Type 0 where
-  pub right : IsRight who.layers s t (answer_of reply)
-  pub is : reply ≡ reply_to who s t
+reply_to who s t = replies_by who.by who.layers s t
 
 -- the reply is that of what is found on this grid
 pub record IsFoundReply (by : By) (g : GridData) (s t : Cell) (reply : Reply) : Type 0 where

@@ -5,13 +5,13 @@
 
 ghost use Rattle.std.specs.Prelude.{◌≡◌, ◌≤◌, ◌<◌, IfOk, OnOk, true};
 ghost use Rattle.edit_replay.specs.Counting.{RoseByStates, RoseWithin};
-ghost use Rattle.edit_replay.specs.Replies.{IsRightOn, IsShort, answer_of};
+ghost use Rattle.edit_replay.specs.Replies.{IsShort, answer_of};
 ghost use Rattle.first_moves.specs.Row.{AreMoves};
 ghost use Rattle.goal_boxes.specs.Stored.{HoldsBoxes};
 ghost use Rattle.grid_moves.specs.Layers.{in_one_layer, query_grid};
 ghost use Rattle.jps_run.specs.Answerers.{IsBasisOn, IsFit, CanAnswer, who_from, who_of};
 ghost use Rattle.call_files.specs.Reading.{AreSmall};
-ghost use Rattle.jps_run.specs.Who.{IsFoundReply, IsReplyBy, by_boxes, by_moves, fewest_by, most_by};
+ghost use Rattle.jps_run.specs.Who.{IsFoundReply, by_boxes, by_moves, fewest_by, most_by, reply_to};
 
 use crate::NoMemory;
 use crate::replies::session_on;
@@ -88,7 +88,7 @@ impl BoxLibrary {
     // The reply to a query.
     fn query(&self, alloc: Global, ends: AskedEnds) -> Result<Reply, NoMemory>
         requires ready { CanAnswer (Answerer.Boxes self.now) }
-        ensures reply { IfOk result (IsReplyBy (who_of (Answerer.Boxes self.now))
+        ensures reply { IfOk result (λ reply. reply ≡ reply_to (who_of (Answerer.Boxes self.now))
             (record { x = ends.sx; y = ends.sy }) (record { x = ends.gx; y = ends.gy })) }
     {
         match self.layers.ends(ends.sx, ends.sy, ends.gx, ends.gy) {
@@ -102,7 +102,6 @@ impl BoxLibrary {
         requires land { HoldsBoxes self.now.layers.land self.now.land }
         requires water { HoldsBoxes self.now.layers.water self.now.water }
         requires one { in_one_layer self.now.layers from to ≡ true }
-        ensures right { IfOk result (IsRightOn (query_grid self.now.layers from) from to) }
         ensures found { IfOk result (IsFoundReply by_boxes (query_grid self.now.layers from) from to) }
     {
         if self.layers.water().free(from) {
@@ -122,7 +121,7 @@ impl MoveLibrary {
         steps: &mut Steps<L>,
     ) -> Result<Reply, NoMemory>
         requires ready { CanAnswer (Answerer.Moves self.now) }
-        ensures reply { IfOk result (IsReplyBy (who_of (Answerer.Moves self.now))
+        ensures reply { IfOk result (λ reply. reply ≡ reply_to (who_of (Answerer.Moves self.now))
             (record { x = ends.sx; y = ends.sy }) (record { x = ends.gx; y = ends.gy })) }
         ensures later { OnOk result (steps.old ≤ steps.new) }
     {
@@ -144,7 +143,6 @@ impl MoveLibrary {
         requires land { AreMoves self.now.layers.land self.now.land }
         requires water { AreMoves self.now.layers.water self.now.water }
         requires one { in_one_layer self.now.layers from to ≡ true }
-        ensures right { IfOk result (IsRightOn (query_grid self.now.layers from) from to) }
         ensures found { IfOk result (IsFoundReply by_moves (query_grid self.now.layers from) from to) }
         ensures later { OnOk result (steps.old ≤ steps.new) }
     {
@@ -223,7 +221,7 @@ impl Answerer {
         steps: &mut Steps<L>,
     ) -> Result<Reply, NoMemory>
         requires ready { CanAnswer self.old }
-        ensures reply { IfOk result (IsReplyBy (who_of self.old)
+        ensures reply { IfOk result (λ reply. reply ≡ reply_to (who_of self.old)
             (record { x = ends.sx; y = ends.sy }) (record { x = ends.gx; y = ends.gy })) }
         ensures short { IfOk result (λ reply. IsShort (answer_of reply)) }
         ensures unchanged { self.new ≡ self.old }

@@ -1,7 +1,9 @@
 //! The answers to commands: edits and queries of a session.
 
-ghost use Rattle.std.specs.Prelude.{OnOk};
-ghost use Rattle.jps_run.specs.Answering.{PutsAnswer, GoesOn, IsSolved};
+ghost use Rattle.std.specs.Prelude.{◌≡◌, ◌++◌, OnOk};
+ghost use Rattle.jps_run.specs.Answering.{GoesOn, IsSolved};
+ghost use Rattle.jps_run.specs.Answers.{answer_line};
+ghost use Rattle.jps_run.specs.Session.{replies_of};
 ghost use Rattle.jps_run.specs.Rising.{RoseForCommand, RoseForCommands};
 ghost use Rattle.line_work.specs.Sending.{SendsWhole};
 
@@ -88,7 +90,8 @@ fn put_answer<L: Ledger>(
     lines: &mut Vec<u8>,
     steps: &mut Steps<L>,
 ) -> Result<(), NoMemory>
-    ensures answered { OnOk result (PutsAnswer session.old show command lines.old.items lines.new.items) }
+    ensures answered { OnOk result (lines.new.items ≡ lines.old.items
+        ++ answer_line (replies_of session.old) show session.old.layers command) }
     ensures edited { OnOk result (GoesOn session.old command session.new) }
     ensures counted { OnOk result (RoseForCommand session.old session.new command steps.old steps.new) }
 {

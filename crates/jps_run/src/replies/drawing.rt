@@ -7,7 +7,7 @@ ghost use Rattle.picture.specs.Picture as pictures;
 ghost use Rattle.jps_run.specs.Pictures as spec;
 ghost use Rattle.line_work.specs.Sending.{SendsWhole};
 ghost use Rattle.jps_run.specs.Rising.{RoseForQuery};
-ghost use Rattle.jps_run.specs.Who.{who_is};
+ghost use Rattle.jps_run.specs.Who.{reply_to, who_is};
 
 use crate::NoMemory;
 use crate::replies::session_on;
@@ -114,8 +114,11 @@ fn drawn<L: Ledger>(
     show: Show,
     steps: &mut Steps<L>,
 ) -> Result<Printed, NoMemory>
-    ensures drawn { IfOk result (λ p. spec.IsDrawing session.old (plain map.now)
-        (record { x = ends.sx; y = ends.sy }) (record { x = ends.gx; y = ends.gy }) show p.text.items p.status) }
+    ensures text { IfOk result (λ p. p.text.items ≡ spec.drawing_of (plain map.now)
+        (record { x = ends.sx; y = ends.sy }) (record { x = ends.gx; y = ends.gy }) show
+        (reply_to (who_is session.old) (record { x = ends.sx; y = ends.sy }) (record { x = ends.gx; y = ends.gy }))) }
+    ensures status { IfOk result (λ p. p.status ≡ spec.drawing_status
+        (reply_to (who_is session.old) (record { x = ends.sx; y = ends.sy }) (record { x = ends.gx; y = ends.gy }))) }
     ensures counted { OnOk result (RoseForQuery (who_is session.old) (record { x = ends.sx; y = ends.sy })
         (record { x = ends.gx; y = ends.gy }) steps.old steps.new) }
 {

@@ -2,9 +2,9 @@
 
 ghost use Rattle.std.specs.Prelude.{◌≡◌, length, IfOk};
 ghost use Rattle.walk_judge.specs.Claims.{IsFit};
-ghost use Rattle.scen_maker.specs.Settling.{IsSettled};
+ghost use Rattle.scen_maker.specs.Settling.{settled_of};
 ghost use Rattle.jps_run.specs.Judging.{IsReady, IsJudged};
-ghost use Rattle.jps_run.specs.Rulings.{IsRuling};
+ghost use Rattle.jps_run.specs.Rulings as spec;
 ghost use Rattle.line_work.specs.Sending.{SendsWhole};
 
 use crate::NoMemory;
@@ -67,8 +67,8 @@ impl Job for Judge {
 // The row of an entry whose query was settled so, by what is claimed of it.
 fn ruling_by(costs: &LeastCosts, entry: Entry, claimed: &Claimed, settled: Settled) -> Ruling
     requires fit { IsFit claimed.now }
-    requires settled { IsSettled costs.now entry settled }
-    ensures { IsRuling costs.now entry claimed.now result }
+    requires settled { settled ≡ settled_of costs.now entry }
+    ensures { result ≡ spec.ruling_by claimed.now costs.now settled }
 {
     match settled {
         Settled::Scale => Ruling::Scale,
@@ -89,7 +89,7 @@ fn ruling_on<L: Ledger>(
     steps: &mut Steps<L>,
 ) -> Result<Ruling, NoMemory>
     requires { IsFit claimed.now }
-    ensures ruling { IfOk result (IsRuling costs.old entry claimed.now) }
+    ensures ruling { IfOk result (λ ruling. ruling ≡ spec.ruling_of costs.old (entry, claimed.now)) }
     ensures unchanged { costs.new ≡ costs.old }
 {
     let settled = costs.settle(alloc, entry, steps)?;

@@ -7,6 +7,7 @@ ghost use Rattle.jps_run.specs.Answerers.{CanAnswer, who_of};
 ghost use Rattle.jps_run.specs.Rising.{RoseForEntries, RoseForEntry};
 ghost use Rattle.jps_run.specs.ScenRows.{AreAllRows};
 ghost use Rattle.jps_run.specs.Rows as rows;
+ghost use Rattle.jps_run.specs.Who.{replies_by};
 ghost use Rattle.line_work.specs.Sending.{SendsWhole};
 ghost use Rattle.call_files.specs.Reading.{AreKept};
 ghost use Rattle.jps_run.specs.Tally.{tally_of};
@@ -100,7 +101,8 @@ fn row_of<L: Ledger>(
 ) -> Result<Row, NoMemory>
     requires kept { IsKept entry.length }
     requires ready { CanAnswer answerer.old }
-    ensures row { IfOk result (rows.IsRow (who_of answerer.old) entry) }
+    ensures row { IfOk result (λ row. row ≡ rows.row_for (replies_by (who_of answerer.old).by)
+        (who_of answerer.old).layers entry) }
     ensures same { answerer.new ≡ answerer.old }
     ensures counted { OnOk result (RoseForEntry (who_of answerer.old) entry steps.old steps.new) }
 {

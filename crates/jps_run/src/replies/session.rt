@@ -2,6 +2,7 @@
 
 ghost use Rattle.std.specs.Prelude.{◌≡◌, IfOk};
 ghost use Rattle.map_text.specs.Faults.{plain};
+ghost use Rattle.jps_run.specs.Replies as replies;
 ghost use Rattle.jps_run.specs.Session as spec;
 
 use crate::NoMemory;
@@ -13,7 +14,7 @@ use word_list::{SessionEngine, Settings, States};
 
 /// The states of a cell, by the word for how many there are.
 pub fn layout_for(states: States) -> Layout
-    ensures { result ≡ spec.layout_for states }
+    ensures { result ≡ replies.layout_for states }
 {
     match states {
         States::Arrival => Layout::ByArrival,
@@ -23,7 +24,7 @@ pub fn layout_for(states: States) -> Layout
 
 // The engine of a session by its word; how many states a cell has is asked of one that jumps.
 fn engine_for(states: States, engine: SessionEngine) -> Engine
-    ensures { result ≡ spec.engine_for states engine }
+    ensures { result ≡ replies.engine_for states engine }
 {
     let layout = layout_for(states);
     match engine {

@@ -1,11 +1,10 @@
 //! Replies on small maps: by the search that goes by goal boxes, and by following first moves.
 
 ghost use Rattle.std.specs.Prelude.{◌≡◌, ◌≤◌, ◌*◌, ◌<◌, true, IfOk, OnOk};
-ghost use Rattle.edit_replay.specs.Replies.{IsRightOn};
 ghost use Rattle.first_moves.specs.Row.{AreMoves};
 ghost use Rattle.goal_boxes.specs.Stored.{HoldsBoxes};
 ghost use Rattle.grid_moves.specs.Grid.{is_free};
-ghost use Rattle.jps_run.specs.Who.{IsFoundReply, IsReplyBy, by_boxes, by_moves, by_small};
+ghost use Rattle.jps_run.specs.Who.{IsFoundReply, by_boxes, by_moves, by_small, replies_by};
 
 use crate::NoMemory;
 use cell_lines::AskedEnds;
@@ -21,7 +20,7 @@ use steps::Steps;
 use word_list::SmallEngine;
 
 /// The reply of the boxed run between free cells of a grid, by its boxes.
-#[tactic(auto, using(edit_replay::proofs::Answering::found_right, crate::proofs::Replying::found_boxed))]
+#[tactic(auto, using(crate::proofs::Replying::found_boxed))]
 pub fn search_boxed(
     alloc: Global,
     grid: &Grid,
@@ -32,7 +31,6 @@ pub fn search_boxed(
     requires boxes { HoldsBoxes grid.now boxes.now }
     requires from { is_free grid.now from ≡ true }
     requires to { is_free grid.now to ≡ true }
-    ensures right { IfOk result (IsRightOn grid.now from to) }
     ensures found { IfOk result (IsFoundReply by_boxes grid.now from to) }
 {
     let found = boxed_search(alloc, grid, boxes, from, to)?;
@@ -40,7 +38,7 @@ pub fn search_boxed(
 }
 
 /// The reply of the walk of first moves between free cells of a small grid, by its first moves.
-#[tactic(auto, using(edit_replay::proofs::Answering::found_right, crate::proofs::Replying::found_led))]
+#[tactic(auto, using(crate::proofs::Replying::found_led))]
 pub fn follow_moves<L: Ledger>(
     alloc: Global,
     grid: &Grid,
@@ -53,7 +51,6 @@ pub fn follow_moves<L: Ledger>(
     requires few { grid.now.height * grid.now.width ≤ 16384 }
     requires from { is_free grid.now from ≡ true }
     requires to { is_free grid.now to ≡ true }
-    ensures right { IfOk result (IsRightOn grid.now from to) }
     ensures found { IfOk result (IsFoundReply by_moves grid.now from to) }
     ensures later { OnOk result (steps.old ≤ steps.new) }
 {
@@ -64,7 +61,7 @@ pub fn follow_moves<L: Ledger>(
 
 // The reply between free cells of a grid of which nothing is kept: by the boxed run, with a pass for each
 // taken cell at most, or by the walk of first moves, with one pass, from the goal.
-#[tactic(auto, using(edit_replay::proofs::Answering::found_right, crate::proofs::Replying::found_boxed, crate::proofs::Replying::found_led))]
+#[tactic(auto, using(crate::proofs::Replying::found_boxed, crate::proofs::Replying::found_led))]
 fn reply_alone<L: Ledger>(
     alloc: Global,
     grid: &Grid,
@@ -78,7 +75,6 @@ fn reply_alone<L: Ledger>(
     requires some { 0 < L.parts }
     requires from { is_free grid.now from ≡ true }
     requires to { is_free grid.now to ≡ true }
-    ensures right { IfOk result (IsRightOn grid.now from to) }
     ensures found { IfOk result (IsFoundReply (by_small engine) grid.now from to) }
 {
     let mut steps = Steps::<L>::new(blank);
@@ -102,7 +98,7 @@ pub fn small_reply(
     engine: SmallEngine,
     ends: AskedEnds,
 ) -> Result<Reply, NoMemory>
-    ensures { IfOk result (IsReplyBy (record { layers = layers.now; by = by_small engine })
+    ensures { IfOk result (λ reply. reply ≡ replies_by (by_small engine) layers.now
         (record { x = ends.sx; y = ends.sy }) (record { x = ends.gx; y = ends.gy })) }
 {
     match layers.ends(ends.sx, ends.sy, ends.gx, ends.gy) {

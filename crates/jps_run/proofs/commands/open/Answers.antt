@@ -1,16 +1,17 @@
-use Rattle.std.proofs.Common.{refl, sym, subst, []}
+use Rattle.std.proofs.Common.{refl, sym, ap, subst, inl, ℕ, List, [], arith}
+use Rattle.std.specs.Prelude.{Some}
 use Rattle.word_list.specs.Request.{asking}
 use Rattle.word_list.specs.declared.rows.Command.{Command}
 use Rattle.word_list.specs.declared.rows.Command.TheVariants as command
 use Rattle.jps_run.specs.Opened.{IsWorkOn}
-use Rattle.jps_run.specs.Calls.{IsAnswered, call_with}
-use Rattle.jps_run.specs.Texts.{help_text, version_text}
+use Rattle.jps_run.specs.Calls.{call_with, output_of}
+use Rattle.jps_run.specs.Parts.{printed}
 use Rattle.jps_run.specs.declared.work.Work.TheVariants as work
-use Rattle.jps_run.proofs.Opening.{opened-for, says-of}
+use Rattle.jps_run.proofs.Opening.{opened-for, texted, work-of}
 use Rattle.jps_run.proofs.commands.open.Goals as goal
 
 pub returns-in-Help-clause-opened : goal.returns-in-Help-clause-opened
-unfolding IsAnswered
+unfolding output_of
 returns-in-Help-clause-opened g c =
     let set = c.args.settings in
     let request = c.args.request in
@@ -20,12 +21,13 @@ returns-in-Help-clause-opened g c =
     (sym c.in-Help.is) (record {
       texts = [];
       accepted = tt;
-      is = says-of (call_with (asking command.Help request) set) (work.Say text) help_text text.now
-          c.help_text.ensures refl tt (λ lines status w. w) (λ lines status s. s);
+      is = work-of (call_with (asking command.Help request) set) [] (work.Say text) (printed text.now 0)
+          (ap (λ (t : List ℕ). Some (printed t 0)) (sym c.help_text.ensures)) (omega arith) tt
+          (texted text.now 0) (λ old new rose. inl refl);
     })
 
 pub returns-in-Version-clause-opened : goal.returns-in-Version-clause-opened
-unfolding IsAnswered
+unfolding output_of
 returns-in-Version-clause-opened g c =
     let set = c.args.settings in
     let request = c.args.request in
@@ -35,8 +37,9 @@ returns-in-Version-clause-opened g c =
     (sym c.in-Version.is) (record {
       texts = [];
       accepted = tt;
-      is = says-of (call_with (asking command.Version request) set) (work.Say text) version_text text.now
-          c.version_text.ensures refl tt (λ lines status w. w) (λ lines status s. s);
+      is = work-of (call_with (asking command.Version request) set) [] (work.Say text) (printed text.now 0)
+          (ap (λ (t : List ℕ). Some (printed t 0)) (sym c.version_text.ensures)) (omega arith) tt
+          (texted text.now 0) (λ old new rose. inl refl);
     })
 
 pub returns-in-Query : goal.returns-in-Query

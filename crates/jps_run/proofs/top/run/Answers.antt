@@ -1,6 +1,6 @@
 use Rattle.std.specs.Prelude.{map, string_bytes}
 use Rattle.word_list.specs.Request.{called}
-use Rattle.jps_run.proofs.Ended.{done-ends, memory-ends, read-ends, text-ends, word-ends, write-ends}
+use Rattle.jps_run.proofs.Ended.{done-ends, memory-ends, read-ends, rightly, text-ends, word-ends, write-ends}
 use Rattle.jps_run.proofs.top.run.Goals as goal
 
 pub returns-in-Err : goal.returns-in-Err
@@ -12,6 +12,7 @@ returns-in-Err g c =
     c.refuse_word.ensures.memory in
     record {
       statuses = h.statuses;
+      right = λ few. rightly (h.outcome few);
       outcome = h.outcome;
       read = h.read;
       write = h.write;
@@ -36,6 +37,7 @@ returns-in-Ok-serve g c =
     c.in-Ok-serve.status c.in-Ok-serve.ensures.served c.tell.ensures.printed c.in-Ok-serve.ensures.counted in
     record {
       statuses = h.statuses;
+      right = λ few. rightly (h.outcome few);
       outcome = h.outcome;
       read = h.read;
       write = h.write;
@@ -61,6 +63,7 @@ returns-in-Err-Text g c =
     c.as_slice.ensures.value c.tell-in-Err-Text.ensures.printed in
     record {
       statuses = h.statuses;
+      right = λ few. rightly (h.outcome few);
       outcome = h.outcome;
       read = h.read;
       write = h.write;
@@ -85,6 +88,7 @@ returns-in-Err-Read g c =
     (rw c.in-Err-Read.field-0-is at c.in-Err-Read.ensures.served) c.tell-in-Err-Read.ensures.printed in
     record {
       statuses = h.statuses;
+      right = λ few. rightly (h.outcome few);
       outcome = h.outcome;
       read = h.read;
       write = h.write;
@@ -109,6 +113,7 @@ returns-in-Err-Write g c =
     (rw c.in-Err-Write.field-0-is at c.in-Err-Write.ensures.served) c.tell-in-Err-Write.ensures.printed in
     record {
       statuses = h.statuses;
+      right = λ few. rightly (h.outcome few);
       outcome = h.outcome;
       read = h.read;
       write = h.write;
@@ -134,6 +139,7 @@ returns-in-Err-Memory g c =
     c.starve.ensures.memory in
     record {
       statuses = h.statuses;
+      right = λ few. rightly (h.outcome few);
       outcome = h.outcome;
       read = h.read;
       write = h.write;

@@ -5,7 +5,7 @@ use Rattle.jps_run.specs.declared.commands.Opened.{Opened}
 use Rattle.jps_run.specs.Heard.{RoseHeard}
 use Rattle.jps_run.specs.Counting.{heard}
 use Rattle.jps_run.proofs.Rising.{on_ok}
-use Rattle.jps_run.proofs.Serving.{may-hear, on-live, unopened-served, work-counted, work-served}
+use Rattle.jps_run.proofs.Serving.{heard-served, may-hear, on-session, unopened-served, work-counted, work-served}
 use Rattle.jps_run.proofs.top.serve.Goals as goal
 
 pub returns-in_err-opened-clause-served : goal.returns-in_err-opened-clause-served
@@ -36,14 +36,24 @@ returns-in-Work-clause-counted g c = on_ok c.perform.result (λ rose.
     c.in-Work.is c.in_ok-opened.ensures.opened) rose)
     c.perform.ensures.counted
 
+pub returns-in-Listener-clause-served : goal.returns-in-Listener-clause-served
+returns-in-Listener-clause-served g c =
+    let call = called c.args.request c.args.settings in
+    let disk = g.F.Files.disk c.args.files.now in
+    heard-served call disk (g.F.Files.disk c.open.new.files) (g.I.Source.inflow c.args.input.now)
+    (g.I.Source.inflow c.hear.new.input) (g.O.Sink.outflow c.args.out.now) (g.O.Sink.outflow c.hear.new.out)
+    c.hear.result c.in-Listener.job
+    (subst (λ (o : Opened). IsOpenedAs call disk.holds o) c.in-Listener.is c.in_ok-opened.ensures.opened)
+    c.hear.ensures.heard
+
 pub returns-in-Listener-clause-counted : goal.returns-in-Listener-clause-counted
 returns-in-Listener-clause-counted g c = on_ok c.hear.result (λ rose.
-    heard (on-live (called c.args.request c.args.settings) (g.F.Files.disk c.args.files.now).holds
+    heard (on-session (called c.args.request c.args.settings) (g.F.Files.disk c.args.files.now).holds
     c.in-Listener.job
     (subst (λ (o : Opened). IsOpenedAs (called c.args.request c.args.settings)
     (g.F.Files.disk c.args.files.now).holds o)
     c.in-Listener.is c.in_ok-opened.ensures.opened)
-    (λ d show. RoseHeard d (g.I.Source.inflow c.args.input.now).left c.args.steps.now c.hear.new.steps) rose))
+    (λ d. RoseHeard d (g.I.Source.inflow c.args.input.now).left c.args.steps.now c.hear.new.steps) rose))
     c.hear.ensures.rose
 
 pub returns-in-Listener-clause-input_stays : goal.returns-in-Listener-clause-input_stays

@@ -1,55 +1,33 @@
-use Rattle.std.proofs.Common.{◌≤◌, refl, sym, subst, inl, [], ◌∷◌, arith}
+use Rattle.std.proofs.Common.{◌≡◌, refl, ap, ◌∙◌, subst, inl, [], ◌∷◌, ℕ, List, arith}
 use Rattle.grid_moves.specs.Layers.{Layers}
-use Rattle.jps_run.specs.Calls.{IsAnswered}
-use Rattle.jps_run.specs.Rulings.{AreRulings}
+use Rattle.call_files.specs.Layered.{layers_on}
+use Rattle.word_list.specs.Request.{asking}
+use Rattle.word_list.specs.declared.rows.Command.TheVariants as command
+use Rattle.map_text.specs.Faults.{map_of}
+use Rattle.jps_run.specs.Calls.{call_with, output_of}
+use Rattle.jps_run.specs.Parts.{Is}
+use Rattle.jps_run.specs.Rulings.{judge_output, rulings_of}
 use Rattle.jps_run.proofs.Judged.{small_judge_status}
+use Rattle.jps_run.proofs.Opening.{value-read, work-of}
 use Rattle.jps_run.proofs.commands.judge.judge.Goals as goal
 
 pub returns-clause-opened : goal.returns-clause-opened
-unfolding IsAnswered
+unfolding output_of
 returns-clause-opened g c =
     let r = c.in_ok-costs.ensures.read in
     let case = c.in_ok-costs.field-0 in
     let entries = case.entries.items in
     let claimed = case.walks.items in
+    let ls = layers_on c.args.settings r.costs.map in
     record {
       texts = r.text ∷ r.second ∷ r.third ∷ [];
       accepted = rw (← c.name-map.ensures, ← c.name-scen.ensures, ← c.name-walks.ensures) r.accepted;
-      is = record {
-        can = record {
-          fit = r.walks.1;
-          none = c.new.ensures;
-          enough = omega (arith, r.walks.2);
-        };
-        right = λ lines status w. (
-          subst (λ n. n ≤ 1) (sym w.same_status) (small_judge_status w.rulings),
-          record {
-            text = r.text;
-            behind = r.second ∷ r.third ∷ [];
-            map = r.costs.map;
-            is = refl;
-            read = r.costs.spelled;
-            such = (
-              r.second,
-              r.third,
-              refl,
-              record {
-                value = entries;
-                is = r.entries.0;
-                such = record {
-                  value = claimed;
-                  is = r.walks.0;
-                  such = record {
-                    from = w.rulings;
-                    all = w.all;
-                    code = w.same_status;
-                    such = subst (λ (ls : Layers). AreRulings ls entries claimed w.rulings) r.costs.is w.are;
-                  };
-                };
-              },
-            );
-          },
-        );
-        counted = λ old new rose. inl refl;
-      };
+      is = work-of (call_with (asking command.Judge c.args.request) c.args.settings)
+          (r.text ∷ r.second ∷ r.third ∷ []) _ (judge_output ls entries claimed)
+          (value-read (map_of r.text) r.costs.map _ r.costs.spelled
+          ∙ value-read _ entries _ r.entries.0 ∙ value-read _ claimed _ r.walks.0)
+          (small_judge_status (rulings_of ls entries claimed))
+          (record { fit = r.walks.1; none = c.new.ensures; enough = omega (arith, r.walks.2) })
+          (λ lines status w. subst (λ (k : Layers). Is (judge_output k entries claimed) lines status) r.costs.is w)
+          (λ old new rose. inl refl);
     }

@@ -1,47 +1,36 @@
-use Rattle.std.proofs.Common.{refl, sym, subst, inl, List, [], ◌∷◌, ℕ, ◌≤◌}
+use Rattle.std.proofs.Common.{◌≡◌, refl, sym, ap, ◌∙◌, subst, inl, [], ◌∷◌, ℕ, List}
 use Rattle.grid_moves.specs.Layers.{Layers}
+use Rattle.scen_lines.specs.Line.{version_line}
+use Rattle.scen_maker.specs.Lengths.{length_lines, lengths_answer, lengths_status}
 use Rattle.scen_maker.proofs.Listed.{small_lengths_status}
-use Rattle.scen_maker.specs.Lengths.{AreLengthLines}
-use Rattle.jps_run.specs.Calls.{IsAnswered}
+use Rattle.scen_text.specs.Faults.{scen_of}
+use Rattle.call_files.specs.Layered.{layers_on}
+use Rattle.word_list.specs.Request.{asking}
+use Rattle.word_list.specs.declared.rows.Command.TheVariants as command
+use Rattle.jps_run.specs.Calls.{call_with, output_of}
+use Rattle.jps_run.specs.Parts.{Is}
+use Rattle.jps_run.proofs.Opening.{both-read, work-of}
 use Rattle.jps_run.proofs.commands.lengths.lengths.Goals as goal
 
 pub returns-clause-opened : goal.returns-clause-opened
-unfolding IsAnswered
+unfolding output_of
 returns-clause-opened g c =
     let r = c.in_ok-both.ensures.read in
     let made = c.in_ok-both.both in
+    let entries = made.1.entries.items in
+    let ls = layers_on c.args.settings r.spelled.map in
+    let same : length_lines made.0 made.1.text.items entries ≡ length_lines ls r.more entries
+    = ap (λ (l : Layers). length_lines l made.1.text.items entries) r.spelled.is
+    ∙ ap (λ (t : List ℕ). length_lines ls t entries) r.spelled_more.1 in
     record {
       texts = r.text ∷ r.more ∷ [];
       accepted = rw (← c.name-map.ensures, ← c.name-scen.ensures) r.accepted;
-      is = record {
-        can = refl;
-        right = λ lines status w. (
-          subst (λ n. n ≤ 1) (sym w.whole.same_status) (small_lengths_status w.below),
-          record {
-            text = r.text;
-            behind = r.more ∷ [];
-            map = r.spelled.map;
-            is = refl;
-            read = r.spelled.spelled;
-            such = record {
-              one = r.more;
-              is = refl;
-              such = record {
-                value = made.1.entries.items;
-                is = r.spelled_more.0.0;
-                such = record {
-                  below = w.below;
-                  are = subst (λ (ls : Layers). AreLengthLines ls r.more made.1.entries.items w.below)
-                      r.spelled.is
-                      (subst (λ (text : List ℕ). AreLengthLines made.0 text made.1.entries.items w.below)
-                      r.spelled_more.1 w.whole.are);
-                  all = w.all;
-                  same_status = w.whole.same_status;
-                };
-              };
-            };
-          },
-        );
-        counted = λ old new rose. inl refl;
-      };
+      is = work-of (call_with (asking command.Lengths c.args.request) c.args.settings) (r.text ∷ r.more ∷ []) _
+          (record { lines = lengths_answer ls r.more entries; status = lengths_status (length_lines ls r.more entries) })
+          (both-read r.text [] r.spelled.map r.more scen_of entries _ r.spelled.spelled r.spelled_more.0.0)
+          (small_lengths_status (length_lines ls r.more entries)) refl
+          (λ lines status w. record {
+            all = w.all ∙ ap (λ (l : List (List ℕ)). version_line ∷ l) (w.whole.are ∙ same);
+            code = w.whole.same_status ∙ ap lengths_status same;
+          }) (λ old new rose. inl refl);
     }

@@ -29,8 +29,6 @@ returns-clause-opened g c =
         accepted = r.accepted;
         read = r.is.map;
         spelled = r.is.spelled;
-        session = job.session;
-        answers = r.is.is.session;
-        such = (refl, r.is.is.show);
+        such = r.is.is;
       };
     }) (follow-same stops) (rw (c.name.ensures) at c.open_answers.ensures.read)

@@ -1,31 +1,39 @@
-use Rattle.std.proofs.Common.{refl, subst}
+use Rattle.std.proofs.Common.{refl, sym, ap, ◌∙◌, inl, [], ◌∷◌, ℕ, List}
+use Rattle.std.specs.Prelude.{Some}
+use Rattle.grid_moves.specs.declared.Cell.{Cell}
 use Rattle.grid_moves.specs.Layers.{Layers}
+use Rattle.grid_answers.specs.Certificates.{proof_answer, proof_status}
+use Rattle.grid_answers.proofs.Printing.{small_proof}
 use Rattle.word_list.specs.Request.{asking}
 use Rattle.word_list.specs.declared.rows.Command.TheVariants as command
-use Rattle.grid_answers.specs.Certificates.{IsProof}
-use Rattle.jps_run.specs.Calls.{IsAnswered, call_with}
+use Rattle.map_text.specs.Faults.{map_of}
+use Rattle.jps_run.specs.Calls.{call_with, output_of}
+use Rattle.jps_run.specs.Parts.{Output, printed}
 use Rattle.jps_run.specs.declared.work.Work.TheVariants as work
-use Rattle.jps_run.proofs.Opening.{prints-on}
-use Rattle.grid_answers.proofs.Printing.{small_proof}
+use Rattle.jps_run.proofs.Opening.{texted, value-read, work-of}
 use Rattle.jps_run.proofs.commands.prove.prove.Goals as goal
 
 pub returns-clause-opened : goal.returns-clause-opened
-unfolding IsAnswered
+unfolding output_of
 returns-clause-opened g c =
-    let a = c.args in
     let e = c.ends_of-ends.result in
+    let s : Cell = record { x = e.sx; y = e.sy } in
+    let t : Cell = record { x = e.gx; y = e.gy } in
     let r = c.in_ok-layers.ensures.read in
     let p = c.in_ok-text.field-0 in
-    prints-on r.text r.spelled.map r.spelled.spelled
-    (call_with (asking command.Prove c.args.request) c.args.settings) (g.F.Files.disk a.files.now).holds
-    (rw (← c.name-map.ensures) (r.accepted, tt)) refl (work.Print p.text p.status) p.text.items p.status tt (λ lines status w. w)
-    (λ lines status is. is)
-    (rw (
-      ← c.ends_of-ends.ensures.sx,
-      ← c.ends_of-ends.ensures.sy,
-      ← c.ends_of-ends.ensures.gx,
-      ← c.ends_of-ends.ensures.gy,
-    ) (subst (λ (ls : Layers). IsProof ls (record { x = e.sx; y = e.sy }) (record { x = e.gx; y = e.gy })
-    p.text.items p.status) r.spelled.is c.in_ok-text.ensures))
-    (small_proof c.in_ok-layers.layers (record { x = e.sx; y = e.sy }) (record { x = e.gx; y = e.gy })
-    p.text.items p.status c.in_ok-text.ensures)
+    let proof : Layers → Output = λ ls. printed (proof_answer ls s t) (proof_status ls s t) in
+    record {
+      texts = r.text ∷ [];
+      accepted = rw (← c.name-map.ensures) (r.accepted, tt);
+      is = work-of (call_with (asking command.Prove c.args.request) c.args.settings) (r.text ∷ [])
+          (work.Print p.text p.status) (printed p.text.items p.status)
+          (value-read (map_of r.text) r.spelled.map _ r.spelled.spelled ∙ rw (
+            ← c.ends_of-ends.ensures.sx,
+            ← c.ends_of-ends.ensures.sy,
+            ← c.ends_of-ends.ensures.gx,
+            ← c.ends_of-ends.ensures.gy,
+          ) (ap (λ (ls : Layers). Some (proof ls)) (sym r.spelled.is)
+              ∙ rw (c.in_ok-text.ensures.text, c.in_ok-text.ensures.status) refl))
+          (rw (c.in_ok-text.ensures.status) (small_proof c.in_ok-layers.layers s t)) tt
+          (texted p.text.items p.status) (λ old new rose. inl refl);
+    }

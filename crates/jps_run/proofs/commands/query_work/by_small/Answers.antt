@@ -2,12 +2,12 @@ use Rattle.std.proofs.Common.{ap, ◌∙◌}
 use Rattle.grid_moves.specs.Grid.{GridData}
 use Rattle.jps_run.specs.Who.{by_small}
 use Rattle.jps_run.proofs.Querying.{small_fewest, small_most, replied-work}
-use Rattle.jps_run.proofs.Unfolding.{replied_unfolds}
+use Rattle.jps_run.proofs.Existing.{reply_unfolds}
 use Rattle.jps_run.proofs.commands.query_work.by_small.Goals as goal
 
 pub line_of-requires-clause-unfolds : goal.line_of-requires-clause-unfolds
 line_of-requires-clause-unfolds c =
-    replied_unfolds c.args.layers.now _ _ c.in_ok-reply.reply c.in_ok-reply.ensures.right
+    reply_unfolds (by_small c.args.engine) c.args.layers.now _ _ c.in_ok-reply.reply c.in_ok-reply.ensures
 
 pub returns : goal.returns
 returns c =

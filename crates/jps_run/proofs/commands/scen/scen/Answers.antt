@@ -8,13 +8,21 @@ use Rattle.call_files.specs.Reading.{open_stops}
 use Rattle.call_files.specs.declared.kind.TextKind.TheVariants as kinds
 use Rattle.line_work.proofs.Stopping.{passed}
 use Rattle.word_list.specs.Kinds.{word_at}
-use Rattle.jps_run.specs.Calls.{HasSearched, IsAnswered}
+use Rattle.std.specs.Prelude.{Option}
+use Rattle.scen_text.specs.Faults.{scen_of}
+use Rattle.word_list.specs.Request.{asking}
+use Rattle.word_list.specs.declared.rows.Command.TheVariants as command
+use Rattle.call_files.specs.Layered.{layers_on}
+use Rattle.jps_run.specs.Calls.{call_with, output_of}
+use Rattle.jps_run.specs.Counting.{RoseForSearch, Search, search_of}
+use Rattle.jps_run.specs.Parts.{Is, Output}
+use Rattle.jps_run.specs.Replies.{by_on}
 use Rattle.jps_run.specs.Answerers.{who_of}
 use Rattle.jps_run.specs.Rising.{RoseForEntries}
-use Rattle.jps_run.specs.Rows.{AreRows}
+use Rattle.jps_run.specs.Rows.{rows_of, scen_output}
 use Rattle.jps_run.specs.Session.{who_on}
-use Rattle.jps_run.specs.Who.{Who}
-use Rattle.jps_run.proofs.Opening.{on-last}
+use Rattle.jps_run.specs.Who.{Who, replies_by}
+use Rattle.jps_run.proofs.Opening.{both-read, work-of}
 use Rattle.jps_run.proofs.Tallies.{small_status}
 use Rattle.jps_run.proofs.commands.scen.scen.Goals as goal
 
@@ -44,7 +52,7 @@ returns-in_err-entries-clause-opened g c =
     (rw (c.name-name.ensures) at c.in_err-entries.ensures.read texts tt) c.from_residual-in_err-entries.ensures.1
 
 pub returns-clause-opened : goal.returns-clause-opened
-unfolding HasSearched IsAnswered
+unfolding output_of search_of
 returns-clause-opened g c =
     let ws = map string_bytes c.args.request.words.now in
     let files = map_files c.args.settings (word_at ws 0) (option_copied c.args.request.tables) in
@@ -56,30 +64,19 @@ returns-clause-opened g c =
     let answerer = c.in_ok-answerer.answerer in
     let is : who_of answerer ≡ who_on c.args.settings r.is.map = c.in_ok-answerer.ensures.who ∙ r.is.is.0 in
     let entries = c.in_ok-entries.entries.items in
+    let set = c.args.settings in
+    let output : Who → Output = λ who. scen_output (replies_by who.by) set.show who.layers entries in
     record {
       texts = r.text ∷ (r.loaded ++ s.text ∷ []);
       accepted = accepted-more (g.F.Files.disk c.args.files.now).holds [] files texts last s.text r.accepted
           (subst (λ (k : List ℕ → Held). IsAccepted texts last.kind (k last.name) s.text) made.unchanged
           s.accepted);
-      is = record {
-        can = (c.in_ok-answerer.ensures.ready, s.spelled.1, c.new-2.ensures);
-        right = λ lines status w. (
-          subst (λ n. n ≤ 1) (sym w.same_status) (small_status w.rows),
-          on-last r.text r.is.map r.is.spelled r.loaded s.text (record {
-            value = entries;
-            is = s.spelled.0;
-            such = record {
-              from = w.rows;
-              all = w.all;
-              code = w.same_status;
-              such = subst (λ (by : Who). AreRows by entries w.rows) is w.are;
-            };
-          }),
-        );
-        counted = λ old new rose. inr (on-last r.text r.is.map r.is.spelled r.loaded s.text (record {
-          value = entries;
-          is = s.spelled.0;
-          such = subst (λ (by : Who). RoseForEntries by entries old new) is rose;
-        }));
-      };
+      is = work-of (call_with (asking command.Scen c.args.request) set) _ _ (output (who_on set r.is.map))
+          (both-read r.text r.loaded r.is.map s.text scen_of entries _ r.is.spelled s.spelled.0)
+          (small_status (rows_of (replies_by (by_on set)) (layers_on set r.is.map) entries))
+          (c.in_ok-answerer.ensures.ready, s.spelled.1, c.new-2.ensures)
+          (λ lines status w. subst (λ (who : Who). Is (output who) lines status) is w)
+          (λ old new rose. inr (subst (λ (o : Option Search). RoseForSearch o old new)
+          (sym (both-read r.text r.loaded r.is.map s.text scen_of entries _ r.is.spelled s.spelled.0))
+          (subst (λ (by : Who). RoseForEntries by entries old new) is rose)));
     }

@@ -1,4 +1,4 @@
-use Rattle.std.proofs.Common.{◌≡◌, inr, subst, ℕ, List, [], ◌∷◌, ◌++◌, map, string_bytes, arith}
+use Rattle.std.proofs.Common.{◌≡◌, ◌∙◌, ap, sym, inr, subst, ℕ, List, [], ◌∷◌, ◌++◌, map, string_bytes, arith}
 use Rattle.std.specs.Option.{option_copied}
 use Rattle.io_edge.specs.Known.{Held}
 use Rattle.call_files.proofs.Opening.{accepted-more, next-file, reading-stops, stops-longer}
@@ -9,9 +9,22 @@ use Rattle.call_files.specs.declared.kind.TextKind.TheVariants as kinds
 use Rattle.line_work.proofs.Stopping.{passed}
 use Rattle.word_list.specs.Kinds.{word_at}
 use Rattle.word_list.specs.declared.request.Show.{Show}
-use Rattle.jps_run.specs.Answers.{AreAnswers}
-use Rattle.jps_run.specs.Calls.{HasSearched, IsAnswered}
-use Rattle.jps_run.proofs.Opening.{on-last}
+use Rattle.std.specs.Prelude.{Option}
+use Rattle.edit_replay.specs.Session.{SessionData}
+use Rattle.script_text.specs.Faults.{script_of}
+use Rattle.word_list.specs.Request.{asking}
+use Rattle.word_list.specs.declared.rows.Command.TheVariants as command
+use Rattle.call_files.specs.Layered.{layers_on}
+use Rattle.jps_run.specs.Answers.{solve_output}
+use Rattle.jps_run.specs.Calls.{call_with, output_of}
+use Rattle.jps_run.specs.Counting.{RoseForSearch, Search, search_of}
+use Rattle.jps_run.specs.Parts.{Is}
+use Rattle.jps_run.specs.Replies.{session_by}
+use Rattle.jps_run.specs.Rising.{RoseForCommands}
+use Rattle.jps_run.specs.Session.{replies_of}
+use Rattle.jps_run.specs.Who.{replies_by}
+use Rattle.jps_run.specs.declared.work.Work.TheVariants as work
+use Rattle.jps_run.proofs.Opening.{both-read, work-of}
 use Rattle.jps_run.proofs.commands.solve.solve.Goals as goal
 
 pub returns-in_err-job-clause-opened : goal.returns-in_err-job-clause-opened
@@ -40,7 +53,7 @@ returns-in_err-commands-clause-opened g c =
     (rw (c.name-script.ensures) at c.in_err-commands.ensures.read texts tt) c.from_residual-in_err-commands.ensures.1
 
 pub returns-clause-opened : goal.returns-clause-opened
-unfolding HasSearched IsAnswered
+unfolding output_of search_of
 returns-clause-opened g c =
     let ws = map string_bytes c.args.request.words.now in
     let files = map_files c.args.settings (word_at ws 0) (option_copied c.args.request.tables) in
@@ -51,33 +64,24 @@ returns-clause-opened g c =
     let s = rw (c.name-script.ensures) at c.in_ok-commands.ensures.read texts tt in
     let job = c.in_ok-job.job in
     let commands = c.in_ok-commands.commands.items in
+    let whole : Is (solve_output (replies_of job.session) job.show job.session.layers commands)
+    ≡ Is (solve_output (replies_by (session_by c.args.settings)) c.args.settings.show
+    (layers_on c.args.settings r.is.map) commands) =
+    ap (λ (d : SessionData). Is (solve_output (replies_of d) job.show d.layers commands)) r.is.is.session
+    ∙ ap (λ (show : Show). Is (solve_output (replies_by (session_by c.args.settings)) show
+    (layers_on c.args.settings r.is.map) commands)) r.is.is.show in
     record {
       texts = r.text ∷ (r.loaded ++ s.text ∷ []);
       accepted = accepted-more (g.F.Files.disk c.args.files.now).holds [] files texts last s.text r.accepted
           (subst (λ (k : List ℕ → Held). IsAccepted texts last.kind (k last.name) s.text) made.unchanged
           s.accepted);
-      is = record {
-        can = tt;
-        right = λ lines status w. (
-          (let good : status ≡ 0 = w.good in omega arith),
-          (
-            on-last r.text r.is.map r.is.spelled r.loaded s.text (record {
-              value = commands;
-              is = s.spelled;
-              such = record {
-                session = job.session;
-                is = r.is.is.session;
-                such = subst (λ (show : Show). AreAnswers job.session show commands lines) r.is.is.show
-                    w.answers;
-              };
-            }),
-            w.good,
-          ),
-        );
-        counted = λ old new rose. inr (on-last r.text r.is.map r.is.spelled r.loaded s.text (record {
-          value = commands;
-          is = s.spelled;
-          such = record { session = job.session; is = r.is.is.session; such = rose };
-        }));
-      };
+      is = work-of (call_with (asking command.Solve c.args.request) c.args.settings) _
+          (work.Answer job c.in_ok-commands.commands)
+          (solve_output (replies_by (session_by c.args.settings)) c.args.settings.show
+          (layers_on c.args.settings r.is.map) commands)
+          (both-read r.text r.loaded r.is.map s.text script_of commands _ r.is.spelled s.spelled) (omega arith) tt
+          (λ lines status w. subst (λ (P : List (List ℕ) → ℕ → Type 0). P lines status) whole w)
+          (λ old new rose. inr (subst (λ (o : Option Search). RoseForSearch o old new)
+          (sym (both-read r.text r.loaded r.is.map s.text script_of commands _ r.is.spelled s.spelled))
+          (subst (λ (d : SessionData). RoseForCommands d commands old new) r.is.is.session rose)));
     }

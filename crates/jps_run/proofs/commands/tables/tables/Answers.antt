@@ -6,12 +6,17 @@ use Rattle.table_file.proofs.Laws.{file_is}
 use Rattle.table_file.specs.Encoding.{encoding}
 use Rattle.table_file.specs.Written.{file_of}
 use Rattle.word_list.specs.declared.request.Settings.{Settings}
-use Rattle.jps_run.specs.Calls.{IsAnswered}
+use Rattle.map_text.specs.Faults.{map_of}
+use Rattle.jps_run.specs.Calls.{call_with, output_of}
+use Rattle.jps_run.specs.Parts.{Is, printed}
+use Rattle.jps_run.specs.declared.work.Work.TheVariants as work
+use Rattle.word_list.specs.Request.{asking}
+use Rattle.word_list.specs.declared.rows.Command.TheVariants as command
 use Rattle.grid_answers.specs.Encoded.{IsEncoded}
 use Rattle.call_files.specs.Reading.{AreLayersOf}
 use Rattle.jps_run.specs.Tabled.{tables_text}
 use Rattle.grid_answers.specs.declared.encoded.TableFile.{TableFile}
-use Rattle.jps_run.proofs.Opening.{prints}
+use Rattle.jps_run.proofs.Opening.{value-read, work-of}
 use Rattle.jps_run.proofs.commands.tables.tables.Goals as goal
 
 module _ (set : Settings) (m : Map) (ls : Layers) (are : AreLayersOf set m ls) (file : TableFile)
@@ -19,18 +24,22 @@ module _ (set : Settings) (m : Map) (ls : Layers) (are : AreLayersOf set m ls) (
     (corner : file.corner ≡ ls.land.corner) where
   -- what is written is the table file of the map
   encodes : (lines : List (List ℕ)) (status : ℕ) → IsEncoded file lines status
-      → file_of file.corner file.land file.water ≡ tables_text set.rule m
+      → Is (printed (tables_text set.rule m) 0) lines status
   encodes lines status whole =
       let of_map = layers_of set.rule m.width m.height m.cells in
       let on_land = subst (λ (l : Layers). AreTablesOf file.land l.land) are land in
       let on_water = subst (λ (l : Layers). AreTablesOf file.water l.water) are water in
       let rule : file.corner ≡ set.rule = corner ∙ ap (λ (l : Layers). l.land.corner) are in
-      file_is of_map.land of_map.water file.corner file.land file.water
-      (record { width = refl; height = refl; corner = refl }) on_land on_water whole.land whole.water
-      ∙ ap (λ rule. encoding rule of_map.land of_map.water) rule
+      record {
+        all = whole.text.0 ∙ ap (λ (t : List ℕ). t ∷ []) (
+            file_is of_map.land of_map.water file.corner file.land file.water
+            (record { width = refl; height = refl; corner = refl }) on_land on_water whole.land whole.water
+            ∙ ap (λ rule. encoding rule of_map.land of_map.water) rule);
+        code = whole.text.1;
+      }
 
 pub returns-clause-opened : goal.returns-clause-opened
-unfolding IsAnswered
+unfolding output_of
 returns-clause-opened g c =
     let set = c.args.settings in
     let r = c.in_ok-layers.ensures.read in
@@ -39,16 +48,9 @@ returns-clause-opened g c =
     record {
       texts = r.text ∷ [];
       accepted = rw (← c.name-map.ensures) (r.accepted, tt);
-      is = record {
-        can = made.room;
-        right = λ lines status w. (
-          (let good : status ≡ 0 = w.text.1 in omega arith),
-          prints r.text r.spelled.map r.spelled.spelled (file_of file.corner file.land file.water) 0 (
-            encodes set r.spelled.map c.in_ok-layers.layers r.spelled.is file made.land made.water
-                made.corner lines status w,
-            refl,
-          ) lines status w.text,
-        );
-        counted = λ old new rose. inl refl;
-      };
+      is = work-of (call_with (asking command.Tables c.args.request) set) (r.text ∷ []) (work.Tables file)
+          (printed (tables_text set.rule r.spelled.map) 0)
+          (value-read (map_of r.text) r.spelled.map _ r.spelled.spelled) (omega arith) made.room
+          (encodes set r.spelled.map c.in_ok-layers.layers r.spelled.is file made.land made.water made.corner)
+          (λ old new rose. inl refl);
     }

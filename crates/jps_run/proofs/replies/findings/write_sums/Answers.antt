@@ -1,6 +1,8 @@
 use Rattle.std.proofs.Common.{length, subst, sym, List, ◌≤◌, ◌^◌}
 use Rattle.std.specs.Prelude.{OnOk}
 use Rattle.script_text.specs.declared.command.ScriptCommand.{ScriptCommand}
+use Rattle.line_work.specs.Sending.{SendsWhole}
+use Rattle.jps_run.specs.Drilling.{IsDrilled}
 use Rattle.jps_run.specs.Rising.{RoseForCommands}
 use Rattle.jps_run.proofs.Rising.{on_ok}
 use Rattle.jps_run.proofs.Drilling.{all-fit, drill-complete, drilled-none, taken-none}
@@ -26,3 +28,8 @@ returns-clause-counted g c =
     (RoseForCommands c.args.job.session items c.args.steps.now c.work_items.new.steps))
     c.as_slice.ensures.value
     (on_ok c.work_items.result (λ taken. taken.rose) c.work_items.ensures.counted)
+
+pub returns-clause-sent : goal.returns-clause-sent
+returns-clause-sent g c =
+    subst (λ (items : List ScriptCommand). SendsWhole (IsDrilled c.args.job items) (g.O.Sink.outflow c.args.out.now)
+    (g.O.Sink.outflow c.work_items.new.out) c.work_items.result) c.as_slice.ensures.value c.work_items.ensures.sent

@@ -1,7 +1,10 @@
-use Rattle.std.proofs.Common.{sym, subst}
+use Rattle.std.proofs.Common.{◌∙◌, ap, sym, subst}
 use Rattle.grid_moves.specs.Grid.{GridData}
+use Rattle.walk_judge.specs.Judgement.{judgement_of}
+use Rattle.walk_judge.specs.declared.judging.Judged.{Judged}
 use Rattle.plain_search.specs.Costs.{IsCostTo}
-use Rattle.jps_run.proofs.Judged.{ruled-searched, searched-so}
+use Rattle.jps_run.specs.declared.replies.ruling.Ruling.TheVariants as ruling
+use Rattle.jps_run.proofs.Judged.{searched-so}
 use Rattle.jps_run.proofs.replies.judge.ruling_by.Goals as goal
 
 pub judge_claimed-requires : goal.judge_claimed-requires
@@ -18,8 +21,5 @@ judge_claimed-requires c =
 pub returns-in-Searched : goal.returns-in-Searched
 returns-in-Searched c =
     let how = c.in-Searched in
-    let is = searched-so c.args.costs.now c.args.entry c.args.settled how.from how.to how.least
-    c.requires.settled how.is in
-    ruled-searched c.args.costs.now c.args.entry c.args.claimed.now c.judge_claimed.result how.from how.to
-    how.least
-    c.query_grid.result.now is c.query_grid.ensures c.judge_claimed.ensures.judged
+    rw (how.is) (ap (λ (j : Judged). ruling.Judged j) (c.judge_claimed.ensures.is
+    ∙ ap (λ (q : GridData). judgement_of q how.from how.to c.args.claimed.now how.least) c.query_grid.ensures))

@@ -1,10 +1,10 @@
-use Rattle.std.proofs.Common.{refl, [], arith, subst, List}
+use Rattle.std.proofs.Common.{refl, arith, subst, List}
 use Rattle.std.specs.Prelude.{OnOk}
 use Rattle.scen_text.specs.declared.entry.Entry.{Entry}
 use Rattle.jps_run.specs.Rising.{RoseForEntries}
 use Rattle.jps_run.specs.Answerers.{who_of}
 use Rattle.jps_run.proofs.Rising.{on_ok}
-use Rattle.jps_run.proofs.ScenRows.{new-room, rows-complete}
+use Rattle.jps_run.proofs.ScenRows.{new-room, rows-complete, rows-none}
 use Rattle.jps_run.proofs.replies.scenario.write_rows.Goals as goal
 
 pub work_items-requires-clause-room : goal.work_items-requires-clause-room
@@ -14,16 +14,7 @@ pub work_items-requires-clause-completes : goal.work_items-requires-clause-compl
 work_items-requires-clause-completes g c = rows-complete
 
 pub work_items-requires-clause-begins : goal.work_items-requires-clause-begins
-work_items-requires-clause-begins g c =
-    record {
-      rows = [];
-      ready = c.requires.ready;
-      are = tt;
-      all = refl;
-      counted = c.requires.new;
-      same = refl;
-      shown = refl;
-    }
+work_items-requires-clause-begins g c = rows-none c.args.job c.requires.ready c.requires.new
 
 pub work_items-requires-clause-counts : goal.work_items-requires-clause-counts
 work_items-requires-clause-counts g c = record { rose = refl; same = refl }

@@ -5,8 +5,8 @@ use Rattle.jps_run.specs.Answerers.{CanAnswer}
 use Rattle.jps_run.specs.Who.{by_boxes, by_moves}
 use Rattle.jps_run.specs.declared.replies.answerer.Answerer.{Answerer}
 use Rattle.jps_run.specs.declared.replies.answerer.Answerer.TheVariants as answerer
-use Rattle.jps_run.proofs.Answerers.{counts-none, fewest-as, most-as, reply-as, session-reply, tells-none}
-use Rattle.jps_run.proofs.Replying.{result-short}
+use Rattle.jps_run.proofs.Answerers.{counts-none, fewest-as, most-as, reply-as, tells-none}
+use Rattle.jps_run.proofs.Existing.{result-short}
 use Rattle.jps_run.proofs.replies.answerer.Answerer.query.Goals as goal
 
 pub query-requires-in-Boxes : goal.query-requires-in-Boxes
@@ -27,8 +27,7 @@ returns-in-Session g c =
     let b = answerer.Session c.in-Session.session in
     let r = c.query.result in
     record {
-      reply = reply-as r a b c.in-Session.is _ _
-          (session-reply r c.in-Session.session _ _ c.query.ensures.right c.query.ensures.function);
+      reply = reply-as r a b c.in-Session.is _ _ c.query.ensures.function;
       short = c.query.ensures.short;
       unchanged = ap (λ (d : SessionData). answerer.Session d) c.query.ensures.unchanged
           ∙ sym c.in-Session.is;
@@ -44,7 +43,7 @@ returns-in-Boxes g c =
     let r = c.query-in-Boxes.result in
     record {
       reply = reply-as r a b c.in-Boxes.is _ _ c.query-in-Boxes.ensures.reply;
-      short = result-short r c.in-Boxes.library.layers by_boxes _ _
+      short = result-short r by_boxes c.in-Boxes.library.layers _ _
           (subst (λ (a : Answerer). CanAnswer a) c.in-Boxes.is c.requires.ready).0
           c.query-in-Boxes.ensures.reply;
       unchanged = sym c.in-Boxes.is;
@@ -61,7 +60,7 @@ returns-in-Moves g c =
     let r = c.query-in-Moves.result in
     record {
       reply = reply-as r a b c.in-Moves.is _ _ c.query-in-Moves.ensures.reply;
-      short = result-short r c.in-Moves.library.layers by_moves _ _
+      short = result-short r by_moves c.in-Moves.library.layers _ _
           (subst (λ (a : Answerer). CanAnswer a) c.in-Moves.is c.requires.ready).0
           c.query-in-Moves.ensures.reply;
       unchanged = sym c.in-Moves.is;

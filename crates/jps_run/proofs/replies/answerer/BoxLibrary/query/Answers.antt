@@ -2,7 +2,7 @@ use Rattle.std.proofs.Common.{refl}
 use Rattle.grid_moves.specs.Layers.{query_grid}
 use Rattle.jps_run.specs.Who.{by_boxes}
 use Rattle.jps_run.proofs.Answerers.{one-between}
-use Rattle.jps_run.proofs.Replying.{result-on-map, unsearched-reply}
+use Rattle.jps_run.proofs.Replying.{result-on-map, unsearched_is}
 use Rattle.jps_run.proofs.replies.answerer.BoxLibrary.query.Goals as goal
 
 pub search-requires : goal.search-requires
@@ -17,11 +17,11 @@ pub returns-in-Ok : goal.returns-in-Ok
 returns-in-Ok c = record {
   reply = result-on-map c.search.result c.args.self.now.layers by_boxes
       (query_grid c.args.self.now.layers c.in-Ok.both.from) _ _ c.in-Ok.both c.in-Ok.ensures refl
-      c.search.ensures.right c.search.ensures.found;
+      c.search.ensures.found;
 }
 
 pub returns-in-Err : goal.returns-in-Err
 returns-in-Err c = record {
-  reply = rw c.unsearched.ensures (unsearched-reply
+  reply = rw c.unsearched.ensures (unsearched_is
       (record { layers = c.args.self.now.layers; by = by_boxes }) _ _ c.in-Err.why c.in-Err.ensures);
 }

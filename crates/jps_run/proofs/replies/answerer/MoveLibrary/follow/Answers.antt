@@ -1,6 +1,5 @@
 use Rattle.std.proofs.Common.{◌*◌, ◌≤◌, ◌∙◌, subst, sym}
 use Rattle.std.specs.Prelude.{IfOk}
-use Rattle.edit_replay.specs.Replies.{IsRightOn}
 use Rattle.first_moves.specs.Row.{AreMoves}
 use Rattle.grid_moves.specs.Grid.{GridData}
 use Rattle.jps_run.specs.Who.{IsFoundReply, by_moves}
@@ -41,8 +40,6 @@ returns-then-free g c =
     c.water.ensures c.water-then-free.ensures (sym c.free.ensures ∙ c.if-free.true) in
     let r = c.follow_moves.result in
     record {
-      right = subst (λ (k : GridData). IfOk r (IsRightOn k c.args.from c.args.to)) here
-          c.follow_moves.ensures.right;
       found = subst (λ (k : GridData). IfOk r (IsFoundReply by_moves k c.args.from c.args.to)) here
           c.follow_moves.ensures.found;
       later = c.follow_moves.ensures.later;
@@ -54,8 +51,6 @@ returns-else-free g c =
     c.water.ensures c.land.ensures (sym c.free.ensures ∙ c.if-free.false) in
     let r = c.follow_moves-else-free.result in
     record {
-      right = subst (λ (k : GridData). IfOk r (IsRightOn k c.args.from c.args.to)) here
-          c.follow_moves-else-free.ensures.right;
       found = subst (λ (k : GridData). IfOk r (IsFoundReply by_moves k c.args.from c.args.to)) here
           c.follow_moves-else-free.ensures.found;
       later = c.follow_moves-else-free.ensures.later;

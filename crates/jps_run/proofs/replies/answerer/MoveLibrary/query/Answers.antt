@@ -2,7 +2,7 @@ use Rattle.std.proofs.Common.{le_refl, refl}
 use Rattle.grid_moves.specs.Layers.{query_grid}
 use Rattle.jps_run.specs.Who.{by_moves}
 use Rattle.jps_run.proofs.Answerers.{one-between}
-use Rattle.jps_run.proofs.Replying.{result-on-map, unsearched-reply}
+use Rattle.jps_run.proofs.Replying.{result-on-map, unsearched_is}
 use Rattle.jps_run.proofs.replies.answerer.MoveLibrary.query.Goals as goal
 
 pub follow-requires : goal.follow-requires
@@ -18,13 +18,13 @@ pub returns-in-Ok : goal.returns-in-Ok
 returns-in-Ok g c = record {
   reply = result-on-map c.follow.result c.args.self.now.layers by_moves
       (query_grid c.args.self.now.layers c.in-Ok.both.from) _ _ c.in-Ok.both c.in-Ok.ensures refl
-      c.follow.ensures.right c.follow.ensures.found;
+      c.follow.ensures.found;
   later = c.follow.ensures.later;
 }
 
 pub returns-in-Err : goal.returns-in-Err
 returns-in-Err g c = record {
-  reply = rw c.unsearched.ensures (unsearched-reply
+  reply = rw c.unsearched.ensures (unsearched_is
       (record { layers = c.args.self.now.layers; by = by_moves }) _ _ c.in-Err.why c.in-Err.ensures);
   later = le_refl c.args.steps.now;
 }
