@@ -1,6 +1,15 @@
 -- How a call of `run` ends.
-use Rattle.std.proofs.Common.{◌≡◌, true, refl, sym, subst, List, [], ℕ, ◌≤◌, ◌⊎◌, inl, inr, arith}
-use Rattle.std.specs.Prelude.{Option, Some, None}
+use Rattle.std.proofs.Common.{◌≡◌, true, false, refl, sym, ap, subst, List, [], ◌∷◌, ℕ, ◌≤◌, ◌⊎◌, inl, inr, arith}
+use Rattle.std.specs.Prelude.{Ok, Option, Some, None, unwrap_or}
+use Rattle.std.specs.List.{concat}
+use Rattle.std.specs.Option.{option_map, option_map_or}
+use Rattle.map_text.specs.Faults.{map_of}
+use Rattle.map_text.specs.Map.{Map}
+use Rattle.word_list.specs.declared.rows.Command.{Command}
+use Rattle.word_list.specs.declared.rows.Command.TheVariants.{Live}
+use Rattle.jps_run.specs.Heard.{IsInput}
+use Rattle.jps_run.specs.Parts.{Output}
+use Rattle.jps_run.specs.Replies.{manner_of}
 use Rattle.io_edge.specs.Causes.{Rose}
 use Rattle.io_edge.specs.Known.{Disk, Held, Inflow, Outflow}
 use Rattle.word_list.specs.Calls.{is_call}
@@ -11,14 +20,41 @@ use Rattle.jps_run.specs.Ending.{CanHear, Comes, ComesRight, Gets, HasFailed, Ha
 use Rattle.jps_run.specs.Ending.{ending_line, of_file, of_input, of_all, of_taken, none, some, first}
 use Rattle.call_files.specs.FaultLines.{word_line}
 use Rattle.call_files.specs.Files.{HasRefused, FileRose}
-use Rattle.jps_run.specs.Live.{AreHeard, WroteHeard, WrotePending, WroteSomeTaken, WroteLinesTaken}
-use Rattle.jps_run.specs.Calls.{MayHear, files_of, reads_input}
-use Rattle.jps_run.specs.Outcome.{Spell, IsOutput, answered, bad_line, bad_word, bad_text, done}
+use Rattle.jps_run.specs.Live.{WroteHeard, answers_on, WrotePending, WroteSomeTaken, WroteLinesTaken}
+use Rattle.jps_run.specs.Calls.{MayHear, files_of, output_of, reads_input, task}
+use Rattle.jps_run.specs.Outcome.{Spell, IsOutput, bad_word, bad_text, done, hearing, outcome_of, printing}
 use Rattle.line_work.specs.Sending.{IsAll, IsPart, AreLines, Wrote}
 use Rattle.line_work.proofs.Pieces.{nothing}
 use Rattle.jps_run.specs.Who.{replies_by}
 use Rattle.jps_run.proofs.Existing.{replies_right}
-use Rattle.jps_run.proofs.Opening.{as_live}
+use Rattle.jps_run.proofs.Opening.{value-read}
+
+-- some script is what comes in
+some-input : (input : Option (List ℕ)) → (script : List ℕ) × IsInput input script
+some-input None = ([], tt)
+some-input (Some left) = (left, refl)
+
+-- what a call comes to that answers what comes in
+outcome-heard : (call : Call) (text : List ℕ) (behind : List (List ℕ)) (m : Map) (script : List ℕ)
+    → call.request.command ≡ Live → map_of text ≡ Ok m
+    → outcome_of replies_by call (text ∷ behind) script
+    ≡ Some (hearing (answers_on (manner_of replies_by call.settings) m) script)
+unfolding outcome_of
+outcome-heard call text behind m script is spelled = rw is (value-read (map_of text) m _ spelled)
+
+-- and one that prints this
+outcome-printed : (call : Call) (texts : List (List ℕ)) (script : List ℕ) (o : Output)
+    → output_of replies_by call texts ≡ Some o
+    → outcome_of replies_by call texts script ≡ Some (printing o)
+unfolding outcome_of output_of
+outcome-printed call texts script o e =
+    let off : reads_input call.request.command ≡ false = reads_none call.request.command e in
+    rw off (ap (option_map printing) e)
+  where
+    -- it does not read what comes in
+    reads_none : (c : Command) → (task c call.request.words).output (manner_of replies_by call.settings) texts ≡ Some o → reads_input c ≡ false
+    reads_none Live is = absurd (cc)
+    reads_none other is = refl
 
 module _ (words : List (List ℕ)) (holds : List ℕ → Held) (input : Option (List ℕ))
     (out out_now err err_now : Outflow)
@@ -36,30 +72,39 @@ module _ (words : List (List ℕ)) (holds : List ℕ → Held) (input : Option (
     }
     word-comes number status bad (inr six) printed few = absurd (omega arith)
 
-    heard-by : (call : Call) {refusal : Option (List ℕ)}
-        → (h : WroteHeard replies_by call holds out out_now input refusal)
-        → AreHeard replies_by call holds input h.such.lines refusal
-    heard-by call h = as_live h h.such.stand
+    -- what came in was answered, and refused or not
+    heard-comes : (call : Call) (refusal : Option (List ℕ)) → Spell words call
+        → WroteHeard replies_by call holds out out_now input refusal → Gets err err_now (unwrap_or refusal [])
+        → Comes replies_by words holds input out out_now err err_now (option_map_or (λ line. 3) refusal 0)
+    heard-comes call refusal spelled h printed =
+        let s = h.such.stand in
+        record {
+          outcome = hearing (answers_on (manner_of replies_by call.settings) h.read) s.script;
+          is = done call (h.text ∷ h.behind) s.script _ spelled h.accepted s.comes
+              (outcome-heard call h.text h.behind h.read s.script h.is h.spelled);
+          same_status = ap (λ (r : Option (List ℕ)). option_map_or (λ line. 3) r 0) (sym s.refused);
+          wrote = subst (λ (l : List (List ℕ)). Wrote out out_now (concat l)) s.are h.such.wrote;
+          printed = subst (λ (r : Option (List ℕ)). Gets err err_now (unwrap_or r [])) s.refused printed;
+        }
 
     -- the call was done
     call-comes : (call : Call) (status : ℕ) → Spell words call
         → IsAll (IsOutput replies_by call holds) out out_now status
         ⊎ ((status ≡ 0) × WroteHeard replies_by call holds out out_now input None) → Gets err err_now []
         → Comes replies_by words holds input out out_now err err_now status
-    call-comes call status spelled (inl a) printed = record {
-      outcome = record { status = status; out = a.lines; line = [] };
-      is = done call a.lines status spelled a.whole;
-      same_status = refl;
-      wrote = a.wrote;
-      printed = printed;
-    }
-    call-comes call status spelled (inr h) printed = record {
-      outcome = record { status = 0; out = h.1.such.lines; line = [] };
-      is = answered call h.1.such.lines spelled (heard-by call h.1);
-      same_status = sym h.0;
-      wrote = h.1.such.wrote;
-      printed = printed;
-    }
+    call-comes call status spelled (inl a) printed =
+        let script = some-input input in
+        record {
+          outcome = record { status = status; out = a.lines; line = [] };
+          is = done call a.whole.texts script.0 _ spelled a.whole.accepted script.1
+              (outcome-printed call a.whole.texts script.0 _ a.whole.answered);
+          same_status = refl;
+          wrote = a.wrote;
+          printed = printed;
+        }
+    call-comes call status spelled (inr h) printed =
+        subst (λ (n : ℕ). Comes replies_by words holds input out out_now err err_now n) (sym h.0)
+        (heard-comes call None spelled h.1 printed)
 
     -- a text is refused, or what comes in
     text-comes : (call : Call) (line bytes : List ℕ) → Spell words call
@@ -73,13 +118,8 @@ module _ (words : List (List ℕ)) (holds : List ℕ → Held) (input : Option (
       wrote = r.1;
       printed = subst (λ (l : List ℕ). Gets err err_now l) e printed;
     }
-    text-comes call line bytes spelled (inr h) e printed = record {
-      outcome = record { status = 3; out = h.such.lines; line = line };
-      is = bad_line call h.such.lines line spelled (heard-by call h);
-      same_status = refl;
-      wrote = h.such.wrote;
-      printed = subst (λ (l : List ℕ). Gets err err_now l) e printed;
-    }
+    text-comes call line bytes spelled (inr h) e printed =
+        heard-comes call (Some line) spelled h (subst (λ (l : List ℕ). Gets err err_now l) e printed)
 
 module _ (words : List (List ℕ)) (disk disk_now : Disk) (input input_now : Inflow) (out out_now : Outflow)
     (call : Call) (spelled : Spell words call) where

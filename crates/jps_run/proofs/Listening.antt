@@ -1,7 +1,7 @@
 -- What comes in, read by read, and how a call ends that answers it.
 use Rattle.std.proofs.Common.{◌≡◌, refl, sym, ap, ◌∙◌, subst, List, [], ◌∷◌, ◌++◌, append_assoc, ℕ, suc, zero}
 use Rattle.std.proofs.Common.{◌+◌, ◌<◌, ◌≤◌, ◌⊎◌, inl, inr, length, length-append, take, min, arith}
-use Rattle.std.specs.Prelude.{Option, Some, None, codes, true, false, if◌then◌else◌}
+use Rattle.std.specs.Prelude.{Option, Some, None, codes, true, false}
 use Rattle.std.proofs.lemmas.Bool.Decides.{nat_tests}
 use Rattle.std.specs.List.{concat}
 use Rattle.std.specs.Option.{option_map, option_map_or}
@@ -109,7 +109,7 @@ refused-script full rest fault line is named = elim (at-most (length (full ++ re
       let so = long-heard_of (full ++ rest) h in (
         so.0 ∙ ap commands_so_far front.1 ∙ stays.1,
         so.1 ∙ ap (λ (f : Option ScriptFault). Some (option_map_or script_line f (long_line (codes "script"))))
-        (ap fault_so_far front.1 ∙ stays.0) ∙ ap (λ (l : List ℕ). Some l) named,
+            (ap fault_so_far front.1 ∙ stays.0) ∙ ap (λ (l : List ℕ). Some l) named,
       )
 ]
   where

@@ -1,5 +1,5 @@
 -- A call is opened as work whose output answers it.
-use Rattle.std.proofs.Common.{◌≡◌, ◌∙◌, refl, sym, ap, subst, inl, false, List, [], ◌∷◌, ◌++◌, ℕ, ◌≤◌, arith}
+use Rattle.std.proofs.Common.{◌≡◌, ◌∙◌, refl, sym, ap, subst, List, [], ◌∷◌, ◌++◌, ℕ, ◌≤◌}
 use Rattle.std.specs.Prelude.{Ok, Err, Result, Option, Some}
 use Rattle.io_edge.specs.Known.{Disk, Held}
 use Rattle.map_text.specs.Faults.{map_of}
@@ -10,11 +10,11 @@ use Rattle.word_list.specs.declared.rows.Command.{Command}
 use Rattle.word_list.specs.declared.rows.Request.{Request}
 use Rattle.line_work.specs.Sending.{IsText}
 use Rattle.line_work.specs.declared.stop.Stop.{Stop}
-use Rattle.jps_run.specs.Calls.{call_with, files_of, output_of}
+use Rattle.jps_run.specs.Calls.{call_with, output_of}
 use Rattle.jps_run.specs.Live.{OnLive}
 use Rattle.jps_run.specs.Opened.{IsCounted, IsWorkOf, Opens, OpensWork, opened_as}
 use Rattle.jps_run.specs.declared.commands.Opened.{Opened}
-use Rattle.jps_run.specs.Parts.{Is, Output, on_last, on_map, on_read, printed}
+use Rattle.jps_run.specs.Parts.{Is, Output, on_last, on_read, printed}
 use Rattle.jps_run.specs.declared.work.Work.{Work}
 use Rattle.jps_run.specs.Works.{CanPerform, HasRisen, IsWhole}
 use Rattle.jps_run.specs.Who.{replies_by}

@@ -1,5 +1,5 @@
 -- What `draw` prints.
-use Rattle.std.proofs.Common.{◌≡◌, ◌∙◌, ◌≤◌, ◌*◌, refl, sym, ap, subst, List, ◌∷◌, [], ℕ, Bool, false, ◌&&◌, arith}
+use Rattle.std.proofs.Common.{◌≡◌, ◌∙◌, ◌≤◌, ◌*◌, refl, ap, subst, ◌∷◌, [], ℕ, false, ◌&&◌, arith}
 use Rattle.std.specs.Prelude.{IfOk, OnOk, Result, Ok, Err, Option, None, Some, codes}
 use Rattle.io_edge.specs.Known.{Outflow}
 use Rattle.grid_moves.specs.declared.Cell.{Cell}

@@ -9,7 +9,7 @@ use Rattle.script_text.specs.declared.command.ScriptCommand.{ScriptCommand}
 use Rattle.call_files.specs.Layered.{layers_on}
 use Rattle.jps_run.specs.Answering.{lines_by}
 use Rattle.jps_run.specs.Answers.{answer_lines}
-use Rattle.jps_run.specs.Replies.{session_by}
+use Rattle.jps_run.specs.Replies.{manner_of, session_by}
 use Rattle.jps_run.specs.Session.{replies_of, session_on}
 use Rattle.jps_run.specs.Who.{replies_by}
 use Rattle.jps_run.specs.Counting.{RoseForCall, none, read, some}
@@ -34,7 +34,7 @@ use Rattle.line_work.proofs.Stopping.{passed, ends-on}
 -- what holds of the session holds of the call
 module _ (call : Call) (holds : List ℕ → Held) (job : Answers) (l : IsListener call holds job) where
   -- its lines are those of the call
-  lines_are : lines_by job ≡ answers_on replies_by call l.on.read
+  lines_are : lines_by job ≡ answers_on (manner_of replies_by call.settings) l.on.read
   lines_are =
       ap (λ (d : SessionData). λ (commands : List ScriptCommand). answer_lines (replies_of d) job.show d.layers commands)
       l.on.such.session
@@ -42,7 +42,7 @@ module _ (call : Call) (holds : List ℕ → Held) (job : Answers) (l : IsListen
       (layers_on call.settings l.on.read) commands) l.on.such.show
 
   pub on-live : (Such : Answering → Type 0) → Such (lines_by job)
-      → OnLive call holds (λ m. Such (answers_on replies_by call m))
+      → OnLive call holds (λ m. Such (answers_on (manner_of replies_by call.settings) m))
   on-live Such k = as_live l.on (subst (λ (a : Answering). Such a) lines_are k)
 
   -- and its session is that on the map

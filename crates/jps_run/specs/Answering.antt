@@ -7,7 +7,6 @@ use Rattle.edit_replay.specs.Edited.{Edit, edited}
 use Rattle.edit_replay.specs.Session.{SessionData}
 use Rattle.script_text.specs.declared.command.ScriptCommand.{ScriptCommand}
 use Rattle.word_list.specs.declared.request.Settings.{Settings}
-use Rattle.word_list.specs.declared.request.Show.{Show}
 use Rattle.jps_run.specs.Answers.{answer_lines, edits_with, solve_output}
 use Rattle.jps_run.specs.Parts.{Is}
 use Rattle.jps_run.specs.Rising.{RoseForCommands}

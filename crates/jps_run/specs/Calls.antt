@@ -19,7 +19,6 @@ use Rattle.word_list.specs.declared.rows.Command.TheVariants as command
 use Rattle.word_list.specs.declared.request.Settings.{Settings}
 use Rattle.call_files.specs.Files.{AreAccepted, File, file_of}
 use Rattle.call_files.specs.Kinds.{first_text}
-use Rattle.call_files.specs.Layered.{layers_on}
 use Rattle.call_files.specs.declared.kind.TextKind.TheVariants as kind
 use Rattle.call_files.specs.MapFiles.{map_files}
 use Rattle.grid_answers.specs.BoxLines.{boxes_answer}
@@ -32,7 +31,7 @@ use Rattle.jps_run.specs.Answers.{query_line, solve_output}
 use Rattle.jps_run.specs.Drill.{drill_line, drilled}
 use Rattle.jps_run.specs.Parts.{Output, on_last, on_map, on_read, printed}
 use Rattle.jps_run.specs.Pictures.{drawing}
-use Rattle.jps_run.specs.Replies.{By, Replies, by_on, session_by}
+use Rattle.jps_run.specs.Replies.{By, Manner, Replies, grids_of, manner_of}
 use Rattle.jps_run.specs.Rows.{scen_output}
 use Rattle.jps_run.specs.Rulings.{judge_output}
 use Rattle.jps_run.specs.Tabled.{tables_text}
@@ -46,133 +45,137 @@ call_with asked set = record { request = asked; settings = set }
 abbrev pub cell_at : List (List ℕ) → ℕ → Cell
 cell_at words place = record { x = number_at words place; y = number_at words (place + 1) }
 
--- what is said of a command with its words: its name, the files that it reads, in their order, and what is
--- printed on their texts, where these are read, by what is replied to queries
+-- what is said of a command with its words: its name, the files that it reads, in their order, by the settings and
+-- the name of a table file, and what is printed on their texts, where these are read
 pub record Task : Type 0 where
   pub name : List ℕ
-  pub files : List File
-  pub output : (By → Replies) → List (List ℕ) → Option Output
+  pub files : Settings → Option (List ℕ) → List File
+  pub output : Manner → List (List ℕ) → Option Output
 
 -- the task of a command that reads no file, and prints this text
 abbrev saying : List ℕ → List ℕ → Task
-saying name text = record { name = name; files = []; output = λ replies texts. Some (printed text 0) }
+saying name text = record {
+  name = name;
+  files = λ set tables. [];
+  output = λ manner texts. Some (printed text 0);
+}
 
--- the task of a command, with its words, the name of a table file, and the settings. A session that begins
--- with a table file, whose text stands behind that of the map, is that on the map
-abbrev pub task : Settings → Command → List (List ℕ) → Option (List ℕ) → Task
-task set command.Help words tables = saying (codes "--help") help_text
-task set command.Version words tables = saying (codes "--version") version_text
-task set command.Query words tables = record {
+-- the task of a command, with its words. A session that begins with a table file, whose text stands behind that of
+-- the map, is that on the map
+abbrev pub task : Command → List (List ℕ) → Task
+task command.Help words = saying (codes "--help") help_text
+task command.Version words = saying (codes "--version") version_text
+task command.Query words = record {
   name = codes "query";
-  files = map_files set (word_at words 0) tables;
-  output = λ replies texts. on_map texts (λ m behind. Some (printed
-      (query_line (replies (by_on set)) set.show (layers_on set m) (cell_at words 1) (cell_at words 3)) 0));
+  files = λ set tables. map_files set (word_at words 0) tables;
+  output = λ manner texts. on_map texts (λ m behind. Some (printed
+      (query_line manner.picked manner.show (grids_of manner m) (cell_at words 1) (cell_at words 3)) 0));
 }
-task set command.Solve words tables = record {
+task command.Solve words = record {
   name = codes "solve";
-  files = map_files set (word_at words 0) tables ++ file_of kind.Script (word_at words 1) ∷ [];
-  output = λ replies texts. on_map texts (λ m behind. on_last behind (λ second. on_read (script_of second)
-      (λ commands. Some (solve_output (replies (session_by set)) set.show (layers_on set m) commands))));
+  files = λ set tables. map_files set (word_at words 0) tables ++ file_of kind.Script (word_at words 1) ∷ [];
+  output = λ manner texts. on_map texts (λ m behind. on_last behind (λ second. on_read (script_of second)
+      (λ commands. Some (solve_output manner.session manner.show (grids_of manner m) commands))));
 }
-task set command.Live words tables = record {
+task command.Live words = record {
   name = codes "live";
-  files = map_files set (word_at words 0) tables;
-  output = λ replies texts. None;
+  files = λ set tables. map_files set (word_at words 0) tables;
+  output = λ manner texts. None;
 }
-task set command.Scen words tables = record {
+task command.Scen words = record {
   name = codes "scen";
-  files = map_files set (word_at words 0) tables ++ file_of kind.Scen (word_at words 1) ∷ [];
-  output = λ replies texts. on_map texts (λ m behind. on_last behind (λ second. on_read (scen_of second)
-      (λ entries. Some (scen_output (replies (by_on set)) set.show (layers_on set m) entries))));
+  files = λ set tables. map_files set (word_at words 0) tables ++ file_of kind.Scen (word_at words 1) ∷ [];
+  output = λ manner texts. on_map texts (λ m behind. on_last behind (λ second. on_read (scen_of second)
+      (λ entries. Some (scen_output manner.picked manner.show (grids_of manner m) entries))));
 }
-task set command.Judge words tables = record {
+task command.Judge words = record {
   name = codes "judge";
-  files = file_of kind.Map (word_at words 0) ∷ file_of kind.Scen (word_at words 1)
+  files = λ set tables. file_of kind.Map (word_at words 0) ∷ file_of kind.Scen (word_at words 1)
       ∷ file_of kind.Walks (word_at words 2)
       ∷ [];
-  output = λ replies texts. on_map texts (λ m behind. on_read (scen_of (first_text behind)) (λ entries.
+  output = λ manner texts. on_map texts (λ m behind. on_read (scen_of (first_text behind)) (λ entries.
       on_last behind (λ third. on_read (walks_of third (length entries)) (λ claimed.
-      Some (judge_output (layers_on set m) entries claimed)))));
+      Some (judge_output (grids_of manner m) entries claimed)))));
 }
-task set command.Lengths words tables = record {
+task command.Lengths words = record {
   name = codes "lengths";
-  files = file_of kind.Map (word_at words 0) ∷ file_of kind.Scen (word_at words 1) ∷ [];
-  output = λ replies texts. on_map texts (λ m behind. on_last behind (λ second. on_read (scen_of second)
+  files = λ set tables. file_of kind.Map (word_at words 0) ∷ file_of kind.Scen (word_at words 1) ∷ [];
+  output = λ manner texts. on_map texts (λ m behind. on_last behind (λ second. on_read (scen_of second)
       (λ entries. Some (record {
-        lines = lengths_answer (layers_on set m) second entries;
-        status = lengths_status (length_lines (layers_on set m) second entries);
+        lines = lengths_answer (grids_of manner m) second entries;
+        status = lengths_status (length_lines (grids_of manner m) second entries);
       }))));
 }
-task set command.Problems words tables = record {
+task command.Problems words = record {
   name = codes "problems";
-  files = file_of kind.Map (word_at words 0) ∷ [];
-  output = λ replies texts. on_map texts (λ m behind. Some (printed
-      (problems_text (layers_on set m) (word_at words 0) (seed_at words 1) (count_at words 2))
-      (problems_status (layers_on set m) (seed_at words 1) (count_at words 2))));
+  files = λ set tables. file_of kind.Map (word_at words 0) ∷ [];
+  output = λ manner texts. on_map texts (λ m behind. Some (printed
+      (problems_text (grids_of manner m) (word_at words 0) (seed_at words 1) (count_at words 2))
+      (problems_status (grids_of manner m) (seed_at words 1) (count_at words 2))));
 }
-task set command.Prove words tables = record {
+task command.Prove words = record {
   name = codes "prove";
-  files = file_of kind.Map (word_at words 0) ∷ [];
-  output = λ replies texts. on_map texts (λ m behind. Some (printed
-      (proof_answer (layers_on set m) (cell_at words 1) (cell_at words 3))
-      (proof_status (layers_on set m) (cell_at words 1) (cell_at words 3))));
+  files = λ set tables. file_of kind.Map (word_at words 0) ∷ [];
+  output = λ manner texts. on_map texts (λ m behind. Some (printed
+      (proof_answer (grids_of manner m) (cell_at words 1) (cell_at words 3))
+      (proof_status (grids_of manner m) (cell_at words 1) (cell_at words 3))));
 }
-task set command.Check words tables = record {
+task command.Check words = record {
   name = codes "check";
-  files = file_of kind.Map (word_at words 0) ∷ file_of kind.Cert (word_at words 1) ∷ [];
-  output = λ replies texts. on_map texts (λ m behind. on_last behind (λ second. on_read (certificate_of second)
-      (λ stated. let found = certificate_answer (query_grid (layers_on set m) stated.head.start) stated in
+  files = λ set tables. file_of kind.Map (word_at words 0) ∷ file_of kind.Cert (word_at words 1) ∷ [];
+  output = λ manner texts. on_map texts (λ m behind. on_last behind (λ second. on_read (certificate_of second)
+      (λ stated. let found = certificate_answer (query_grid (grids_of manner m) stated.head.start) stated in
       Some (printed (verdict_line found) (verdict_status found)))));
 }
-task set command.Make words tables = saying (codes "make") (canonical_text
+task command.Make words = saying (codes "make") (canonical_text
     (made_map (seed_at words 0) (side_at words 1) (side_at words 2) (percent_at words 3)))
-task set command.Drill words tables = record {
+task command.Drill words = record {
   name = codes "drill";
-  files = [];
-  output = λ replies texts.
-      Some (printed (drill_line (drilled (replies (session_by set)) set (seed_at words 0))) 0);
+  files = λ set tables. [];
+  output = λ manner texts.
+      Some (printed (drill_line (drilled manner (seed_at words 0))) 0);
 }
-task set command.Draw words tables = record {
+task command.Draw words = record {
   name = codes "draw";
-  files = file_of kind.Map (word_at words 0) ∷ [];
-  output = λ replies texts. on_map texts (λ m behind. Some (drawing (replies (session_by set)) set.show m
-      (layers_on set m) (cell_at words 1) (cell_at words 3)));
+  files = λ set tables. file_of kind.Map (word_at words 0) ∷ [];
+  output = λ manner texts. on_map texts (λ m behind. Some (drawing manner.session manner.show m
+      (grids_of manner m) (cell_at words 1) (cell_at words 3)));
 }
-task set command.Costs words tables = record {
+task command.Costs words = record {
   name = codes "costs";
-  files = file_of kind.Map (word_at words 0) ∷ [];
-  output = λ replies texts. on_map texts (λ m behind.
-      Some (record { lines = costs_answer (layers_on set m) (cell_at words 1); status = 0 }));
+  files = λ set tables. file_of kind.Map (word_at words 0) ∷ [];
+  output = λ manner texts. on_map texts (λ m behind.
+      Some (record { lines = costs_answer (grids_of manner m) (cell_at words 1); status = 0 }));
 }
-task set command.Tables words tables = record {
+task command.Tables words = record {
   name = codes "tables";
-  files = file_of kind.Map (word_at words 0) ∷ [];
-  output = λ replies texts. on_map texts (λ m behind. Some (printed (tables_text set.rule m) 0));
+  files = λ set tables. file_of kind.Map (word_at words 0) ∷ [];
+  output = λ manner texts. on_map texts (λ m behind. Some (printed (tables_text manner.rule m) 0));
 }
-task set command.Boxes words tables = record {
+task command.Boxes words = record {
   name = codes "boxes";
-  files = file_of kind.SmallMap (word_at words 0) ∷ [];
-  output = λ replies texts. on_map texts (λ m behind.
-      Some (printed (boxes_answer (layers_on set m) (cell_at words 1)) 0));
+  files = λ set tables. file_of kind.SmallMap (word_at words 0) ∷ [];
+  output = λ manner texts. on_map texts (λ m behind.
+      Some (printed (boxes_answer (grids_of manner m) (cell_at words 1)) 0));
 }
-task set command.Moves words tables = record {
+task command.Moves words = record {
   name = codes "moves";
-  files = file_of kind.SmallMap (word_at words 0) ∷ [];
-  output = λ replies texts. on_map texts (λ m behind.
-      Some (printed (moves_answer (layers_on set m) (cell_at words 1)) 0));
+  files = λ set tables. file_of kind.SmallMap (word_at words 0) ∷ [];
+  output = λ manner texts. on_map texts (λ m behind.
+      Some (printed (moves_answer (grids_of manner m) (cell_at words 1)) 0));
 }
 
 -- the task of a call
 abbrev pub task_of : Call → Task
-task_of call = task call.settings call.request.command call.request.words call.request.tables
+task_of call = task call.request.command call.request.words
 
 -- the files of a call
 abbrev pub files_of : Call → List File
-files_of call = (task_of call).files
+files_of call = (task_of call).files call.settings call.request.tables
 
 -- what is printed for a call on the texts of its files
 unfoldable pub output_of : (By → Replies) → Call → List (List ℕ) → Option Output
-output_of replies call texts = (task_of call).output replies texts
+output_of replies call texts = (task_of call).output (manner_of replies call.settings) texts
 
 -- whether a command reads the input
 abbrev pub reads_input : Command → Bool

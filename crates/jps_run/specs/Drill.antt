@@ -2,7 +2,6 @@
 use Rattle.std.specs.Prelude.{ℕ, ◌+◌, ◌<◌, ◌^◌, Bool, true, false, ⊤, List, [], ◌++◌, codes, decimal}
 use Rattle.std.specs.Prelude.{count_by}
 use Rattle.std.specs.List.{sum_by}
-use Rattle.grid_moves.specs.declared.Cell.{Cell}
 use Rattle.grid_moves.specs.Layers.{Layers}
 use Rattle.edit_replay.specs.Edited.{edit_at, edit_reply}
 use Rattle.edit_replay.specs.declared.reply.EditReply.{EditReply}
@@ -14,10 +13,8 @@ use Rattle.map_maker.specs.Drill.{drill_commands}
 use Rattle.map_maker.specs.Making.{made_map}
 use Rattle.script_text.specs.declared.command.ScriptCommand.{ScriptCommand}
 use Rattle.script_text.specs.declared.command.ScriptCommand.TheVariants.{Block, Free, Flood, Query}
-use Rattle.word_list.specs.declared.request.Settings.{Settings}
-use Rattle.call_files.specs.Layered.{layers_on}
 use Rattle.jps_run.specs.Answers.{in_turn}
-use Rattle.jps_run.specs.Replies.{Replies}
+use Rattle.jps_run.specs.Replies.{Manner, Replies, grids_of}
 use Rattle.jps_run.specs.declared.replies.findings.Finding.{Finding}
 use Rattle.jps_run.specs.declared.replies.findings.Finding.TheVariants as finding
 
@@ -106,5 +103,6 @@ drill_line found =
     ++ costs_text (sum_by straight_in found) (sum_by diagonal_in found)
 
 -- what the commands of the seed come to, on the map of the seed: 256 by 256, a quarter of it blocked
-abbrev pub drilled : Replies → Settings → ℕ → List Finding
-drilled replies set seed = findings_of replies (layers_on set (made_map seed 256 256 25)) (drill_commands seed)
+abbrev pub drilled : Manner → ℕ → List Finding
+drilled manner seed =
+    findings_of manner.session (grids_of manner (made_map seed 256 256 25)) (drill_commands seed)

@@ -6,11 +6,10 @@ use Rattle.map_text.specs.Faults.{map_of}
 use Rattle.word_list.specs.Request.{Call}
 use Rattle.word_list.specs.declared.rows.Command.TheVariants.{Live}
 use Rattle.call_files.specs.Files.{AreAccepted}
-use Rattle.call_files.specs.Layered.{layers_on}
 use Rattle.jps_run.specs.Answers.{answer_lines}
 use Rattle.jps_run.specs.Calls.{files_of}
 use Rattle.jps_run.specs.Heard.{Answering, AnswerHeard, AnswerPending, AnswerTaken, WroteAll, WroteFirst, WroteLines}
-use Rattle.jps_run.specs.Replies.{By, Replies, session_by}
+use Rattle.jps_run.specs.Replies.{By, Manner, Replies, grids_of, manner_of}
 
 -- the call answers what comes in: each of its files is accepted, the map first, and of the map this holds
 pub record OnLive (call : Call) (holds : List ℕ → Held) (Such : Map → Type 0) : Type 0 where
@@ -22,36 +21,28 @@ pub record OnLive (call : Call) (holds : List ℕ → Held) (Such : Map → Type
   pub spelled : map_of text ≡ Ok read
   pub such : Such read
 
--- the lines that answer commands on a map, as the call asks
-abbrev pub answers_on : (By → Replies) → Call → Map → Answering
-answers_on replies call m commands =
-    answer_lines (replies (session_by call.settings)) call.settings.show (layers_on call.settings m) commands
-
--- the lines are the output of a call that answers what comes in, and this is the line of its refusal, if it
--- is refused
-abbrev pub AreHeard : (By → Replies) → Call → (List ℕ → Held) → Option (List ℕ) → List (List ℕ)
-    → Option (List ℕ) → Type 0
-AreHeard replies call holds input lines refusal =
-    OnLive call holds (λ m. AnswerHeard (answers_on replies call m) input refusal lines)
+-- the lines that answer commands on a map
+abbrev pub answers_on : Manner → Map → Answering
+answers_on manner m commands = answer_lines manner.session manner.show (grids_of manner m) commands
 
 -- its lines were written; exactly those of the whole commands among the bytes that were taken; a first part
 -- of these; the first ones of these, each whole
 abbrev pub WroteHeard : (By → Replies) → Call → (List ℕ → Held) → Outflow → Outflow → Option (List ℕ)
     → Option (List ℕ) → Type 0
 WroteHeard replies call holds out out_now input refusal =
-    OnLive call holds (λ m. WroteAll (AnswerHeard (answers_on replies call m) input refusal) out out_now)
+    OnLive call holds (λ m. WroteAll (AnswerHeard (answers_on (manner_of replies call.settings) m) input refusal) out out_now)
 
 abbrev pub WrotePending : (By → Replies) → Call → (List ℕ → Held) → Outflow → Outflow → Option (List ℕ)
     → Option (List ℕ) → Type 0
 WrotePending replies call holds out out_now input left =
-    OnLive call holds (λ m. WroteAll (AnswerPending (answers_on replies call m) input left) out out_now)
+    OnLive call holds (λ m. WroteAll (AnswerPending (answers_on (manner_of replies call.settings) m) input left) out out_now)
 
 abbrev pub WroteSomeTaken : (By → Replies) → Call → (List ℕ → Held) → Outflow → Outflow → Option (List ℕ)
     → Option (List ℕ) → Type 0
 WroteSomeTaken replies call holds out out_now input left =
-    OnLive call holds (λ m. WroteFirst (AnswerTaken (answers_on replies call m) input left) out out_now)
+    OnLive call holds (λ m. WroteFirst (AnswerTaken (answers_on (manner_of replies call.settings) m) input left) out out_now)
 
 abbrev pub WroteLinesTaken : (By → Replies) → Call → (List ℕ → Held) → Outflow → Outflow → Option (List ℕ)
     → Option (List ℕ) → Type 0
 WroteLinesTaken replies call holds out out_now input left =
-    OnLive call holds (λ m. WroteLines (AnswerTaken (answers_on replies call m) input left) out out_now)
+    OnLive call holds (λ m. WroteLines (AnswerTaken (answers_on (manner_of replies call.settings) m) input left) out out_now)

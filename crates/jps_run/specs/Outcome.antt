@@ -1,15 +1,17 @@
 -- What a request comes to, where nothing outside fails and memory is there.
-use Rattle.std.specs.Prelude.{◌≡◌, ℕ, List, [], Option, Some, None}
+use Rattle.std.specs.Prelude.{◌≡◌, ℕ, List, [], Option, Some, if◌then◌else◌, unwrap_or}
+use Rattle.std.specs.Option.{option_map, option_map_or}
 use Rattle.io_edge.specs.Known.{Held}
 use Rattle.word_list.specs.Calls.{call_of, is_call}
 use Rattle.word_list.specs.Request.{Call}
 use Rattle.word_list.specs.Rule.{IsBadWord}
 use Rattle.call_files.specs.FaultLines.{word_line}
 use Rattle.call_files.specs.Files.{AreAccepted, HasRefused}
-use Rattle.jps_run.specs.Calls.{files_of, output_of}
-use Rattle.jps_run.specs.Live.{AreHeard}
-use Rattle.jps_run.specs.Parts.{Output}
-use Rattle.jps_run.specs.Replies.{By, Replies}
+use Rattle.jps_run.specs.Calls.{files_of, output_of, reads_input}
+use Rattle.jps_run.specs.Heard.{Answering, IsInput, heard_commands, heard_refusal}
+use Rattle.jps_run.specs.Live.{answers_on}
+use Rattle.jps_run.specs.Parts.{Output, on_map}
+use Rattle.jps_run.specs.Replies.{By, Replies, manner_of}
 
 -- the words spell the call
 abbrev pub Spell : List (List ℕ) → Call → Type 0
@@ -27,7 +29,27 @@ pub record Outcome : Type 0 where
   pub out : List (List ℕ)
   pub line : List ℕ
 
--- what words, held files and an input come to, by what is replied to queries: the first of these that applies
+-- of a call that prints this
+abbrev pub printing : Output → Outcome
+printing o = record { status = o.status; out = o.lines; line = [] }
+
+-- of one that answers a script that comes in
+abbrev pub hearing : Answering → List ℕ → Outcome
+hearing answers script = record {
+  status = option_map_or (λ line. 3) (heard_refusal script) 0;
+  out = answers (heard_commands script);
+  line = unwrap_or (heard_refusal script) [];
+}
+
+-- what a call comes to on the texts of its files, each accepted, and on a script that comes in, if it reads one
+unfoldable pub outcome_of : (By → Replies) → Call → List (List ℕ) → List ℕ → Option Outcome
+outcome_of replies call texts script =
+    if reads_input call.request.command
+    then on_map texts (λ m behind. Some (hearing (answers_on (manner_of replies call.settings) m) script))
+    else option_map printing (output_of replies call texts)
+
+-- what words, held files and an input come to, by what is replied to queries: the words are refused, or else the
+-- text of a file, or else it is what the call comes to
 pub data IsOutcome (replies : By → Replies) (words : List (List ℕ)) (holds : List ℕ → Held)
     (input : Option (List ℕ))
     : Outcome → Type 0 where
@@ -36,11 +58,6 @@ pub data IsOutcome (replies : By → Replies) (words : List (List ℕ)) (holds :
   bad_text : (call : Call) (line : List ℕ) → Spell words call
       → HasRefused holds (files_of call) line
       → IsOutcome replies words holds input (record { status = 3; out = []; line = line })
-  done : (call : Call) (lines : List (List ℕ)) (status : ℕ) → Spell words call
-      → IsOutput replies call holds lines status
-      → IsOutcome replies words holds input (record { status = status; out = lines; line = [] })
-  answered : (call : Call) (lines : List (List ℕ)) → Spell words call → AreHeard replies call holds input lines None
-      → IsOutcome replies words holds input (record { status = 0; out = lines; line = [] })
-  bad_line : (call : Call) (lines : List (List ℕ)) (line : List ℕ) → Spell words call
-      → AreHeard replies call holds input lines (Some line)
-      → IsOutcome replies words holds input (record { status = 3; out = lines; line = line })
+  done : (call : Call) (texts : List (List ℕ)) (script : List ℕ) (outcome : Outcome) → Spell words call
+      → AreAccepted holds [] (files_of call) texts → IsInput input script
+      → outcome_of replies call texts script ≡ Some outcome → IsOutcome replies words holds input outcome

@@ -1,6 +1,8 @@
 -- What is replied to queries, and that it is right: nothing is said here of how a reply is come to.
 use Rattle.grid_moves.specs.declared.Cell.{Cell}
-use Rattle.grid_moves.specs.Layers.{Layers}
+use Rattle.grid_moves.specs.Layers.{Layers, layers_of}
+use Rattle.grid_moves.specs.declared.Corner.{Corner}
+use Rattle.map_text.specs.Map.{Map}
 use Rattle.grid_moves.specs.Reply.{IsRight}
 use Rattle.edit_replay.specs.Replies.{answer_of}
 use Rattle.edit_replay.specs.declared.engine.Engine.{Engine}
@@ -13,6 +15,7 @@ use Rattle.word_list.specs.declared.request.Pick.TheVariants.{Session, Small}
 use Rattle.word_list.specs.declared.request.SessionEngine.{SessionEngine}
 use Rattle.word_list.specs.declared.request.SessionEngine.TheVariants.{Plain, Jps, Block, Plus}
 use Rattle.word_list.specs.declared.request.Settings.{Settings}
+use Rattle.word_list.specs.declared.request.Show.{Show}
 use Rattle.word_list.specs.declared.request.States.{States}
 use Rattle.word_list.specs.declared.request.States.TheVariants as states
 use Rattle.word_list.specs.Settings.{session_engine}
@@ -62,3 +65,23 @@ Replies = Layers → Cell → Cell → Reply
 -- each of these replies is right, however queries are answered
 abbrev pub AreRight : (By → Replies) → Type 0
 AreRight replies = (by : By) (ls : Layers) (s t : Cell) → IsRight ls s t (answer_of (replies by ls s t))
+
+-- how a call is answered: what is replied to its queries by the picked engine, and by a session; what is shown of
+-- a reply; and the corner rule
+pub record Manner : Type 0 where
+  pub picked : Replies
+  pub session : Replies
+  pub show : Show
+  pub rule : Corner
+
+abbrev pub manner_of : (By → Replies) → Settings → Manner
+manner_of replies set = record {
+  picked = replies (by_on set);
+  session = replies (session_by set);
+  show = set.show;
+  rule = set.rule;
+}
+
+-- the grids of a map
+abbrev pub grids_of : Manner → Map → Layers
+grids_of manner m = layers_of manner.rule m.width m.height m.cells

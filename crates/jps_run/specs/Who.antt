@@ -8,7 +8,6 @@ use Rattle.edit_replay.specs.Counting.{fewest_of, most_of}
 use Rattle.edit_replay.specs.Found.{reply_with}
 use Rattle.edit_replay.specs.ReplyOf.{found_with, reply_finding, states_of}
 use Rattle.edit_replay.specs.Session.{SessionData}
-use Rattle.edit_replay.specs.declared.engine.Engine.{Engine}
 use Rattle.edit_replay.specs.declared.reply.Reply.{Reply}
 use Rattle.goal_boxes.specs.Made.{boxed_found}
 use Rattle.first_moves.specs.Follow.{led_walk}

@@ -1,4 +1,4 @@
-use Rattle.std.proofs.Common.{◌≡◌, refl, sym, ap, ◌∙◌, subst, inr, [], ◌∷◌, ℕ, List}
+use Rattle.std.proofs.Common.{refl, sym, ◌∙◌, subst, inr, [], ◌∷◌}
 use Rattle.std.specs.Prelude.{Option}
 use Rattle.grid_moves.specs.declared.Cell.{Cell}
 use Rattle.map_text.specs.Map.{Map}

@@ -1,4 +1,4 @@
-use Rattle.std.proofs.Common.{◌≡◌, refl, ap, ◌∙◌, subst, inl, [], ◌∷◌, ℕ, List, arith}
+use Rattle.std.proofs.Common.{refl, ◌∙◌, subst, inl, [], ◌∷◌, arith}
 use Rattle.grid_moves.specs.Layers.{Layers}
 use Rattle.call_files.specs.Layered.{layers_on}
 use Rattle.word_list.specs.Request.{asking}

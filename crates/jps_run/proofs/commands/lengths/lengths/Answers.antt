@@ -1,4 +1,4 @@
-use Rattle.std.proofs.Common.{◌≡◌, refl, sym, ap, ◌∙◌, subst, inl, [], ◌∷◌, ℕ, List}
+use Rattle.std.proofs.Common.{◌≡◌, refl, ap, ◌∙◌, inl, [], ◌∷◌, ℕ, List}
 use Rattle.grid_moves.specs.Layers.{Layers}
 use Rattle.scen_lines.specs.Line.{version_line}
 use Rattle.scen_maker.specs.Lengths.{length_lines, lengths_answer, lengths_status}
@@ -8,7 +8,6 @@ use Rattle.call_files.specs.Layered.{layers_on}
 use Rattle.word_list.specs.Request.{asking}
 use Rattle.word_list.specs.declared.rows.Command.TheVariants as command
 use Rattle.jps_run.specs.Calls.{call_with, output_of}
-use Rattle.jps_run.specs.Parts.{Is}
 use Rattle.jps_run.proofs.Opening.{both-read, work-of}
 use Rattle.jps_run.proofs.commands.lengths.lengths.Goals as goal
 

@@ -1,4 +1,4 @@
-use Rattle.std.proofs.Common.{refl, sym, ap, ◌∙◌, inl, [], ◌∷◌, ℕ, List}
+use Rattle.std.proofs.Common.{refl, sym, ap, ◌∙◌, inl, [], ◌∷◌}
 use Rattle.std.specs.Prelude.{Some}
 use Rattle.grid_moves.specs.declared.Cell.{Cell}
 use Rattle.grid_moves.specs.Layers.{Layers}
@@ -33,7 +33,7 @@ returns-clause-opened g c =
             ← c.ends_of-ends.ensures.gx,
             ← c.ends_of-ends.ensures.gy,
           ) (ap (λ (ls : Layers). Some (proof ls)) (sym r.spelled.is)
-              ∙ rw (c.in_ok-text.ensures.text, c.in_ok-text.ensures.status) refl))
+          ∙ rw (c.in_ok-text.ensures.text, c.in_ok-text.ensures.status) refl))
           (rw (c.in_ok-text.ensures.status) (small_proof c.in_ok-layers.layers s t)) tt
           (texted p.text.items p.status) (λ old new rose. inl refl);
     }

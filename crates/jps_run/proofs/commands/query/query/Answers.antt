@@ -1,4 +1,4 @@
-use Rattle.std.proofs.Common.{◌≡◌, ◌∙◌, refl, sym, subst, inr, ◌∷◌, ℕ, List, arith}
+use Rattle.std.proofs.Common.{◌∙◌, refl, sym, subst, inr, ◌∷◌, ℕ, List, arith}
 use Rattle.std.specs.Prelude.{Option}
 use Rattle.grid_moves.specs.declared.Cell.{Cell}
 use Rattle.word_list.specs.Request.{asking}

@@ -1,4 +1,4 @@
-use Rattle.std.proofs.Common.{◌≡◌, ◌∙◌, ◌≤◌, sym, subst, inr, ℕ, List, [], ◌∷◌, ◌++◌, map, string_bytes}
+use Rattle.std.proofs.Common.{◌≡◌, ◌∙◌, sym, subst, inr, ℕ, List, [], ◌∷◌, ◌++◌, map, string_bytes}
 use Rattle.std.specs.Option.{option_copied}
 use Rattle.io_edge.specs.Known.{Held}
 use Rattle.call_files.proofs.Opening.{accepted-more, next-file, reading-stops, stops-longer}

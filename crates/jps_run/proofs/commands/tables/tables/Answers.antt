@@ -4,7 +4,6 @@ use Rattle.map_text.specs.Map.{Map}
 use Rattle.plus_tables.specs.Tables.{AreTablesOf}
 use Rattle.table_file.proofs.Laws.{file_is}
 use Rattle.table_file.specs.Encoding.{encoding}
-use Rattle.table_file.specs.Written.{file_of}
 use Rattle.word_list.specs.declared.request.Settings.{Settings}
 use Rattle.map_text.specs.Faults.{map_of}
 use Rattle.jps_run.specs.Calls.{call_with, output_of}

@@ -2,7 +2,7 @@ use Rattle.std.proofs.Common.{◌∙◌, ap, sym}
 use Rattle.grid_moves.specs.Layers.{Layers}
 use Rattle.scen_maker.specs.Settling.{settled_of}
 use Rattle.scen_maker.specs.declared.costs.Settled.{Settled}
-use Rattle.jps_run.specs.Rulings.{ruling_by, ruling_of}
+use Rattle.jps_run.specs.Rulings.{ruling_by}
 use Rattle.jps_run.proofs.replies.judge.ruling_on.Goals as goal
 
 pub ruling_by-requires-clause-settled : goal.ruling_by-requires-clause-settled
