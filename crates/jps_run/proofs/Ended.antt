@@ -35,7 +35,7 @@ some-input None = ([], tt)
 some-input (Some left) = (left, refl)
 
 -- what a call comes to that answers what comes in
-outcome-heard : (call : Call) (text : List ℕ) (behind : List (List ℕ)) (m : Map) (script : List ℕ)
+pub outcome-heard : (call : Call) (text : List ℕ) (behind : List (List ℕ)) (m : Map) (script : List ℕ)
     → call.request.command ≡ Live → map_of text ≡ Ok m
     → outcome_of replies_by call (text ∷ behind) script
     ≡ Some (hearing (answers_on (manner_of replies_by call.settings) m) script)
@@ -43,7 +43,7 @@ unfolding outcome_of
 outcome-heard call text behind m script is spelled = rw is (value-read (map_of text) m _ spelled)
 
 -- and one that prints this
-outcome-printed : (call : Call) (texts : List (List ℕ)) (script : List ℕ) (o : Output)
+pub outcome-printed : (call : Call) (texts : List (List ℕ)) (script : List ℕ) (o : Output)
     → output_of replies_by call texts ≡ Some o
     → outcome_of replies_by call texts script ≡ Some (printing o)
 unfolding outcome_of output_of

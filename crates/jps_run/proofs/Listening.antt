@@ -83,7 +83,7 @@ pub few-heard : (script : List ℕ) → length script ≤ limit_of kind.Script
 few-heard script few =
     let off : is_long script ≡ false = grind (arith, nat_tests) in (rw off refl, rw off refl)
 
-long-heard_of : (script : List ℕ) → limit_of kind.Script < length script
+pub long-heard_of : (script : List ℕ) → limit_of kind.Script < length script
     → (heard_commands script ≡ commands_so_far (counted script))
     × (heard_refusal script
     ≡ Some (option_map_or script_line (fault_so_far (counted script)) (long_line (codes "script"))))

@@ -24,7 +24,7 @@ pub value-read : {V F X : Type 0} (read : Result V F) (value : V) (make : V → 
     → on_read read make ≡ make value
 value-read read value make e = ap (λ r. on_read r make) e
 
-last-read : {X : Type 0} (before : List (List ℕ)) (text : List ℕ) (make : List ℕ → Option X)
+pub last-read : {X : Type 0} (before : List (List ℕ)) (text : List ℕ) (make : List ℕ → Option X)
     → on_last (before ++ text ∷ []) make ≡ make text
 last-read [] text make = refl
 last-read (first ∷ []) text make = refl

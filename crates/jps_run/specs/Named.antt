@@ -2,7 +2,6 @@
 use Rattle.std.specs.Prelude.{◌≡◌, true, [], bytes_eq, refl}
 use Rattle.std.specs.List.{list_all}
 use Rattle.word_list.specs.Request.{rows}
-use Rattle.word_list.specs.Settings.{default_settings}
 use Rattle.jps_run.specs.Calls.{task}
 
 -- each row of the table names the command whose task has that name

@@ -1,32 +1,33 @@
 -- What a call wrote that stopped with no outcome begins the one output.
 use Rattle.std.proofs.Common.{◌≡◌, ◌∙◌, refl, ap, sym, subst, ℕ, ◌≤◌, ◌⊎◌, inl, inr, arith}
 use Rattle.std.proofs.Common.{List, [], ◌∷◌, ◌++◌, append_assoc, length, take, drop}
-use Rattle.std.specs.Prelude.{Option, Some, None}
+use Rattle.std.specs.Prelude.{Option, Some}
 use Rattle.std.specs.List.{concat}
 use Rattle.std.proofs.Math.Seq.{take-append_seam, take-length}
 use Rattle.std.proofs.lemmas.List.{take-append-drop}
 use Rattle.std.proofs.lemmas.List.Folds.{concat-append}
 use Rattle.io_edge.specs.Known.{Disk, Held, Inflow, Outflow}
 use Rattle.io_edge.specs.Whole.{AppendsSome}
-use Rattle.edit_replay.specs.Session.{SessionData}
+use Rattle.map_text.specs.Map.{Map}
 use Rattle.word_list.specs.Request.{Call}
-use Rattle.word_list.specs.declared.request.Show.{Show}
 use Rattle.line_work.specs.Sending.{Wrote}
 use Rattle.line_work.proofs.Pieces.{part-more}
-use Rattle.jps_run.specs.Heard.{AnswerTaken}
+use Rattle.jps_run.specs.Heard.{AnswerTaken, heard_commands}
 use Rattle.outcome_laws.specs.Alike.{BeginWith}
-use Rattle.outcome_laws.proofs.OnMap.{one_start_on}
-use Rattle.outcome_laws.proofs.Taken.{pending_taken}
+use Rattle.outcome_laws.proofs.Taken.{pending_taken, taken_begins}
 use Rattle.outcome_laws.specs.Files.{AreKnown}
-use Rattle.outcome_laws.proofs.Files.{not_both}
+use Rattle.outcome_laws.proofs.Files.{not_both, one_list}
 use Rattle.jps_run.specs.Calls.{files_of}
 use Rattle.jps_run.specs.Ending.{HasFailed, HasLines, HasPart, first, none, of_all, of_file, of_input}
 use Rattle.jps_run.specs.Ending.{of_taken, some}
 use Rattle.outcome_laws.specs.Outcomes.{FilesAreKnown, WrittenBeginsTheOutput, WroteLinesOf}
-use Rattle.jps_run.specs.Live.{AreHeard, OnLive}
-use Rattle.jps_run.specs.Outcome.{IsOutcome, IsOutput, Outcome, Spell, done}
-use Rattle.outcome_laws.proofs.Only.{CallComes, broken, finished, refused, replied}
-use Rattle.outcome_laws.proofs.Only.{call_comes, itself, live_call, on_one_map, outcomes_one}
+use Rattle.jps_run.specs.Live.{OnLive, answers_on}
+use Rattle.jps_run.specs.Outcome.{IsOutcome, IsOutput, Outcome, Spell, done, hearing, outcome_of}
+use Rattle.jps_run.specs.Replies.{grids_of, manner_of}
+use Rattle.jps_run.specs.Who.{replies_by}
+use Rattle.jps_run.specs.Answers.{answer_lines}
+use Rattle.jps_run.proofs.Ended.{outcome-heard, outcome-printed}
+use Rattle.outcome_laws.proofs.Only.{CallComes, call_comes, finished, outcomes_one, refused, same_value}
 
 -- the first ones of these lines begin them
 begin-by : (count : ℕ) (lines : List (List ℕ)) → BeginWith lines (take count lines)
@@ -72,54 +73,57 @@ module _ (before now : Outflow) where
 
 -- what a call was answered that reads the input begins all that it is answered
 module _ (holds : List ℕ → Held) (script : List ℕ) (call : Call) (known : AreKnown holds (files_of call))
-    {Such : SessionData → Show → Type 0} (p : OnLive call holds Such) (left : Option (List ℕ))
-    (lines : List (List ℕ)) (taken : AnswerTaken p.session call.settings.show (Some script) left lines) where
-  heard_begins : (refusal : Option (List ℕ)) (all : List (List ℕ))
-      → AreHeard call holds (Some script) all refusal
-      → BeginWith all lines
-  heard_begins refusal all q =
-      one_start_on call.settings call.settings p.read refl refl p.session q.session p.answers
-      (on_one_map holds script call call (itself call) known p q) call.settings.show script left refusal lines all taken q.such
-
+    {Such : Map → Type 0} (p : OnLive call holds Such) (left : Option (List ℕ))
+    (lines : List (List ℕ))
+    (taken : AnswerTaken (answers_on (manner_of replies_by call.settings) p.read) (Some script) left lines) where
   call_begins : (outcome : Outcome) → CallComes call holds (Some script) outcome → BeginWith outcome.out lines
   call_begins _ (refused line r) =
       absurd (not_both holds (files_of call) (p.text ∷ p.behind) line known p.accepted r)
-  call_begins _ (finished all status q) =
-      live_call holds call call refl p all status q
-  call_begins _ (replied all q) = heard_begins None all q
-  call_begins _ (broken all line q) = heard_begins (Some line) all q
+  call_begins _ (finished texts heard outcome q comes e) =
+      let manner = manner_of replies_by call.settings in
+      let begun : BeginWith (answer_lines manner.session manner.show (grids_of manner p.read) (heard_commands script)) lines
+      = taken_begins manner.session manner.show (grids_of manner p.read) script left lines taken in
+      let same : hearing (answers_on manner p.read) script ≡ outcome =
+      same_value (hearing (answers_on manner p.read) script) outcome
+      (outcome_of replies_by call (p.text ∷ p.behind) script)
+      (outcome-heard call p.text p.behind p.read script p.is p.spelled)
+      (ap (λ (ts : List (List ℕ)). outcome_of replies_by call ts script)
+      (one_list holds (files_of call) (p.text ∷ p.behind) texts known p.accepted q)
+      ∙ ap (λ (s : List ℕ). outcome_of replies_by call texts s) (sym comes) ∙ e) in
+      subst (λ (o : Outcome). BeginWith o.out lines) same begun
 
 module _ (words : List (List ℕ)) (holds : List ℕ → Held) (input input_now : Inflow) (out out_now : Outflow)
     (script : List ℕ) (outcome : Outcome) (known : FilesAreKnown words holds)
-    (comes_in : input.left ≡ Some script) (is : IsOutcome words holds (Some script) outcome) where
+    (comes_in : input.left ≡ Some script) (is : IsOutcome replies_by words holds (Some script) outcome) where
   -- the output of a call by its files alone is that of the outcome
   output_one : (call : Call) → Spell words call → (lines : List (List ℕ)) (status : ℕ)
-      → IsOutput call holds lines status → lines ≡ outcome.out
+      → IsOutput replies_by call holds lines status → lines ≡ outcome.out
   output_one call spelled lines status right =
       ap (λ (o : Outcome). o.out)
       (outcomes_one words holds script (record { status = status; out = lines; line = [] })
-      outcome known (done call lines status spelled right) is)
+      outcome known (done call right.texts script _ spelled right.accepted refl
+      (outcome-printed call right.texts script _ right.answered)) is)
 
-  taken_begins : {Such : SessionData → Show → Type 0} (call : Call) → Spell words call
+  taken_begins_all : {Such : Map → Type 0} (call : Call) → Spell words call
       → (p : OnLive call holds Such) → (lines : List (List ℕ))
-      → AnswerTaken p.session call.settings.show input.left input_now.left lines
+      → AnswerTaken (answers_on (manner_of replies_by call.settings) p.read) input.left input_now.left lines
       → BeginWith outcome.out lines
-  taken_begins call spelled p lines taken =
+  taken_begins_all call spelled p lines taken =
       call_begins holds script call (known call spelled) p input_now.left lines
-      (subst (λ (text : Option (List ℕ)). AnswerTaken p.session call.settings.show text input_now.left lines)
-      comes_in
-      taken) outcome (call_comes words holds (Some script) call outcome spelled is)
+      (subst (λ (text : Option (List ℕ)). AnswerTaken (answers_on (manner_of replies_by call.settings) p.read) text
+      input_now.left lines) comes_in taken) outcome
+      (call_comes words holds (Some script) call outcome spelled is)
 
-  part_begins : HasPart words holds input input_now out out_now
+  part_begins : HasPart replies_by words holds input input_now out out_now
       → AppendsSome out.written out_now.written (concat outcome.out)
   part_begins (of_all call spelled p) =
       subst (λ (lines : List (List ℕ)). AppendsSome out.written out_now.written (concat lines))
       (output_one call spelled p.lines p.status p.whole) p.wrote
   part_begins (of_taken call spelled p) =
       part-begun out out_now outcome.out p.such.lines
-      (taken_begins call spelled p p.such.lines p.such.stand) p.such.wrote
+      (taken_begins_all call spelled p p.such.lines p.such.stand) p.such.wrote
 
-  lines_begin : HasLines words holds input input_now out out_now → Begun out out_now outcome.out
+  lines_begin : HasLines replies_by words holds input input_now out out_now → Begun out out_now outcome.out
   unfolding Begun
   lines_begin (none h) = ([], (outcome.out, refl), h)
   lines_begin (some call spelled p) = (
@@ -131,29 +135,29 @@ module _ (words : List (List ℕ)) (holds : List ℕ → Held) (input input_now 
   lines_begin (first call spelled p) = (
     take p.such.count p.such.lines,
     begin-then outcome.out p.such.lines (take p.such.count p.such.lines)
-        (taken_begins call spelled p p.such.lines p.such.stand) (begin-by p.such.count p.such.lines),
+        (taken_begins_all call spelled p p.such.lines p.such.stand) (begin-by p.such.count p.such.lines),
     p.such.wrote,
   )
 
 -- so do the lines of a call of which a read failed
 module _ (words : List (List ℕ)) (disk disk_now : Disk) (input input_now : Inflow) (out out_now : Outflow)
     (script : List ℕ) (outcome : Outcome) (known : FilesAreKnown words disk.holds)
-    (comes_in : input.left ≡ Some script) (is : IsOutcome words disk.holds (Some script) outcome) where
-  failed_begins : HasFailed words disk disk_now input input_now out out_now → Begun out out_now outcome.out
+    (comes_in : input.left ≡ Some script) (is : IsOutcome replies_by words disk.holds (Some script) outcome) where
+  failed_begins : HasFailed replies_by words disk disk_now input input_now out out_now → Begun out out_now outcome.out
   unfolding Begun
   failed_begins (of_file rose h) = ([], (outcome.out, refl), h)
   failed_begins (of_input rose p) = (
     p.such.lines,
-    taken_begins words disk.holds input input_now out out_now script outcome known comes_in is rose.call
+    taken_begins_all words disk.holds input input_now out out_now script outcome known comes_in is rose.call
         rose.spelled p
         p.such.lines
-        (pending_taken p.session rose.call.settings.show input.left input_now.left p.such.lines
-        p.such.stand),
+        (pending_taken (answers_on (manner_of replies_by rose.call.settings) p.read) input.left input_now.left
+        p.such.lines p.such.stand),
     p.such.wrote,
   )
 
-  first_lines : HasFailed words disk disk_now input input_now out out_now
-      ⊎ HasLines words disk.holds input input_now out out_now → Begun out out_now outcome.out
+  first_lines : HasFailed replies_by words disk disk_now input input_now out out_now
+      ⊎ HasLines replies_by words disk.holds input input_now out out_now → Begun out out_now outcome.out
   first_lines (inl failed) = failed_begins failed
   first_lines (inr lines) =
       lines_begin words disk.holds input input_now out out_now script outcome known comes_in is lines

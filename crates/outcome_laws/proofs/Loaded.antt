@@ -1,6 +1,7 @@
 -- A table file that is accepted changes nothing of what a call comes to.
-use Rattle.std.proofs.Common.{◌≡◌, ◌⊎◌, inl, inr, refl, ap, sym, ◌∙◌, subst, ℕ, List, [], ◌∷◌, ◌++◌}
-use Rattle.std.specs.Prelude.{Option, Some, None}
+use Rattle.std.proofs.Common.{◌≡◌, ◌⊎◌, inl, inr, refl, ap, sym, ◌∙◌, subst, ℕ, suc, List, [], ◌∷◌, ◌++◌, length}
+use Rattle.std.specs.Prelude.{Option, Some, None, if◌then◌else◌}
+use Rattle.std.specs.Option.{option_map}
 use Rattle.io_edge.specs.Known.{Held}
 use Rattle.grid_moves.specs.declared.Corner.{Corner}
 use Rattle.word_list.specs.Kinds.{word_at}
@@ -13,16 +14,26 @@ use Rattle.word_list.specs.declared.rows.Command.{Command}
 use Rattle.call_files.specs.Files.{AreAccepted, File, HasRefused, file_of, faulty, too_long}
 use Rattle.call_files.specs.Kinds.{extent_for, kind_for}
 use Rattle.call_files.specs.declared.kind.TextKind.TheVariants as kind
-use Rattle.jps_run.specs.Calls.{IsAnswered, call_with, files_of, task}
-use Rattle.jps_run.specs.Live.{AreHeard}
-use Rattle.jps_run.specs.Outcome.{IsOutcome, IsOutput, Outcome, Spell, answered, bad_line, bad_text, done}
+use Rattle.jps_run.specs.Calls.{call_with, files_of, output_of, reads_input, task}
+use Rattle.jps_run.specs.Live.{answers_on}
+use Rattle.jps_run.specs.Parts.{Output, on_map}
+use Rattle.jps_run.specs.Replies.{Manner, manner_of}
+use Rattle.jps_run.specs.Who.{replies_by}
+use Rattle.jps_run.specs.Outcome.{IsOutcome, Outcome, Spell, bad_text, done, hearing, outcome_of, printing}
 use Rattle.outcome_laws.specs.Loaded.{AreTablesOf, DifferInTables}
-use Rattle.outcome_laws.proofs.Alike.{same_first}
 use Rattle.outcome_laws.proofs.Files.{ComesToRefusal, accepted_not_refused, comes, refuses}
-use Rattle.outcome_laws.proofs.Only.{CallComes, broken, call_comes, finished, refused}
-use Rattle.outcome_laws.proofs.Only as only
+use Rattle.outcome_laws.proofs.Only.{CallComes, call_comes, finished, refused}
 use Rattle.outcome_laws.proofs.Loading.{picked}
 use Rattle.outcome_laws.proofs.Tasks.{StandAlone, TakesNone, TakesTables, tables_taken}
+
+-- there are as many accepted texts as files
+as_many : (holds : List ℕ → Held) (earlier : List (List ℕ)) (files : List File) (texts : List (List ℕ))
+    → AreAccepted holds earlier files texts → length texts ≡ length files
+as_many holds earlier [] [] p = refl
+as_many holds earlier [] (text ∷ texts) p = absurd p
+as_many holds earlier (file ∷ files) [] p = absurd p
+as_many holds earlier (file ∷ files) (text ∷ texts) p =
+    ap (λ n. suc n) (as_many holds (earlier ++ text ∷ []) files texts p.1)
 
 module _ (holds : List ℕ → Held) where
   accepted_anew : (one other : List (List ℕ)) (files : List File) (texts : List (List ℕ)) → StandAlone files
@@ -114,10 +125,9 @@ module _ (holds : List ℕ → Held) where
 -- what the first call comes to the second comes to
 record Leads (holds : List ℕ → Held) (call like : Call) : Type 0 where
   refusal : (line : List ℕ) → HasRefused holds (files_of call) line → HasRefused holds (files_of like) line
-  output : (lines : List (List ℕ)) (status : ℕ) → IsOutput call holds lines status
-      → IsOutput like holds lines status
-  heard : (input : Option (List ℕ)) (lines : List (List ℕ)) (line : Option (List ℕ))
-      → AreHeard call holds input lines line → AreHeard like holds input lines line
+  comes : (texts : List (List ℕ)) → AreAccepted holds [] (files_of call) texts
+      → (others : List (List ℕ)) × AreAccepted holds [] (files_of like) others
+      × ((script : List ℕ) → outcome_of replies_by like others script ≡ outcome_of replies_by call texts script)
 
 -- both ways
 record LeadBoth (holds : List ℕ → Held) (call like : Call) : Type 0 where
@@ -126,23 +136,21 @@ record LeadBoth (holds : List ℕ → Held) (call like : Call) : Type 0 where
 
 leads : (holds : List ℕ → Held) (input : Option (List ℕ)) (call like : Call) (others : List (List ℕ))
     (outcome : Outcome) → Leads holds call like → Spell others like → CallComes call holds input outcome
-    → IsOutcome others holds input outcome
+    → IsOutcome replies_by others holds input outcome
 leads holds input call like others _ all spelled (refused line p) =
     bad_text like line spelled (all.refusal line p)
-leads holds input call like others _ all spelled (finished lines status p) =
-    done like lines status spelled (all.output lines status p)
-leads holds input call like others _ all spelled (only.replied lines p) =
-    answered like lines spelled (all.heard input lines None p)
-leads holds input call like others _ all spelled (broken lines line p) =
-    bad_line like lines line spelled (all.heard input lines (Some line) p)
+leads holds input call like others _ all spelled (finished texts script outcome p comes e) =
+    let to = all.comes texts p in
+    done like to.0 script outcome spelled to.1 comes (to.2 script ∙ e)
 
 -- one after the other
 leads_then : (holds : List ℕ → Held) (call like last : Call) → Leads holds call like → Leads holds like last
     → Leads holds call last
 leads_then holds call like last one other = record {
   refusal = λ line p. other.refusal line (one.refusal line p);
-  output = λ lines status p. other.output lines status (one.output lines status p);
-  heard = λ input lines line p. other.heard input lines line (one.heard input lines line p);
+  comes = λ texts p.
+      let a = one.comes texts p in
+      let b = other.comes a.0 a.1 in (b.0, b.1, λ script. b.2 script ∙ a.2 script);
 }
 
 -- the call of a command with its words, with a table file or without, by these settings
@@ -150,41 +158,26 @@ abbrev call_for : Command → List (List ℕ) → Option (List ℕ) → Settings
 call_for command words tables set =
     call_with (record { command = command; words = words; tables = tables }) set
 
--- what comes in is heard by another call, too, whose files are accepted behind the same text
-heard_so : (holds : List ℕ → Held) {command same : Command} {words others : List (List ℕ)}
-    {one other : Option (List ℕ)} {set : Settings} {input line : Option (List ℕ)} {lines : List (List ℕ)}
-    → same ≡ command → (p : AreHeard (call_for command words one set) holds input lines line)
-    → (behind : List (List ℕ)) → AreAccepted holds [] (task set same others other).files (p.text ∷ behind)
-    → AreHeard (call_for same others other set) holds input lines line
-heard_so holds e p behind accepted = record {
-  is = e ∙ p.is;
-  text = p.text;
-  behind = behind;
-  accepted = accepted;
-  read = p.read;
-  spelled = p.spelled;
-  session = p.session;
-  answers = p.answers;
-  such = p.such;
-}
-
--- where the same files are read, and what is right of the first call is right of the second, it leads to that
+-- where the same files are read, and the same is printed, the first call leads to the second
 leads_so : (holds : List ℕ → Held) (command same : Command) (words others : List (List ℕ))
     (one other : Option (List ℕ)) (set : Settings) → command ≡ same
-    → (task set command words one).files ≡ (task set same others other).files
-    → ((texts lines : List (List ℕ)) (status : ℕ) → (task set command words one).IsRight texts lines status
-    → (task set same others other).IsRight texts lines status)
+    → (task command words).files set one ≡ (task same others).files set other
+    → ((manner : Manner) (texts : List (List ℕ))
+    → (task command words).output manner texts ≡ (task same others).output manner texts)
     → Leads holds (call_for command words one set) (call_for same others other set)
-unfolding IsAnswered
-leads_so holds command same words others one other set e files right = record {
+unfolding outcome_of output_of
+leads_so holds command same words others one other set e files output = record {
   refusal = λ line p. subst (λ (fs : List File). HasRefused holds fs line) files p;
-  output = λ lines status p. record {
-    texts = p.texts;
-    accepted = subst (λ (fs : List File). AreAccepted holds [] fs p.texts) files p.accepted;
-    answered = right p.texts lines status p.answered;
-  };
-  heard = λ input lines line p. heard_so holds (sym e) p p.behind
-      (subst (λ (fs : List File). AreAccepted holds [] fs (p.text ∷ p.behind)) files p.accepted);
+  comes = λ texts p. (
+    texts,
+    subst (λ (fs : List File). AreAccepted holds [] fs texts) files p,
+    λ script.
+        let manner = manner_of replies_by set in
+        let given : Command → Option Output → Option Outcome = λ c o. if reads_input c
+        then on_map texts (λ m behind. Some (hearing (answers_on manner m) script)) else option_map printing o in
+        ap (λ (o : Option Output). given same o) (sym (output manner texts))
+        ∙ ap (λ (c : Command). given c ((task command words).output manner texts)) (sym e),
+  );
 }
 
 -- a command with its words and a table file, and without
@@ -219,56 +212,53 @@ module _ (holds : List ℕ → Held) (command : Command) (words : List (List ℕ
         (accepted_on holds set.rule map tables right t.rest t.alone text more
         (subst (λ (fs : List File). AreAccepted holds [] fs (text ∷ more)) unnamed p))
 
+    -- with the text of the table file or without it, the call comes to the same
+    loaded_same : (text loaded : List ℕ) (more : List (List ℕ)) → length more ≡ length t.rest → (script : List ℕ)
+        → outcome_of replies_by (asks (Some tables)) (text ∷ loaded ∷ more) script
+        ≡ outcome_of replies_by (asks None) (text ∷ more) script
+    unfolding outcome_of output_of
+    loaded_same text loaded more many script =
+        ap (λ (o : Option Output). if reads_input command
+        then on_map (text ∷ more) (λ m behind. Some (hearing (answers_on (manner_of replies_by set) m) script))
+        else option_map printing o) (t.output (manner_of replies_by set) text loaded more many)
+
     tables_off : Leads holds (asks (Some tables)) (asks None)
-    unfolding IsAnswered
     tables_off = record {
       refusal = λ line p. subst (λ (fs : List File). HasRefused holds fs line) (sym unnamed)
           (refused_off holds set.rule map tables right t.rest t.alone line
           (subst (λ (fs : List File). HasRefused holds fs line) named p));
-      output = λ lines status p. let off = without_them p.texts p.accepted in record {
-        texts = off.text ∷ off.more;
-        accepted = subst (λ (fs : List File). AreAccepted holds [] fs (off.text ∷ off.more)) (sym unnamed)
-            off.accepted;
-        answered = t.right set (Some tables) None holds off.text (off.loaded ∷ []) [] off.more lines status
-            off.accepted.1
-            (subst (λ (ts : List (List ℕ)). (task set command words (Some tables)).IsRight ts lines status)
-            off.is p.answered);
-      };
-      heard = λ input lines line p. let off = without_them (p.text ∷ p.behind) p.accepted in
-          heard_so holds refl p off.more
-          (subst (λ (text : List ℕ). AreAccepted holds [] (files_of (asks None)) (text ∷ off.more))
-          (sym (same_first p.text off.text p.behind (off.loaded ∷ off.more) off.is))
-          (subst (λ (fs : List File). AreAccepted holds [] fs (off.text ∷ off.more)) (sym unnamed)
-          off.accepted));
+      comes = λ texts p. let off = without_them texts p in (
+        off.text ∷ off.more,
+        subst (λ (fs : List File). AreAccepted holds [] fs (off.text ∷ off.more)) (sym unnamed) off.accepted,
+        λ script. sym (ap (λ (ts : List (List ℕ)). outcome_of replies_by (asks (Some tables)) ts script) off.is
+            ∙ loaded_same off.text off.loaded off.more
+            (as_many holds (off.text ∷ []) t.rest off.more off.accepted.1) script),
+      );
     }
 
     tables_on : Leads holds (asks None) (asks (Some tables))
-    unfolding IsAnswered
     tables_on = record {
       refusal = λ line p. subst (λ (fs : List File). HasRefused holds fs line) (sym named)
           (refused_on holds set.rule map tables right t.rest t.alone line
           (subst (λ (fs : List File). HasRefused holds fs line) unnamed p));
-      output = λ lines status p. on lines status p.texts p.accepted p.answered;
-      heard = λ input lines line p. heard_so holds refl p (right.loaded ∷ p.behind)
-          (with_them p.text p.behind p.accepted);
+      comes = on;
     }
       where
-        on : (lines : List (List ℕ)) (status : ℕ) (texts : List (List ℕ))
-            → AreAccepted holds [] (files_of (asks None)) texts
-            → (task set command words None).IsRight texts lines status
-            → IsOutput (asks (Some tables)) holds lines status
-        on lines status [] p h = absurd (subst (λ (fs : List File). AreAccepted holds [] fs []) unnamed p)
-        on lines status (text ∷ more) p h = record {
-          texts = text ∷ right.loaded ∷ more;
-          accepted = with_them text more p;
-          answered = t.right set None (Some tables) holds text [] (right.loaded ∷ []) more lines status
-              (subst (λ (fs : List File). AreAccepted holds [] fs (text ∷ more)) unnamed p).1 h;
-        }
+        on : (texts : List (List ℕ)) → AreAccepted holds [] (files_of (asks None)) texts
+            → (others : List (List ℕ)) × AreAccepted holds [] (files_of (asks (Some tables))) others
+            × ((script : List ℕ) → outcome_of replies_by (asks (Some tables)) others script
+            ≡ outcome_of replies_by (asks None) texts script)
+        on [] p = absurd (subst (λ (fs : List File). AreAccepted holds [] fs []) unnamed p)
+        on (text ∷ more) p = (
+          text ∷ right.loaded ∷ more,
+          with_them text more p,
+          loaded_same text right.loaded more (as_many holds (text ∷ []) t.rest more
+              (subst (λ (fs : List File). AreAccepted holds [] fs (text ∷ more)) unnamed p).1),
+        )
 
   apart : TakesNone command words → (one other : Option (List ℕ)) → Leads holds (asks one) (asks other)
-  unfolding IsAnswered
   apart t one other = leads_so holds command command words words one other set refl
-      (t.files set set one other) (t.right set one other)
+      (t.files set set one other) (λ manner texts. refl)
 
   both_lead : LeadBoth holds (asks (Some tables)) (asks None)
   both_lead = by_tables (tables_taken command words)
@@ -299,10 +289,10 @@ module _ (holds : List ℕ → Held) (call like : Call) (tables : List ℕ)
   between = record {
     off = leads_so holds call.request.command like.request.command call.request.words like.request.words
         None None call.settings differ.same.command (differ.same.files call.settings None)
-        (differ.same.right call.settings None);
+        differ.same.output;
     on = leads_so holds like.request.command call.request.command like.request.words call.request.words
         None None call.settings (sym differ.same.command) (sym (differ.same.files call.settings None))
-        (differ.same.also call.settings None);
+        (λ manner texts. sym (differ.same.output manner texts));
   }
 
   differ_lead : LeadBoth holds call like
@@ -320,8 +310,8 @@ pub tables_same : (words others : List (List ℕ)) (call like : Call) (tables : 
     (input : Option (List ℕ)) (outcome : Outcome) → Spell words call → Spell others like
     → DifferInTables tables call like
     → AreTablesOf holds call.settings.rule (word_at call.request.words 0) tables
-    → (IsOutcome words holds input outcome → IsOutcome others holds input outcome)
-    × (IsOutcome others holds input outcome → IsOutcome words holds input outcome)
+    → (IsOutcome replies_by words holds input outcome → IsOutcome replies_by others holds input outcome)
+    × (IsOutcome replies_by others holds input outcome → IsOutcome replies_by words holds input outcome)
 tables_same words others call like tables holds input outcome spelled also differ right =
     let plus = picked words call tables spelled differ.named in
     let both = differ_lead holds call like tables differ plus right in (

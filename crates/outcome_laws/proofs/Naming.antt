@@ -1,18 +1,17 @@
 -- A call's first word is the name of what it does, and each command is called by its name.
 use Rattle.std.proofs.Common.{◌≡◌, ◌∙◌, ℕ, Bool, List, [], ◌∷◌, refl, ap, subst}
-use Rattle.std.specs.Prelude.{Option, Some, bytes_eq}
+use Rattle.std.specs.Prelude.{Some, bytes_eq}
 use Rattle.std.proofs.lemmas.Slice.Eq.{bytes_eq-Decides}
-use Rattle.word_list.specs.declared.request.Settings.{Settings}
+use Rattle.word_list.specs.declared.rows.Command.TheVariants as command
 use Rattle.word_list.specs.Request.{Call, Named, Row, row_of, rows}
 use Rattle.jps_run.specs.Calls.{task, task_of}
 use Rattle.outcome_laws.specs.Words.{CallsGoByName, CommandsAreCalled}
-use Rattle.outcome_laws.proofs.Commands.{answers}
 use Rattle.outcome_laws.proofs.Spelled.{call_by, row_called, spelled}
 
-module _ (set : Settings) (words : List (List ℕ)) (tables : Option (List ℕ)) where
+module _ (words : List (List ℕ)) where
   -- the name that the task of a row's command has
   abbrev name_by : Row → List ℕ
-  name_by row = (task set row.command words tables).name
+  name_by row = (task row.command words).name
 
   -- whether a row has the name of its command's task: each of the table has, by computing
   abbrev is_named : Named → Bool
@@ -27,7 +26,24 @@ by_name [] call e = absurd (cc)
 by_name (name ∷ words) call e = let is = spelled name words call e in
     let made = call_by is.row words in
     subst (λ (k : Call). Some name ≡ Some (task_of k).name) is.spells
-    (ap Some (named made.settings made.request.words made.request.tables name is.row is.known))
+    (ap Some (named made.request.words name is.row is.known))
 
 pub called : CommandsAreCalled
-called set command words tables = (answers set command words tables).2
+called command.Help words = refl
+called command.Version words = refl
+called command.Query words = refl
+called command.Solve words = refl
+called command.Live words = refl
+called command.Scen words = refl
+called command.Judge words = refl
+called command.Lengths words = refl
+called command.Problems words = refl
+called command.Prove words = refl
+called command.Check words = refl
+called command.Make words = refl
+called command.Drill words = refl
+called command.Draw words = refl
+called command.Costs words = refl
+called command.Tables words = refl
+called command.Boxes words = refl
+called command.Moves words = refl

@@ -1,4 +1,4 @@
--- Replies of two who answer: they are one where both answer alike, and on the same layers they cost the same.
+-- Two replies to one query: they are one where both are come to in one way, and they always cost the same.
 use Rattle.std.proofs.Common.{◌≡◌, ℕ, refl, ap, sym, ◌∙◌, Bool, true, false, List, ◌∷◌}
 use Rattle.std.proofs.lemmas.Bool.{and_parts}
 use Rattle.std.specs.Prelude.{Option, Some, None}
@@ -12,17 +12,15 @@ use Rattle.grid_moves.specs.Walk.{cost_of}
 use Rattle.path_points.specs.declared.points.Walk as points
 use Rattle.path_points.specs.Least.{IsLeastOrNone}
 use Rattle.best_first.specs.declared.found.Found.{Found}
-use Rattle.edit_replay.specs.Edited.{Edit, edited}
 use Rattle.edit_replay.specs.Found.{reply_with}
 use Rattle.edit_replay.specs.ReplyOf.{reply_of_ends, reply_finding}
-use Rattle.edit_replay.specs.Session.{SessionData}
 use Rattle.edit_replay.specs.declared.engine.Engine.TheVariants as engine
 use Rattle.jps_run.specs.Drill.{finding_of}
-use Rattle.jps_run.specs.Session.{session_after}
-use Rattle.jps_run.specs.Who.{By, Who, by_session, by_boxes, by_moves, found_by, reply_to, who_is}
+use Rattle.jps_run.specs.Replies.{By, by_session, by_boxes, by_moves}
+use Rattle.jps_run.specs.Who.{found_by, replies_by}
 use Rattle.jps_run.specs.declared.replies.findings.Finding.TheVariants as finding
 use Rattle.jps_run.proofs.Existing.{found_least}
-use Rattle.outcome_laws.specs.Alike.{AnswerAlike, way_of}
+use Rattle.outcome_laws.specs.Alike.{way_of}
 
 -- what is found hangs on the way alone
 found-way : (by : By) (g : GridData) (s t : Cell) → found_by by g s t ≡ found_by (way_of by) g s t
@@ -33,12 +31,12 @@ found-way (by_session (engine.Plus layout)) g s t = refl
 found-way by_boxes g s t = refl
 found-way by_moves g s t = refl
 
-pub reply_alike : (who other : Who) (s t : Cell) → AnswerAlike who other → reply_to who s t ≡ reply_to other s t
-reply_alike who other s t alike =
-    let g = query_grid who.layers s in
-    ap (λ (f : Found). reply_finding who.layers s t f)
-    (found-way who.by g s t ∙ ap (λ (by : By). found_by by g s t) alike.way ∙ sym (found-way other.by g s t))
-    ∙ ap (λ (ls : Layers). reply_finding ls s t (found_by other.by (query_grid ls s) s t)) alike.layers
+pub reply_alike : (by other : By) (ls : Layers) (s t : Cell) → way_of by ≡ way_of other
+    → replies_by by ls s t ≡ replies_by other ls s t
+reply_alike by other ls s t way =
+    let g = query_grid ls s in
+    ap (λ (f : Found). reply_finding ls s t f)
+    (found-way by g s t ∙ ap (λ (by : By). found_by by g s t) way ∙ sym (found-way other g s t))
 
 -- what points stand for costs the same
 pub one_cost : (g : GridData) (s t : Cell) (ps qs : List Cell) (c d : Cost) → StandsForLeast g s t ps c
@@ -79,17 +77,6 @@ module _ (ls : Layers) (s t : Cell) (one other : By) where
   unfolding reply_finding
   found_same = by_ends _ _ (in_one_layer ls s t) refl
 
-pub reply_found : (who other : Who) (s t : Cell) → who.layers ≡ other.layers
-    → finding_of (reply_to who s t) ≡ finding_of (reply_to other s t)
-reply_found who other s t layers =
-    found_same who.layers s t who.by other.by
-    ∙ ap (λ (ls : Layers). finding_of (reply_finding ls s t (found_by other.by (query_grid ls s) s t))) layers
-
--- edits keep what two sessions have in common
-module _ (d e : SessionData) (edits : List Edit) where
-  pub layers_same : d.layers ≡ e.layers → (session_after d edits).layers ≡ (session_after e edits).layers
-  layers_same same = ap (λ (ls : Layers). edited ls edits) same
-
-  pub alike_after : AnswerAlike (who_is d) (who_is e)
-      → AnswerAlike (who_is (session_after d edits)) (who_is (session_after e edits))
-  alike_after alike = record { layers = layers_same alike.layers; way = alike.way }
+pub reply_found : (by other : By) (ls : Layers) (s t : Cell)
+    → finding_of (replies_by by ls s t) ≡ finding_of (replies_by other ls s t)
+reply_found by other ls s t = found_same ls s t by other

@@ -1,23 +1,24 @@
--- Rows of two who answer.
-use Rattle.std.proofs.Common.{◌≡◌, refl, sym, ap, ◌∙◌, List, Bool, true, false}
+-- Rows of two ways of answering.
+use Rattle.std.proofs.Common.{◌≡◌, refl, sym, ap, ◌∙◌, List, [], ◌∷◌, Bool, true, false}
+use Rattle.std.specs.Prelude.{if◌then◌else◌, map}
 use Rattle.root2_cost.specs.declared.lengths.Decimal.{Decimal}
 use Rattle.root2_cost.specs.Verdict.{verdict_of}
 use Rattle.grid_moves.specs.Layers.{Layers}
 use Rattle.edit_replay.specs.declared.reply.Reply.{Reply}
 use Rattle.edit_replay.specs.declared.reply.Reply.TheVariants as reply
 use Rattle.scen_text.specs.declared.entry.Entry.{Entry}
-use Rattle.jps_run.specs.Who.{Who}
+use Rattle.jps_run.specs.Replies.{By}
+use Rattle.jps_run.specs.Who.{replies_by}
 use Rattle.jps_run.specs.Drill.{finding_of}
 use Rattle.jps_run.specs.declared.replies.findings.Finding.{Finding}
 use Rattle.jps_run.specs.declared.replies.findings.Finding.TheVariants as finding
-use Rattle.jps_run.specs.Rows.{AreRows, IsRow, scale, replied, has_sides, row_of}
+use Rattle.jps_run.specs.Rows.{goal_of, has_sides, row_for, row_of, rows_of, start_of}
 use Rattle.jps_run.specs.declared.replies.row.Row.{Row}
 use Rattle.jps_run.specs.declared.replies.row.Row.TheVariants as row
-use Rattle.outcome_laws.specs.Alike.{AnswerAlike}
-use Rattle.outcome_laws.specs.Forgetting.{DifferInTaken, without_taken}
+use Rattle.outcome_laws.specs.Lines.{RowsDifferInTaken}
+use Rattle.outcome_laws.specs.Forgetting.{without_taken}
 use Rattle.outcome_laws.proofs.Forgetting.{differ_in_taken}
-use Rattle.outcome_laws.proofs.Replies.{reply_alike, reply_found}
-use Rattle.outcome_laws.proofs.Turns.{turns-alike, turns-same}
+use Rattle.outcome_laws.proofs.Replies.{reply_found}
 
 -- the row without its count, by what the reply comes to
 row_found : Decimal → Finding → Row
@@ -33,55 +34,28 @@ unfolding row_found
 row-found listed reply.Outside = refl
 row-found listed r = refl
 
-not_both : {A : Type 0} (a b : Bool) → a ≡ b → a ≡ true → b ≡ false → A
-not_both a b same e f = let h : true ≡ false = sym e ∙ same ∙ f in absurd (cc)
+module _ (by other : By) (ls : Layers) where
+  row_alike : (entry : Entry) → without_taken (row_for (replies_by by) ls entry)
+      ≡ without_taken (row_for (replies_by other) ls entry)
+  row_alike entry = by_sides (has_sides ls entry)
+    where
+      by_sides : (b : Bool) → without_taken (if b
+          then row_of entry.length (replies_by by ls (start_of entry) (goal_of entry)) else row.Scale)
+          ≡ without_taken (if b
+          then row_of entry.length (replies_by other ls (start_of entry) (goal_of entry)) else row.Scale)
+      by_sides false = refl
+      by_sides true =
+          row-found entry.length (replies_by by ls (start_of entry) (goal_of entry))
+          ∙ ap (λ (found : Finding). row_found entry.length found)
+          (reply_found by other ls (start_of entry) (goal_of entry))
+          ∙ sym (row-found entry.length (replies_by other ls (start_of entry) (goal_of entry)))
 
-module _ (who other : Who) (layers : who.layers ≡ other.layers) where
-  -- an entry is meant for both maps or for neither
-  sided : {A : Type 0} (entry : Entry) → has_sides who.layers entry ≡ true
-      → has_sides other.layers entry ≡ false → A
-  sided entry = not_both (has_sides who.layers entry) (has_sides other.layers entry)
-      (ap (λ (ls : Layers). has_sides ls entry) layers)
+  bare_alike : (entries : List Entry) → map without_taken (rows_of (replies_by by) ls entries)
+      ≡ map without_taken (rows_of (replies_by other) ls entries)
+  bare_alike [] = refl
+  bare_alike (entry ∷ entries) =
+      ap (λ (r : Row). r ∷ map without_taken (rows_of (replies_by by) ls entries)) (row_alike entry)
+      ∙ ap (λ (rows : List Row). without_taken (row_for (replies_by other) ls entry) ∷ rows) (bare_alike entries)
 
-  unsided : {A : Type 0} (entry : Entry) → has_sides who.layers entry ≡ false
-      → has_sides other.layers entry ≡ true → A
-  unsided entry e f = not_both (has_sides other.layers entry) (has_sides who.layers entry)
-      (ap (λ (ls : Layers). has_sides ls entry) (sym layers)) f e
-
-  row_same : AnswerAlike who other → (entry : Entry) (a b : Row) → IsRow who entry a → IsRow other entry b
-      → a ≡ b
-  row_same alike entry a b (scale n e) (scale m f) = e ∙ sym f
-  row_same alike entry a b (scale n e) (replied r m is f) = unsided entry n m
-  row_same alike entry a b (replied r n is e) (scale m f) = sided entry n m
-  row_same alike entry a b (replied r n is e) (replied q m also f) =
-      e ∙ ap (λ (r : Reply). row_of entry.length r)
-      (is.is
-      ∙ reply_alike who other (record { x = entry.sx; y = entry.sy }) (record { x = entry.gx; y = entry.gy }) alike
-      ∙ sym also.is)
-      ∙ sym f
-
-  row_alike : (entry : Entry) (a b : Row) → IsRow who entry a → IsRow other entry b
-      → without_taken a ≡ without_taken b
-  row_alike entry a b (scale n e) (scale m f) = ap (λ (r : Row). without_taken r) (e ∙ sym f)
-  row_alike entry a b (scale n e) (replied r m is f) = unsided entry n m
-  row_alike entry a b (replied r n is e) (scale m f) = sided entry n m
-  row_alike entry a b (replied r n is e) (replied q m also f) =
-      ap (λ (r : Row). without_taken r) e ∙ row-found entry.length r
-      ∙ ap (λ (r : Reply). row_found entry.length (finding_of r)) is.is
-      ∙ ap (λ (found : Finding). row_found entry.length found)
-      (reply_found who other (record { x = entry.sx; y = entry.sy }) (record { x = entry.gx; y = entry.gy }) layers)
-      ∙ ap (λ (r : Reply). row_found entry.length (finding_of r)) (sym also.is)
-      ∙ sym (row-found entry.length q) ∙ ap (λ (r : Row). without_taken r) (sym f)
-
-  pub rows_alike : (entries : List Entry) (rows others : List Row)
-      → AreRows who entries rows → AreRows other entries others → DifferInTaken rows others
-  rows_alike entries rows others p q =
-      differ_in_taken rows others (turns-alike {S = Unit {0}} (λ _ entry r. IsRow who entry r)
-      (λ _ entry r. IsRow other entry r)
-      (λ s _. s) without_taken (λ _ entry a b. row_alike entry a b) tt entries rows others p q)
-
-pub rows_same : (who other : Who) (entries : List Entry) (rows same : List Row) → AnswerAlike who other
-    → AreRows who entries rows → AreRows other entries same → rows ≡ same
-rows_same who other entries rows same alike =
-    turns-same {S = Unit {0}} (λ _ entry r. IsRow who entry r) (λ _ entry r. IsRow other entry r) (λ s _. s)
-    (λ _ entry a b. row_same who other alike.layers alike entry a b) tt entries rows same
+pub rows_alike : RowsDifferInTaken
+rows_alike by other ls entries = differ_in_taken _ _ (bare_alike by other ls entries)

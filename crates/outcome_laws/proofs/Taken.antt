@@ -1,22 +1,21 @@
 -- What is answered for the bytes that were taken begins what the whole script is answered.
 use Rattle.std.proofs.Common.{◌≡◌, refl, sym, ap, ◌∙◌, subst, List, [], ◌∷◌, ◌++◌, append_assoc, ℕ, zero, suc}
-use Rattle.std.proofs.Common.{◌+◌, ◌≤◌, ◌<◌, length, length-append, take, arith}
+use Rattle.std.proofs.Common.{◌+◌, ◌≤◌, ◌<◌, ◌⊎◌, inl, inr, length, length-append, take, arith}
 use Rattle.std.specs.Prelude.{Option, Some, None}
+use Rattle.std.specs.List.{fold}
 use Rattle.std.proofs.lemmas.List.{append-nil, take_all}
-use Rattle.edit_replay.specs.Session.{SessionData}
 use Rattle.script_text.specs.declared.command.ScriptCommand.{ScriptCommand}
 use Rattle.script_text.specs.Feeding.{commands_of, commands_so_far}
 use Rattle.script_text.proofs.Feeding.{commands-end, commands-grow}
-use Rattle.word_list.specs.declared.request.Show.{Show}
 use Rattle.call_files.specs.Kinds.{limit_of}
 use Rattle.call_files.specs.declared.kind.TextKind.TheVariants as kind
-use Rattle.jps_run.specs.Who.{who_is}
-use Rattle.jps_run.specs.Answers.{AreAnswers}
-use Rattle.jps_run.specs.Heard.{AnswerHeard, AnswerPending, AnswerTaken, AreWhole, IsHeard, at_end, counted}
-use Rattle.jps_run.specs.Heard.{so_far, too_long, whole}
-use Rattle.outcome_laws.specs.Alike.{AnswerAlike, BeginWith}
-use Rattle.outcome_laws.proofs.Heard.{not_longer}
-use Rattle.outcome_laws.proofs.Lines.{answers_begin}
+use Rattle.jps_run.specs.Answers.{answer_line, answer_lines, edits_with, in_turn}
+use Rattle.jps_run.specs.Heard.{AnswerPending, AnswerTaken, Answering, AreWhole, at_end, counted, heard_commands}
+use Rattle.jps_run.specs.Heard.{so_far}
+use Rattle.jps_run.proofs.Listening.{few-heard, long-heard_of}
+use Rattle.jps_run.proofs.Solving.{in_turn-more}
+use Rattle.outcome_laws.specs.Lines.{TakenBeginsHeard}
+use Rattle.outcome_laws.proofs.Refusing.{less_or_not}
 
 -- these commands begin with the first ones
 abbrev Begin : List ScriptCommand → List ScriptCommand → Type 0
@@ -67,35 +66,39 @@ module _ (taken rest : List ℕ) where
   nothing_left end = ap (λ (l : List ℕ). taken ++ l) end ∙ append-nil taken
 
   -- the whole commands among these bytes begin those of the script
-  part-heard : (commands all : List ScriptCommand) (refusal : Option (List ℕ))
-      → AreWhole (Some rest) taken commands
-      → IsHeard (taken ++ rest) all refusal → Begin commands all
-  part-heard commands all refusal (so_far c) (whole h k r) = begin-same commands _ _ all c (in_whole h) k
-  part-heard commands all refusal (so_far c) (too_long h k r) = begin-same commands _ _ all c in_counted k
-  part-heard commands all refusal (at_end end few c) (whole h k r) =
-      ([], k ∙ ap commands_of (nothing_left end) ∙ sym c ∙ sym (append-nil commands))
-  part-heard commands all refusal (at_end end few c) (too_long h k r) =
-      not_longer (length taken) (limit_of kind.Script) few
-      (subst (λ (text : List ℕ). limit_of kind.Script < length text) (nothing_left end) h)
+  part-heard : (commands : List ScriptCommand) → AreWhole (Some rest) taken commands
+      → Begin commands (heard_commands (taken ++ rest))
+  part-heard commands (so_far c) = by_length (less_or_not (limit_of kind.Script) (length (taken ++ rest)))
+    where
+      by_length : (limit_of kind.Script < length (taken ++ rest)) ⊎ (length (taken ++ rest) ≤ limit_of kind.Script)
+          → Begin commands (heard_commands (taken ++ rest))
+      by_length (inr few) = begin-same commands _ _ _ c (in_whole few) (few-heard (taken ++ rest) few).0
+      by_length (inl long) = begin-same commands _ _ _ c in_counted (long-heard_of (taken ++ rest) long).0
+  part-heard commands (at_end end few c) = (
+    [],
+    ap heard_commands (nothing_left end) ∙ (few-heard taken few).0 ∙ sym c ∙ sym (append-nil commands),
+  )
 
-pub taken_begins : (d e : SessionData) (show : Show) (script : List ℕ) (left refusal : Option (List ℕ))
-    (lines all : List (List ℕ)) → AnswerAlike (who_is d) (who_is e)
-    → AnswerTaken d show (Some script) left lines → AnswerHeard e show (Some script) refusal all
-    → BeginWith all lines
-taken_begins d e show script None refusal lines all alike p q = absurd p.consumed
-taken_begins d e show script (Some rest) refusal lines all alike p q =
-    let begun = part-heard p.taken rest p.commands q.commands refusal p.whole
-    (subst (λ (text : List ℕ). IsHeard text q.commands refusal) (q.comes ∙ p.consumed) q.heard) in
-    answers_begin d e show p.commands begun.0 lines all alike p.answers
-    (subst (λ (commands : List ScriptCommand). AreAnswers e show commands all) begun.1 q.answers)
+pub taken_begins : TakenBeginsHeard
+taken_begins replies show ls script None lines p = absurd p.consumed
+taken_begins replies show ls script (Some rest) lines p =
+    let begun = part-heard p.taken rest p.commands p.whole in
+    let give = answer_line replies show in
+    let edits = fold edits_with [] p.commands in (
+      in_turn give ls edits begun.0,
+      ap (λ (text : List ℕ). answer_lines replies show ls (heard_commands text)) p.consumed
+          ∙ ap (λ (commands : List ScriptCommand). answer_lines replies show ls commands) begun.1
+          ∙ in_turn-more give ls [] p.commands begun.0
+          ∙ ap (λ (l : List (List ℕ)). l ++ in_turn give ls edits begun.0) (sym p.are),
+    )
 
 -- where no line of the bytes is refused, the lines are those for the whole commands among them
-pub pending_taken : (d : SessionData) (show : Show) (input left : Option (List ℕ)) (lines : List (List ℕ))
-    → AnswerPending d show input left lines → AnswerTaken d show input left lines
-pending_taken d show input left lines p = record {
+pub pending_taken : (answers : Answering) (input left : Option (List ℕ)) (lines : List (List ℕ))
+    → AnswerPending answers input left lines → AnswerTaken answers input left lines
+pending_taken answers input left lines p = record {
   taken = p.taken;
   consumed = p.consumed;
   commands = commands_so_far p.taken;
   whole = so_far (ap commands_so_far (sym (counted-few p.taken p.few)));
-  answers = p.answers;
+  are = p.are;
 }

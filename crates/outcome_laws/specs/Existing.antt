@@ -7,6 +7,7 @@ use Rattle.word_list.specs.Rule.{IsBadWord}
 use Rattle.call_files.specs.Files.{AreAccepted, File, HasRefused}
 use Rattle.jps_run.specs.Calls.{files_of}
 use Rattle.jps_run.specs.Outcome.{IsOutcome, Outcome, Spell}
+use Rattle.jps_run.specs.Who.{replies_by}
 
 -- words that spell no call have a bad word
 abbrev pub BadWordsExist : Type 0
@@ -30,4 +31,4 @@ AcceptedOrRefusedExist = (holds : List ℕ → Held) (files : List File) → Are
 abbrev pub OutcomesExist : Type 0
 OutcomesExist = (words : List (List ℕ)) (holds : List ℕ → Held) (script : List ℕ)
     → ((call : Call) → Spell words call → ArePresent holds (files_of call))
-    → (outcome : Outcome) × IsOutcome words holds (Some script) outcome
+    → (outcome : Outcome) × IsOutcome replies_by words holds (Some script) outcome

@@ -1,10 +1,6 @@
 pub mod Layers
 pub mod Words
 pub mod Files
-pub mod Texts
-pub mod Certificates
-pub mod Rulings
-pub mod Scenarios
 pub mod Agreeing
 pub mod Alike
 pub mod Replies

@@ -8,6 +8,7 @@ use Rattle.call_files.specs.Files.{IsAccepted}
 use Rattle.call_files.specs.declared.kind.TextKind.TheVariants as kind
 use Rattle.jps_run.specs.Outcome.{IsOutcome, Outcome, Spell}
 use Rattle.outcome_laws.specs.Outcomes.{AskTheSame}
+use Rattle.jps_run.specs.Who.{replies_by}
 
 -- the first call names this table file, and the second asks for the same without it
 pub record DifferInTables (tables : List ℕ) (call other : Call) : Type 0 where
@@ -32,5 +33,5 @@ WithTablesTheSame = (words others : List (List ℕ)) (call like : Call) (tables 
     (holds : List ℕ → Held) (input : Option (List ℕ)) (outcome : Outcome)
     → Spell words call → Spell others like → DifferInTables tables call like
     → AreTablesOf holds call.settings.rule (word_at call.request.words 0) tables
-    → (IsOutcome words holds input outcome → IsOutcome others holds input outcome)
-    × (IsOutcome others holds input outcome → IsOutcome words holds input outcome)
+    → (IsOutcome replies_by words holds input outcome → IsOutcome replies_by others holds input outcome)
+    × (IsOutcome replies_by others holds input outcome → IsOutcome replies_by words holds input outcome)

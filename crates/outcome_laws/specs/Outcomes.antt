@@ -16,6 +16,8 @@ use Rattle.word_list.specs.declared.request.Show.TheVariants as show
 use Rattle.word_list.specs.declared.rows.Command.{Command}
 use Rattle.word_list.specs.declared.rows.Command.TheVariants.{Drill, Scen}
 use Rattle.line_work.specs.Sending.{Wrote}
+use Rattle.jps_run.specs.Replies.{Manner}
+use Rattle.jps_run.specs.Who.{replies_by}
 use Rattle.call_files.specs.Kinds.{takes}
 use Rattle.call_files.specs.declared.kind.Extent.TheVariants.{Small}
 use Rattle.outcome_laws.specs.Files.{AreKnown}
@@ -31,8 +33,8 @@ FilesAreKnown words holds = (call : Call) → Spell words call → AreKnown hold
 -- line.
 abbrev pub OutcomesAreOne : Type 0
 OutcomesAreOne = (words : List (List ℕ)) (holds : List ℕ → Held) (script : List ℕ) (one other : Outcome)
-    → FilesAreKnown words holds → IsOutcome words holds (Some script) one
-    → IsOutcome words holds (Some script) other
+    → FilesAreKnown words holds → IsOutcome replies_by words holds (Some script) one
+    → IsOutcome replies_by words holds (Some script) other
     → one ≡ other
 
 -- the engines that jump
@@ -40,17 +42,13 @@ abbrev pub is_jump : Pick → Bool
 is_jump pick = jumps pick
 
 -- two commands with their words ask for the same, however numbers are spelled: whatever the settings and the
--- table file, the same files are read, and the same is right
+-- table file, the same files are read; and the same is printed
 pub record AskTheSame (one other : Asked) : Type 0 where
   pub command : one.command ≡ other.command
   pub files : (set : Settings) (tables : Option (List ℕ))
-      → (task set one.command one.words tables).files ≡ (task set other.command other.words tables).files
-  pub right : (set : Settings) (tables : Option (List ℕ)) (texts lines : List (List ℕ)) (status : ℕ)
-      → (task set one.command one.words tables).IsRight texts lines status
-      → (task set other.command other.words tables).IsRight texts lines status
-  pub also : (set : Settings) (tables : Option (List ℕ)) (texts lines : List (List ℕ)) (status : ℕ)
-      → (task set other.command other.words tables).IsRight texts lines status
-      → (task set one.command one.words tables).IsRight texts lines status
+      → (task one.command one.words).files set tables ≡ (task other.command other.words).files set tables
+  pub output : (manner : Manner) (texts : List (List ℕ))
+      → (task one.command one.words).output manner texts ≡ (task other.command other.words).output manner texts
 
 -- two calls ask for the same, but that each may pick an engine of its own, and how many states of a cell its
 -- search has
@@ -68,7 +66,7 @@ JumpEnginesPrintTheSame = (words others : List (List ℕ)) (call like : Call) (h
     → Spell words call → Spell others like → DifferInEngine call like
     → is_jump call.settings.pick ≡ true → is_jump like.settings.pick ≡ true
     → call.settings.states ≡ like.settings.states
-    → IsOutcome words holds (Some script) one → IsOutcome others holds (Some script) other → one ≡ other
+    → IsOutcome replies_by words holds (Some script) one → IsOutcome replies_by others holds (Some script) other → one ≡ other
 
 -- a scenario is judged without its counts of taken states, or a drill is asked for
 abbrev pub AsksForCosts : Command → Show → Type 0
@@ -92,7 +90,7 @@ EnginesPrintTheSameCosts = (words others : List (List ℕ)) (call like : Call) (
     → (call.request.command ≡ Drill)
     ⊎ (is_for_small_maps call.settings.pick ≡ is_for_small_maps like.settings.pick)
     ⊎ ((one.status ≢ 3) × (other.status ≢ 3)) ⊎ HoldsSmallMap (holds (word_at call.request.words 0))
-    → IsOutcome words holds (Some script) one → IsOutcome others holds (Some script) other → one ≡ other
+    → IsOutcome replies_by words holds (Some script) one → IsOutcome replies_by others holds (Some script) other → one ≡ other
 
 -- the first ones of these lines were written, each whole
 abbrev pub WroteLinesOf : List (List ℕ) → Outflow → Outflow → Type 0
@@ -103,9 +101,9 @@ WroteLinesOf lines before now = (count : ℕ) × Wrote before now (concat (take 
 abbrev pub WrittenBeginsTheOutput : Type 0
 WrittenBeginsTheOutput = (words : List (List ℕ)) (disk disk_now : Disk) (input input_now : Inflow)
     (out out_now : Outflow) (script : List ℕ) (outcome : Outcome) → FilesAreKnown words disk.holds
-    → input.left ≡ Some script → IsOutcome words disk.holds (Some script) outcome
-    → (HasPart words disk.holds input input_now out out_now
+    → input.left ≡ Some script → IsOutcome replies_by words disk.holds (Some script) outcome
+    → (HasPart replies_by words disk.holds input input_now out out_now
     → AppendsSome out.written out_now.written (concat outcome.out))
-    × (HasFailed words disk disk_now input input_now out out_now
-    ⊎ HasLines words disk.holds input input_now out out_now
+    × (HasFailed replies_by words disk disk_now input input_now out out_now
+    ⊎ HasLines replies_by words disk.holds input input_now out out_now
     → AppendsSome out.written out_now.written (concat outcome.out) × WroteLinesOf outcome.out out out_now)

@@ -1,11 +1,10 @@
 -- That one word of a refused list is named, that what a call does goes by its name, and that each command is
 -- called by one.
-use Rattle.std.specs.Prelude.{◌≡◌, ℕ, Bool, List, Option, Some, slice_get}
+use Rattle.std.specs.Prelude.{◌≡◌, ℕ, Bool, List, Some, slice_get}
 use Rattle.std.specs.Option.{option_map}
 use Rattle.jps_run.specs.Calls.{task, task_of}
 use Rattle.word_list.specs.Calls.{call_of, is_call}
 use Rattle.word_list.specs.Request.{Call, row_of}
-use Rattle.word_list.specs.declared.request.Settings.{Settings}
 use Rattle.word_list.specs.declared.rows.Command.{Command}
 use Rattle.word_list.specs.Rule.{IsBadWord}
 
@@ -26,5 +25,5 @@ CallsGoByName = (words : List (List ℕ)) (call : Call) → call_of words ≡ So
 
 -- each command has a row by the name of its task
 abbrev pub CommandsAreCalled : Type 0
-CommandsAreCalled = (set : Settings) (command : Command) (words : List (List ℕ)) (tables : Option (List ℕ))
-    → option_map (λ row. row.command) (row_of (task set command words tables).name) ≡ Some command
+CommandsAreCalled = (command : Command) (words : List (List ℕ))
+    → option_map (λ row. row.command) (row_of (task command words).name) ≡ Some command

@@ -1,12 +1,8 @@
-//! Laws of words, files and printed texts: each is the contract of a call that does nothing.
+//! Laws of words and files, and of what is written again: each is the contract of a call that does nothing.
 
-ghost use Rattle.outcome_laws.specs.Certificates.{CertificatesAreOne, ProofsAreOne};
 ghost use Rattle.outcome_laws.specs.Existing.{AcceptedOrRefusedExist, BadWordsExist};
 ghost use Rattle.outcome_laws.specs.Files.{AcceptedTextsAreOne, RefusedLinesAreOne, AcceptedOrRefused};
-ghost use Rattle.outcome_laws.specs.Rulings.{RulingsAreOne};
 ghost use Rattle.outcome_laws.specs.Agreeing.{LengthsAgree, ProblemsAgree};
-ghost use Rattle.outcome_laws.specs.Scenarios.{LengthsAreOne, ProblemsAreOne};
-ghost use Rattle.outcome_laws.specs.Texts.{BoxTextsAreOne, CostsAreOne, RunTextsAreOne};
 ghost use Rattle.outcome_laws.specs.Words.{BadWordsAreOne, CallsHaveNone};
 
 /// Of refused words at most one is named.
@@ -42,46 +38,6 @@ pub fn refused_lines_are_one()
 /// Files that are known do not hold accepted texts alone and a refused one.
 pub fn accepted_or_refused()
     ensures { AcceptedOrRefused }
-{}
-
-/// The lines of least costs from a cell are one.
-pub fn costs_are_one()
-    ensures { CostsAreOne }
-{}
-
-/// The text of a cell's boxes is one.
-pub fn box_texts_are_one()
-    ensures { BoxTextsAreOne }
-{}
-
-/// The text of the first moves from a cell is one.
-pub fn run_texts_are_one()
-    ensures { RunTextsAreOne }
-{}
-
-/// The certificate of a query on a grid is one text.
-pub fn certificates_are_one()
-    ensures { CertificatesAreOne }
-{}
-
-/// What is printed for a query that asks for a certificate is one, with one status.
-pub fn proofs_are_one()
-    ensures { ProofsAreOne }
-{}
-
-/// The entries of a scenario, with what is claimed of each, have at most one list of rows.
-pub fn rulings_are_one()
-    ensures { RulingsAreOne }
-{}
-
-/// A scenario is written again with the least lengths in one way.
-pub fn lengths_are_one()
-    ensures { LengthsAreOne }
-{}
-
-/// A number makes one scenario of a map.
-pub fn problems_are_one()
-    ensures { ProblemsAreOne }
 {}
 
 /// What is written again is a scenario with an entry for each line below the first, and on the same map and under

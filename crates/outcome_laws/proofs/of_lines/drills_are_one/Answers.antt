@@ -1,5 +1,5 @@
-use Rattle.outcome_laws.proofs.OnMap.{one_drill}
+use Rattle.outcome_laws.proofs.Findings.{drills_same}
 use Rattle.outcome_laws.proofs.of_lines.drills_are_one.Goals as goal
 
 pub returns : goal.returns
-returns c = one_drill
+returns c = drills_same

@@ -1,4 +1,4 @@
-use Rattle.outcome_laws.proofs.Lines.{findings_same}
+use Rattle.outcome_laws.proofs.Findings.{findings_same}
 use Rattle.outcome_laws.proofs.of_lines.findings_are_one.Goals as goal
 
 pub returns : goal.returns

@@ -2,4 +2,4 @@ use Rattle.outcome_laws.proofs.Rows.{rows_alike}
 use Rattle.outcome_laws.proofs.of_lines.rows_differ_in_taken.Goals as goal
 
 pub returns : goal.returns
-returns c = λ who other entries rows others layers. rows_alike who other layers entries rows others
+returns c = rows_alike
