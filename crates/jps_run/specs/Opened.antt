@@ -22,7 +22,7 @@ use Rattle.jps_run.specs.declared.work.Work.{Work}
 abbrev pub IsCounted : Call → List (List ℕ) → ℕ → ℕ → Type 0
 IsCounted call texts old new = (searches call.request.command ≡ false) ⊎ RoseFor call texts old new
 
--- the work is that of a call on the texts of its files: what it prints is a right answer
+-- the work is that of a call on the texts of its files: what it prints is the call's output
 pub record IsWorkOf (call : Call) (texts : List (List ℕ)) (work : Work) : Type 0 where
   pub can : CanPerform work
   pub right : (lines : List (List ℕ)) (status : ℕ) → IsWhole work lines status

@@ -1,6 +1,6 @@
 //! Laws of whole calls: a call comes to at most one outcome, and to one where the files that it names are
-//! there and the input is known; which engine it picks changes nothing but what engines count; each command
-//! is called by its own name. Below them the laws of replies, of what is read and printed, and of lines.
+//! there and the input is known; which of the engines that jump it picks changes nothing; each command is
+//! called by its own name. Below them the laws of replies, of words and files, and of lines.
 //!
 //! This crate has no code that runs: its specs have the statements, and each law is the contract of a call
 //! that does nothing. The program doesn't use it.
