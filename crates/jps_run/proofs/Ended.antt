@@ -1,6 +1,6 @@
 -- How a call of `run` ends.
-use Rattle.std.proofs.Common.{◌≡◌, true, false, refl, sym, ap, subst, List, [], ◌∷◌, ℕ, ◌≤◌, ◌⊎◌, inl, inr, arith}
-use Rattle.std.specs.Prelude.{Ok, Option, Some, None, unwrap_or}
+use Rattle.std.proofs.Common.{◌≡◌, false, refl, sym, ap, subst, List, [], ◌∷◌, ℕ, ◌≤◌, ◌⊎◌, inl, inr, arith}
+use Rattle.std.specs.Prelude.{Err, Ok, OnOk, Option, Result, Some, None, unwrap_or}
 use Rattle.std.specs.List.{concat}
 use Rattle.std.specs.Option.{option_map, option_map_or}
 use Rattle.map_text.specs.Faults.{map_of}
@@ -9,7 +9,7 @@ use Rattle.word_list.specs.declared.rows.Command.{Command}
 use Rattle.word_list.specs.declared.rows.Command.TheVariants.{Live}
 use Rattle.jps_run.specs.Heard.{IsInput}
 use Rattle.jps_run.specs.Parts.{Output}
-use Rattle.jps_run.specs.Replies.{manner_of}
+use Rattle.jps_run.specs.Manner.{manner_of}
 use Rattle.io_edge.specs.Causes.{Rose}
 use Rattle.io_edge.specs.Known.{Disk, Held, Inflow, Outflow}
 use Rattle.word_list.specs.Calls.{is_call}
@@ -17,13 +17,17 @@ use Rattle.word_list.specs.Request.{Call}
 use Rattle.word_list.specs.Rule.{IsBadWord}
 use Rattle.jps_run.specs.Counting.{RoseAsCalled, RoseForCall}
 use Rattle.jps_run.specs.Ending.{CanHear, Comes, ComesRight, Gets, HasFailed, HasLines, HasPart, InputRose, NamedRose}
-use Rattle.jps_run.specs.Ending.{ending_line, of_file, of_input, of_all, of_taken, none, some, first}
+use Rattle.jps_run.specs.Ending.{Fails, WroteFirstLines, WrotePart, ending_line, line_of, memory_line, read_line}
+use Rattle.jps_run.specs.Ending.{status_of, write_line}
+use Rattle.jps_run.specs.Served.{HasServed}
+use Rattle.line_work.specs.declared.stop.Stop.{Stop}
+use Rattle.line_work.specs.declared.stop.Stop.TheVariants as stop
 use Rattle.call_files.specs.FaultLines.{word_line}
-use Rattle.call_files.specs.Files.{HasRefused, FileRose}
-use Rattle.jps_run.specs.Live.{WroteHeard, answers_on, WrotePending, WroteSomeTaken, WroteLinesTaken}
+use Rattle.call_files.specs.Files.{HasRefused}
+use Rattle.jps_run.specs.Live.{WroteHeard, answers_on}
 use Rattle.jps_run.specs.Calls.{MayHear, files_of, output_of, reads_input, task}
 use Rattle.jps_run.specs.Outcome.{Spell, IsOutput, bad_word, bad_text, done, hearing, outcome_of, printing}
-use Rattle.line_work.specs.Sending.{IsAll, IsPart, AreLines, Wrote}
+use Rattle.line_work.specs.Sending.{IsAll, Wrote}
 use Rattle.line_work.proofs.Pieces.{nothing}
 use Rattle.jps_run.specs.Who.{replies_by}
 use Rattle.jps_run.proofs.Existing.{replies_right}
@@ -107,45 +111,18 @@ module _ (words : List (List ℕ)) (holds : List ℕ → Held) (input : Option (
         (heard-comes call None spelled h.1 printed)
 
     -- a text is refused, or what comes in
-    text-comes : (call : Call) (line bytes : List ℕ) → Spell words call
+    text-comes : (call : Call) (line : List ℕ) → Spell words call
         → (HasRefused holds (files_of call) line × Wrote out out_now [])
-        ⊎ WroteHeard replies_by call holds out out_now input (Some line) → bytes ≡ line
-        → Gets err err_now bytes → Comes replies_by words holds input out out_now err err_now 3
-    text-comes call line bytes spelled (inl r) e printed = record {
+        ⊎ WroteHeard replies_by call holds out out_now input (Some line)
+        → Gets err err_now line → Comes replies_by words holds input out out_now err err_now 3
+    text-comes call line spelled (inl r) printed = record {
       outcome = record { status = 3; out = []; line = line };
       is = bad_text call line spelled r.0;
       same_status = refl;
       wrote = r.1;
-      printed = subst (λ (l : List ℕ). Gets err err_now l) e printed;
+      printed = printed;
     }
-    text-comes call line bytes spelled (inr h) e printed =
-        heard-comes call (Some line) spelled h (subst (λ (l : List ℕ). Gets err err_now l) e printed)
-
-module _ (words : List (List ℕ)) (disk disk_now : Disk) (input input_now : Inflow) (out out_now : Outflow)
-    (call : Call) (spelled : Spell words call) where
-  -- a read failed
-  read-comes : (FileRose (files_of call) disk disk_now × Wrote out out_now [])
-      ⊎ ((reads_input call.request.command ≡ true) × Rose input.faults input_now.faults
-      × WrotePending replies_by call disk.holds out out_now input.left input_now.left)
-      → HasFailed replies_by words disk disk_now input input_now out out_now
-  read-comes (inl f) = of_file (record { call = call; spelled = spelled; rose = f.0 }) f.1
-  read-comes (inr f) = of_input (record { call = call; spelled = spelled; reads = f.0; rose = f.1 }) f.2
-
-  -- a write failed
-  part-comes : IsPart (IsOutput replies_by call disk.holds) out out_now
-      ⊎ WroteSomeTaken replies_by call disk.holds out out_now input.left input_now.left
-      → HasPart replies_by words disk.holds input input_now out out_now
-  part-comes (inl p) = of_all call spelled p
-  part-comes (inr p) = of_taken call spelled p
-
-  -- memory was refused
-  memory-comes : Wrote out out_now []
-      ⊎ (AreLines (IsOutput replies_by call disk.holds) out out_now
-      ⊎ WroteLinesTaken replies_by call disk.holds out out_now input.left input_now.left)
-      → HasLines replies_by words disk.holds input input_now out out_now
-  memory-comes (inl n) = none n
-  memory-comes (inr (inl l)) = some call spelled l
-  memory-comes (inr (inr l)) = first call spelled l
+    text-comes call line spelled (inr h) printed = heard-comes call (Some line) spelled h printed
 
 -- so it did by right replies
 pub rightly : {words : List (List ℕ)} {holds : List ℕ → Held} {input : Option (List ℕ)}
@@ -194,7 +171,7 @@ word-ends words disk input out err err_now steps number status bad (inr six) pri
   read = λ e. absurd (omega arith);
   write = λ e. absurd (omega arith);
   part = λ e. absurd (omega arith);
-  memory = λ e. none (nothing out.written);
+  memory = λ e. inl (nothing out.written);
   line = λ e. subst (λ n. Gets err err_now (ending_line n)) (sym six) (memory six);
   complete = λ named read wrote. inr six;
   unchanged = refl;
@@ -207,10 +184,10 @@ module _ (words : List (List ℕ)) (disk disk_now : Disk) (input input_now : Inf
     (unchanged : disk_now.holds ≡ disk.holds)
     (stays : (MayHear call disk.holds → ⊥) → input_now.left ≡ input.left) where
   stays-so : (CanHear words disk.holds → ⊥) → input_now.left ≡ input.left
-  stays-so not = stays (λ may. not (record { call = call; spelled = spelled; may = may }))
+  stays-so not = stays (λ may. not (record { call = call; spelled = spelled; such = may }))
 
   -- the call was done
-  pub done-ends : (status : ℕ) → (status ≤ 1) × (IsAll (IsOutput replies_by call disk.holds) out out_now status
+  done-ends : (status : ℕ) → (status ≤ 1) × (IsAll (IsOutput replies_by call disk.holds) out out_now status
       ⊎ ((status ≡ 0) × WroteHeard replies_by call disk.holds out out_now input.left None)) → Gets err err_now []
       → RoseForCall call disk.holds input.left old new
       → EndsAs words disk disk_now input input_now out out_now err err_now old new status
@@ -230,13 +207,13 @@ module _ (words : List (List ℕ)) (disk disk_now : Disk) (input input_now : Inf
   }
 
   -- a text was refused, or what came in
-  pub text-ends : (line bytes : List ℕ) → (HasRefused disk.holds (files_of call) line × Wrote out out_now [])
-      ⊎ WroteHeard replies_by call disk.holds out out_now input.left (Some line) → bytes ≡ line → Gets err err_now bytes
+  text-ends : (line : List ℕ) → (HasRefused disk.holds (files_of call) line × Wrote out out_now [])
+      ⊎ WroteHeard replies_by call disk.holds out out_now input.left (Some line) → Gets err err_now line
       → EndsAs words disk disk_now input input_now out out_now err err_now old new 3
-  text-ends line bytes served e printed = record {
+  text-ends line served printed = record {
     statuses = omega arith;
-    outcome = λ few. text-comes words disk.holds input.left out out_now err err_now call line bytes spelled
-        served e printed;
+    outcome = λ few. text-comes words disk.holds input.left out out_now err err_now call line spelled
+        served printed;
     read = λ e. absurd (omega arith);
     write = λ e. absurd (omega arith);
     part = λ e. absurd (omega arith);
@@ -248,23 +225,19 @@ module _ (words : List (List ℕ)) (disk disk_now : Disk) (input input_now : Inf
     input_stays = stays-so;
   }
 
-  one-rose : (FileRose (files_of call) disk disk_now × Wrote out out_now [])
-      ⊎ ((reads_input call.request.command ≡ true) × Rose input.faults input_now.faults
-      × WrotePending replies_by call disk.holds out out_now input.left input_now.left)
+  one-rose : Fails replies_by disk.holds input input_now out out_now disk disk_now call
       → (NamedRose words disk disk_now → ⊥) → (InputRose words input input_now → ⊥) → ⊥
-  one-rose (inl f) named heard = named (record { call = call; spelled = spelled; rose = f.0 })
-  one-rose (inr f) named heard =
-      heard (record { call = call; spelled = spelled; reads = f.0; rose = f.1 })
+  one-rose (inl f) named heard = named (record { call = call; spelled = spelled; such = f.0 })
+  one-rose (inr f) named heard = heard (record { call = call; spelled = spelled; such = f.0 })
 
   -- a read failed
-  pub read-ends : (FileRose (files_of call) disk disk_now × Wrote out out_now [])
-      ⊎ ((reads_input call.request.command ≡ true) × Rose input.faults input_now.faults
-      × WrotePending replies_by call disk.holds out out_now input.left input_now.left) → Gets err err_now (ending_line 4)
+  read-ends : Fails replies_by disk.holds input input_now out out_now disk disk_now call
+      → Gets err err_now read_line
       → EndsAs words disk disk_now input input_now out out_now err err_now old new 4
   read-ends served printed = record {
     statuses = omega arith;
     outcome = λ few. absurd (omega arith);
-    read = λ e. read-comes words disk disk_now input input_now out out_now call spelled served;
+    read = λ e. record { call = call; spelled = spelled; such = served };
     write = λ e. absurd (omega arith);
     part = λ e. absurd (omega arith);
     memory = λ e. absurd (omega arith);
@@ -276,15 +249,15 @@ module _ (words : List (List ℕ)) (disk disk_now : Disk) (input input_now : Inf
   }
 
   -- a write failed
-  pub write-ends : Rose out.faults out_now.faults × (IsPart (IsOutput replies_by call disk.holds) out out_now
-      ⊎ WroteSomeTaken replies_by call disk.holds out out_now input.left input_now.left) → Gets err err_now (ending_line 5)
+  write-ends : Rose out.faults out_now.faults × WrotePart replies_by disk.holds input input_now out out_now call
+      → Gets err err_now write_line
       → EndsAs words disk disk_now input input_now out out_now err err_now old new 5
   write-ends served printed = record {
     statuses = omega arith;
     outcome = λ few. absurd (omega arith);
     read = λ e. absurd (omega arith);
     write = λ e. served.0;
-    part = λ e. part-comes words disk disk_now input input_now out out_now call spelled served.1;
+    part = λ e. record { call = call; spelled = spelled; such = served.1 };
     memory = λ e. absurd (omega arith);
     line = λ e. printed;
     complete = λ named read wrote. absurd (wrote served.0);
@@ -294,29 +267,43 @@ module _ (words : List (List ℕ)) (disk disk_now : Disk) (input input_now : Inf
   }
 
   -- memory was refused
-  starved : Wrote out out_now [] ⊎ (AreLines (IsOutput replies_by call disk.holds) out out_now
-      ⊎ WroteLinesTaken replies_by call disk.holds out out_now input.left input_now.left)
-      → Gets err err_now (ending_line 6)
+  memory-ends : Wrote out out_now [] ⊎ WroteFirstLines replies_by disk.holds input input_now out out_now call
+      → Gets err err_now memory_line
       → EndsAs words disk disk_now input input_now out out_now err err_now old new 6
-  starved served printed = record {
+  memory-ends served printed = record {
     statuses = omega arith;
     outcome = λ few. absurd (omega arith);
     read = λ e. absurd (omega arith);
     write = λ e. absurd (omega arith);
     part = λ e. absurd (omega arith);
-    memory = λ e. memory-comes words disk disk_now input input_now out out_now call spelled served;
+    memory = λ e. by_lines served;
     line = λ e. printed;
     complete = λ named read wrote. inr refl;
     unchanged = unchanged;
     counted = λ few. absurd (omega arith);
     input_stays = stays-so;
   }
+    where
+      by_lines : Wrote out out_now [] ⊎ WroteFirstLines replies_by disk.holds input input_now out out_now call
+          → HasLines replies_by words disk.holds input input_now out out_now
+      by_lines (inl nothing) = inl nothing
+      by_lines (inr lines) = inr (record { call = call; spelled = spelled; such = lines })
 
-  pub memory-ends : (status : ℕ) → status ≡ 6 → Wrote out out_now []
-      ⊎ (AreLines (IsOutput replies_by call disk.holds) out out_now
-      ⊎ WroteLinesTaken replies_by call disk.holds out out_now input.left input_now.left)
-      → Gets err err_now (ending_line 6)
+  -- so each call ends
+  pub served-ends : (result : Result ℕ Stop) (status : ℕ)
+      → HasServed call disk disk_now input input_now out out_now result
+      → OnOk result (RoseForCall call disk.holds input.left old new) → status ≡ status_of result
+      → Gets err err_now (line_of result)
       → EndsAs words disk disk_now input input_now out out_now err err_now old new status
-  memory-ends status six served printed =
-      subst (λ n. EndsAs words disk disk_now input input_now out out_now err err_now old new n) (sym six)
-      (starved served printed)
+  served-ends result status served rose e printed =
+      subst (λ (n : ℕ). EndsAs words disk disk_now input input_now out out_now err err_now old new n) (sym e)
+      (by_result result served rose printed)
+    where
+      by_result : (result : Result ℕ Stop) → HasServed call disk disk_now input input_now out out_now result
+          → OnOk result (RoseForCall call disk.holds input.left old new) → Gets err err_now (line_of result)
+          → EndsAs words disk disk_now input input_now out out_now err err_now old new (status_of result)
+      by_result (Ok status) served rose printed = done-ends status served printed rose
+      by_result (Err (stop.Text line)) served rose printed = text-ends line.items served printed
+      by_result (Err stop.Read) served rose printed = read-ends served printed
+      by_result (Err stop.Write) served rose printed = write-ends served printed
+      by_result (Err stop.Memory) served rose printed = memory-ends served printed

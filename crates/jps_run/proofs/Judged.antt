@@ -13,7 +13,7 @@ use Rattle.grid_moves.specs.Layers.{Layers}
 use Rattle.scen_text.specs.declared.entry.Entry.{Entry}
 use Rattle.walk_judge.specs.declared.claims.Claimed.{Claimed}
 use Rattle.call_files.specs.Reading.{AreFit}
-use Rattle.jps_run.specs.Judging.{IsReady, CanGoOn, HasJudged, IsJudged, counts_of, rulings_by, sum_text}
+use Rattle.jps_run.specs.Judging.{CanGoOn, HasJudged, IsJudged, counts_of, rulings_by, sum_text}
 use Rattle.jps_run.specs.Rulings.{is_refused, judge_status, ruling_line, ruling_lines, ruling_of, rulings_line}
 use Rattle.line_work.specs.Working.{Adds, CanComplete, HasRoomForOne}
 use Rattle.jps_run.specs.declared.replies.judge.Judge.{Judge}
@@ -184,21 +184,6 @@ rulings-complete first now some others lines h =
         code = refl;
       };
       some = λ left. not-empty rest sum;
-    }
-
--- nothing is judged yet
-pub judged-none : (job : Judge) → job.counts ≡ counts_of [] → HasJudged job job [] []
-judged-none job e = record { all = refl; as_many = refl; counted = e; same = refl; claimed = refl }
-
--- and all walks are left
-pub all-left : (job : Judge) (count : ℕ) → IsReady job count → count < 2 ^ 64 → CanGoOn job count
-all-left job count ready few =
-    let rows : job.counts.rows ≡ 0 = ap (λ (c : Counts). c.rows) ready.none in
-    record {
-      fit = ready.fit;
-      counts = record { rulings = []; counted = ready.none };
-      left = (let enough : count ≤ length job.walks.items = ready.enough in omega arith);
-      few = omega arith;
     }
 
 -- the status is 0 or 1

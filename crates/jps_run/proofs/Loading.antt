@@ -10,7 +10,8 @@ use Rattle.word_list.specs.declared.request.Pick.TheVariants.{Session, Small}
 use Rattle.word_list.specs.declared.request.SessionEngine.TheVariants.{Plus}
 use Rattle.word_list.specs.declared.request.States.{States}
 use Rattle.call_files.specs.Layered.{layers_on}
-use Rattle.jps_run.specs.Replies.{By, by_of, by_session, engine_for, layout_for}
+use Rattle.jps_run.specs.Manner.{by_of, engine_for, layout_for}
+use Rattle.jps_run.specs.Replies.{By, by_session}
 use Rattle.jps_run.specs.Session.{IsSessionOn, who_on}
 use Rattle.jps_run.specs.Who.{Who, who_is}
 

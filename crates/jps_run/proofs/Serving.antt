@@ -9,7 +9,7 @@ use Rattle.script_text.specs.declared.command.ScriptCommand.{ScriptCommand}
 use Rattle.call_files.specs.Layered.{layers_on}
 use Rattle.jps_run.specs.Answering.{lines_by}
 use Rattle.jps_run.specs.Answers.{answer_lines}
-use Rattle.jps_run.specs.Replies.{manner_of, session_by}
+use Rattle.jps_run.specs.Manner.{manner_of, session_by}
 use Rattle.jps_run.specs.Session.{replies_of, session_on}
 use Rattle.jps_run.specs.Who.{replies_by}
 use Rattle.jps_run.specs.Counting.{RoseForCall, none, read, some}
@@ -137,8 +137,7 @@ module _ (call : Call) (disk disk_now : Disk) (input input_now : Inflow) (out ou
             (on-live call disk.holds job l (λ answers. WroteAll (AnswerHeard answers input.left (Some line)) out
             out_now) w);
         read = λ w. inr (
-          l.reads,
-          w.0,
+          (l.reads, w.0),
           on-live call disk.holds job l (λ answers. WroteAll (AnswerPending answers input.left input_now.left)
               out out_now) w.1,
         );

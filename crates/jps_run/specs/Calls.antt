@@ -31,7 +31,8 @@ use Rattle.jps_run.specs.Answers.{query_line, solve_output}
 use Rattle.jps_run.specs.Drill.{drill_line, drilled}
 use Rattle.jps_run.specs.Parts.{Output, on_last, on_map, on_read, printed}
 use Rattle.jps_run.specs.Pictures.{drawing}
-use Rattle.jps_run.specs.Replies.{By, Manner, Replies, grids_of, manner_of}
+use Rattle.jps_run.specs.Manner.{Manner, grids_of, manner_of}
+use Rattle.jps_run.specs.Replies.{By, Replies}
 use Rattle.jps_run.specs.Rows.{scen_output}
 use Rattle.jps_run.specs.Rulings.{judge_output}
 use Rattle.jps_run.specs.Tabled.{tables_text}

@@ -14,7 +14,8 @@ use Rattle.map_maker.specs.Making.{made_map}
 use Rattle.script_text.specs.declared.command.ScriptCommand.{ScriptCommand}
 use Rattle.script_text.specs.declared.command.ScriptCommand.TheVariants.{Block, Free, Flood, Query}
 use Rattle.jps_run.specs.Answers.{in_turn}
-use Rattle.jps_run.specs.Replies.{Manner, Replies, grids_of}
+use Rattle.jps_run.specs.Manner.{Manner, grids_of}
+use Rattle.jps_run.specs.Replies.{Replies}
 use Rattle.jps_run.specs.declared.replies.findings.Finding.{Finding}
 use Rattle.jps_run.specs.declared.replies.findings.Finding.TheVariants as finding
 

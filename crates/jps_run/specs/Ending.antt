@@ -1,5 +1,5 @@
 -- How a call of `run` ends.
-use Rattle.std.specs.Prelude.{◌≡◌, true, ℕ, List, [], ◌⊎◌, codes, nat_eq, if◌then◌else◌, Option}
+use Rattle.std.specs.Prelude.{◌≡◌, true, ℕ, List, [], ◌⊎◌, codes, nat_eq, if◌then◌else◌, Option, Result, Ok, Err}
 use Rattle.std.specs.List.{concat}
 use Rattle.io_edge.specs.Causes.{Rose}
 use Rattle.word_list.specs.Calls.{is_call}
@@ -13,6 +13,8 @@ use Rattle.jps_run.specs.Replies.{AreRight, By, Replies}
 use Rattle.jps_run.specs.Live.{WrotePending, WroteSomeTaken, WroteLinesTaken}
 use Rattle.io_edge.specs.Known.{Disk, Held, Inflow, Outflow}
 use Rattle.line_work.specs.Sending.{Wrote, WroteSome, IsPart, AreLines}
+use Rattle.line_work.specs.declared.stop.Stop.{Stop}
+use Rattle.line_work.specs.declared.stop.Stop.TheVariants as stop
 
 -- what `err` gets in place of an outcome's line: where a read failed, where a write failed, for want of
 -- memory
@@ -50,57 +52,78 @@ pub record ComesRight (words : List (List ℕ)) (holds : List ℕ → Held) (inp
   pub right : AreRight replies
   pub comes : Comes replies words holds input out out_now err err_now status
 
--- the count of a file rose that the words name and that there was reason to read
-pub record NamedRose (words : List (List ℕ)) (disk disk_now : Disk) : Type 0 where
+-- the words spell a call of which this holds
+pub record OfCall (words : List (List ℕ)) (Such : Call → Type 0) : Type 0 where
   pub call : Call
   pub spelled : Spell words call
-  pub rose : FileRose (files_of call) disk disk_now
+  pub such : Such call
+
+-- the count of a file rose that the words name and that there was reason to read
+abbrev pub NamedRose : List (List ℕ) → Disk → Disk → Type 0
+NamedRose words disk disk_now = OfCall words (λ call. FileRose (files_of call) disk disk_now)
 
 -- the words ask for what is read from the input, and each file that they name is accepted
-pub record CanHear (words : List (List ℕ)) (holds : List ℕ → Held) : Type 0 where
-  pub call : Call
-  pub spelled : Spell words call
-  pub may : MayHear call holds
+abbrev pub CanHear : List (List ℕ) → (List ℕ → Held) → Type 0
+CanHear words holds = OfCall words (λ call. MayHear call holds)
 
--- the words ask for what is read from the input, and its count rose
-pub record InputRose (words : List (List ℕ)) (input input_now : Inflow) : Type 0 where
-  pub call : Call
-  pub spelled : Spell words call
-  pub reads : reads_input call.request.command ≡ true
-  pub rose : Rose input.faults input_now.faults
+-- a call reads the input, and its count rose
+abbrev pub IsUnheard : Inflow → Inflow → Call → Type 0
+IsUnheard input input_now call =
+    (reads_input call.request.command ≡ true) × Rose input.faults input_now.faults
 
--- a read failed: of a file, and nothing was written; or of the input, and exactly the lines of the whole
--- commands among the bytes that were taken were written
-pub data HasFailed (replies : By → Replies) (words : List (List ℕ)) (disk disk_now : Disk) (input input_now : Inflow)
-    (out out_now : Outflow)
-    : Type 0 where
-  of_file : NamedRose words disk disk_now → Wrote out out_now []
-      → HasFailed replies words disk disk_now input input_now out out_now
-  of_input : (rose : InputRose words input input_now)
-      → WrotePending replies rose.call disk.holds out out_now input.left input_now.left
-      → HasFailed replies words disk disk_now input input_now out out_now
+-- so it is with the call that the words ask for
+abbrev pub InputRose : List (List ℕ) → Inflow → Inflow → Type 0
+InputRose words input input_now = OfCall words (IsUnheard input input_now)
 
--- a first part of a right output was written; where the words ask for what is read from the input, of the
--- lines of the whole commands among the bytes that were taken
-pub data HasPart (replies : By → Replies) (words : List (List ℕ)) (holds : List ℕ → Held) (input input_now : Inflow)
-    (out out_now : Outflow)
-    : Type 0 where
-  of_all : (call : Call) → Spell words call → IsPart (IsOutput replies call holds) out out_now
-      → HasPart replies words holds input input_now out out_now
-  of_taken : (call : Call) → Spell words call
-      → WroteSomeTaken replies call holds out out_now input.left input_now.left
-      → HasPart replies words holds input input_now out out_now
+-- what is known where a call stops, by what its queries are replied
+module _ (replies : By → Replies) (holds : List ℕ → Held) (input input_now : Inflow) (out out_now : Outflow) where
+  -- a read failed: of a file, and nothing was written; or of the input, and exactly the lines of the whole
+  -- commands among the bytes that were taken were written
+  abbrev pub Fails : Disk → Disk → Call → Type 0
+  Fails disk disk_now call = (FileRose (files_of call) disk disk_now × Wrote out out_now [])
+      ⊎ (IsUnheard input input_now call
+      × WrotePending replies call holds out out_now input.left input_now.left)
 
--- nothing was written, or the first lines of a right output, each whole, and not all of them; where the words
--- ask for what is read from the input, the first lines of the whole commands among the bytes that were taken
-pub data HasLines (replies : By → Replies) (words : List (List ℕ)) (holds : List ℕ → Held) (input input_now : Inflow)
-    (out out_now : Outflow)
-    : Type 0 where
-  none : Wrote out out_now [] → HasLines replies words holds input input_now out out_now
-  some : (call : Call) → Spell words call → AreLines (IsOutput replies call holds) out out_now
-      → HasLines replies words holds input input_now out out_now
-  first : (call : Call) → Spell words call → WroteLinesTaken replies call holds out out_now input.left input_now.left
-      → HasLines replies words holds input input_now out out_now
+  -- a first part of a right output was written; where the input is read, of the lines of the whole commands
+  -- among the bytes that were taken
+  abbrev pub WrotePart : Call → Type 0
+  WrotePart call = IsPart (IsOutput replies call holds) out out_now
+      ⊎ WroteSomeTaken replies call holds out out_now input.left input_now.left
+
+  -- the first lines of a right output were, each whole, and not all of them; where the input is read, the first
+  -- lines of the whole commands among the bytes that were taken
+  abbrev pub WroteFirstLines : Call → Type 0
+  WroteFirstLines call = AreLines (IsOutput replies call holds) out out_now
+      ⊎ WroteLinesTaken replies call holds out out_now input.left input_now.left
+
+-- so it is with the call that the words ask for; for want of memory nothing may have been written
+abbrev pub HasFailed : (By → Replies) → List (List ℕ) → Disk → Disk → Inflow → Inflow → Outflow → Outflow → Type 0
+HasFailed replies words disk disk_now input input_now out out_now =
+    OfCall words (Fails replies disk.holds input input_now out out_now disk disk_now)
+
+abbrev pub HasPart : (By → Replies) → List (List ℕ) → (List ℕ → Held) → Inflow → Inflow → Outflow → Outflow → Type 0
+HasPart replies words holds input input_now out out_now =
+    OfCall words (WrotePart replies holds input input_now out out_now)
+
+abbrev pub HasLines : (By → Replies) → List (List ℕ) → (List ℕ → Held) → Inflow → Inflow → Outflow → Outflow
+    → Type 0
+HasLines replies words holds input input_now out out_now =
+    Wrote out out_now [] ⊎ OfCall words (WroteFirstLines replies holds input input_now out out_now)
+
+-- how the work on a call ended, as a status, and as what `err` gets
+abbrev pub status_of : Result ℕ Stop → ℕ
+status_of (Ok status) = status
+status_of (Err (stop.Text line)) = 3
+status_of (Err stop.Read) = 4
+status_of (Err stop.Write) = 5
+status_of (Err stop.Memory) = 6
+
+abbrev pub line_of : Result ℕ Stop → List ℕ
+line_of (Ok status) = []
+line_of (Err (stop.Text line)) = line.items
+line_of (Err stop.Read) = read_line
+line_of (Err stop.Write) = write_line
+line_of (Err stop.Memory) = memory_line
 
 -- the stream got the line of the word with which no call begins, behind these words or among them
 pub record Names (words : List (List ℕ)) (before now : Outflow) : Type 0 where

@@ -1,4 +1,5 @@
 pub mod Replies
+pub mod Manner
 pub mod Who
 pub mod Session
 pub mod Answerers

@@ -9,7 +9,8 @@ use Rattle.call_files.specs.Files.{AreAccepted}
 use Rattle.jps_run.specs.Answers.{answer_lines}
 use Rattle.jps_run.specs.Calls.{files_of}
 use Rattle.jps_run.specs.Heard.{Answering, AnswerHeard, AnswerPending, AnswerTaken, WroteAll, WroteFirst, WroteLines}
-use Rattle.jps_run.specs.Replies.{By, Manner, Replies, grids_of, manner_of}
+use Rattle.jps_run.specs.Manner.{Manner, grids_of, manner_of}
+use Rattle.jps_run.specs.Replies.{By, Replies}
 
 -- the call answers what comes in: each of its files is accepted, the map first, and of the map this holds
 pub record OnLive (call : Call) (holds : List ℕ → Held) (Such : Map → Type 0) : Type 0 where

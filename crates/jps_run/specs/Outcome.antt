@@ -11,7 +11,8 @@ use Rattle.jps_run.specs.Calls.{files_of, output_of, reads_input}
 use Rattle.jps_run.specs.Heard.{Answering, IsInput, heard_commands, heard_refusal}
 use Rattle.jps_run.specs.Live.{answers_on}
 use Rattle.jps_run.specs.Parts.{Output, on_map}
-use Rattle.jps_run.specs.Replies.{By, Replies, manner_of}
+use Rattle.jps_run.specs.Manner.{manner_of}
+use Rattle.jps_run.specs.Replies.{By, Replies}
 
 -- the words spell the call
 abbrev pub Spell : List (List ℕ) → Call → Type 0

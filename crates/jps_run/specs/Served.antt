@@ -1,14 +1,15 @@
 -- How the work on a call ends. No public clause cites this module.
-use Rattle.std.specs.Prelude.{◌≡◌, ℕ, ◌≤◌, ◌⊎◌, true, [], None, Some, Result}
+use Rattle.std.specs.Prelude.{◌≡◌, ℕ, ◌≤◌, ◌⊎◌, [], None, Some, Result}
 use Rattle.io_edge.specs.Causes.{Rose}
 use Rattle.io_edge.specs.Known.{Disk, Inflow, Outflow}
 use Rattle.word_list.specs.Request.{Call}
-use Rattle.call_files.specs.Files.{HasRefused, FileRose}
-use Rattle.jps_run.specs.Live.{WroteHeard, WrotePending, WroteSomeTaken, WroteLinesTaken}
-use Rattle.jps_run.specs.Calls.{files_of, reads_input}
+use Rattle.call_files.specs.Files.{HasRefused}
+use Rattle.jps_run.specs.Ending.{Fails, WroteFirstLines, WrotePart}
+use Rattle.jps_run.specs.Live.{WroteHeard}
+use Rattle.jps_run.specs.Calls.{files_of}
 use Rattle.jps_run.specs.Outcome.{IsOutput}
 use Rattle.jps_run.specs.Who.{replies_by}
-use Rattle.line_work.specs.Sending.{IsAll, IsPart, AreLines, Wrote}
+use Rattle.line_work.specs.Sending.{IsAll, Wrote}
 use Rattle.line_work.specs.Stops.{Stops, EndsOrStops}
 use Rattle.line_work.specs.declared.stop.Stop.{Stop}
 
@@ -17,15 +18,10 @@ abbrev pub served_stops : Call → Disk → Disk → Inflow → Inflow → Outfl
 served_stops call disk disk_now input input_now out out_now = record {
   Refused = λ line. (HasRefused disk.holds (files_of call) line × Wrote out out_now [])
       ⊎ WroteHeard replies_by call disk.holds out out_now input.left (Some line);
-  Read = (FileRose (files_of call) disk disk_now × Wrote out out_now [])
-      ⊎ ((reads_input call.request.command ≡ true) × Rose input.faults input_now.faults
-      × WrotePending replies_by call disk.holds out out_now input.left input_now.left);
+  Read = Fails replies_by disk.holds input input_now out out_now disk disk_now call;
   Write = Rose out.faults out_now.faults
-      × (IsPart (IsOutput replies_by call disk.holds) out out_now
-      ⊎ WroteSomeTaken replies_by call disk.holds out out_now input.left input_now.left);
-  Memory = Wrote out out_now []
-      ⊎ (AreLines (IsOutput replies_by call disk.holds) out out_now
-      ⊎ WroteLinesTaken replies_by call disk.holds out out_now input.left input_now.left);
+      × WrotePart replies_by disk.holds input input_now out out_now call;
+  Memory = Wrote out out_now [] ⊎ WroteFirstLines replies_by disk.holds input input_now out out_now call;
 }
 
 -- the work on a call came to a right output, or it stops

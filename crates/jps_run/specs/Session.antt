@@ -2,13 +2,13 @@
 -- replies, and what edits make of it.
 use Rattle.std.specs.Prelude.{◌≡◌, ℕ, List}
 use Rattle.map_text.specs.Map.{Map}
-use Rattle.edit_replay.specs.Edited.{Edit, edited, edit_reply}
+use Rattle.edit_replay.specs.Edited.{Edit, edited}
 use Rattle.edit_replay.specs.Session.{SessionData}
-use Rattle.edit_replay.specs.declared.reply.EditReply.{EditReply}
 use Rattle.word_list.specs.declared.request.Settings.{Settings}
 use Rattle.word_list.specs.Settings.{session_engine}
 use Rattle.call_files.specs.Layered.{layers_on}
-use Rattle.jps_run.specs.Replies.{Replies, by_on, by_session, engine_for}
+use Rattle.jps_run.specs.Manner.{by_on, engine_for}
+use Rattle.jps_run.specs.Replies.{Replies, by_session}
 use Rattle.jps_run.specs.Who.{Who, replies_by}
 
 -- who answers on a map, as the settings ask
@@ -38,7 +38,3 @@ width_of d = d.layers.land.width
 
 abbrev pub height_of : SessionData → ℕ
 height_of d = d.layers.land.height
-
--- the reply to an edit
-abbrev pub reply_to_edit : SessionData → Edit → EditReply
-reply_to_edit d edit = edit_reply d.layers edit

@@ -4,7 +4,7 @@ ghost use Rattle.std.specs.Prelude.{◌≡◌, ◌≤◌, ◌⊎◌, OnOk, map, 
 ghost use Rattle.io_edge.specs.Causes.{Rose};
 ghost use Rattle.word_list.specs.Request.{IsSound, called};
 ghost use Rattle.jps_run.specs.Counting.{RoseAsCalled, RoseForCall};
-ghost use Rattle.jps_run.specs.Ending.{Comes, ComesRight, Gets, HasFailed, HasLines, CanHear, HasPart, InputRose, NamedRose, Names, ending_line};
+ghost use Rattle.jps_run.specs.Ending.{Comes, ComesRight, Gets, HasFailed, HasLines, CanHear, HasPart, InputRose, NamedRose, Names, ending_line, line_of, status_of};
 ghost use Rattle.jps_run.specs.Calls.{MayHear};
 ghost use Rattle.jps_run.specs.Served.{HasServed};
 ghost use Rattle.jps_run.specs.Who.{replies_by};
@@ -83,6 +83,32 @@ fn refuse_word<E: Sink>(alloc: Global, number: u32, err: &mut E) -> u8
     }
 }
 
+// Writes the line of how the work on a call ended, if it has one, and gives the status.
+fn finish<E: Sink>(ended: Result<u8, Stop>, err: &mut E) -> u8
+    ensures status { result ≡ status_of ended }
+    ensures printed { Gets (E.outflow err.old) (E.outflow err.new) (line_of ended) }
+{
+    match ended {
+        Ok(status) => {
+            tell(err, b"");
+            status
+        }
+        Err(Stop::Text(line)) => {
+            tell(err, line.as_slice());
+            3
+        }
+        Err(Stop::Read) => {
+            tell(err, b"jps: read\n");
+            4
+        }
+        Err(Stop::Write) => {
+            tell(err, b"jps: write\n");
+            5
+        }
+        Err(Stop::Memory) => starve(err),
+    }
+}
+
 /// Does what the words ask for, and answers the status.
 ///
 /// `words` are the program's words without its own name. Files are read by their names, a script
@@ -145,25 +171,7 @@ pub fn run<F: Files, I: Source, O: Sink, E: Sink, L: Ledger>(
         Ok(call) => call,
         Err(bad) => return refuse_word(alloc, bad.0, err),
     };
-    match serve(alloc, request, settings, files, input, out, steps) {
-        Ok(status) => {
-            tell(err, b"");
-            status
-        }
-        Err(Stop::Text(line)) => {
-            tell(err, line.as_slice());
-            3
-        }
-        Err(Stop::Read) => {
-            tell(err, b"jps: read\n");
-            4
-        }
-        Err(Stop::Write) => {
-            tell(err, b"jps: write\n");
-            5
-        }
-        Err(Stop::Memory) => starve(err),
-    }
+    finish(serve(alloc, request, settings, files, input, out, steps), err)
 }
 
 /// Refuses a list of words of which some are no text, and answers the status.

@@ -24,7 +24,7 @@ use Rattle.call_files.specs.declared.kind.TextKind.{TextKind}
 use Rattle.call_files.specs.declared.kind.TextKind.TheVariants as kind
 use Rattle.jps_run.specs.Calls.{Task, reads_input, task}
 use Rattle.jps_run.specs.Parts.{Output, on_last, on_map, on_read, printed}
-use Rattle.jps_run.specs.Replies.{Manner, grids_of}
+use Rattle.jps_run.specs.Manner.{Manner, grids_of}
 use Rattle.jps_run.specs.Rulings.{judge_output}
 use Rattle.jps_run.specs.Texts.{help_text, version_text}
 use Rattle.jps_run.proofs.Opening.{last-read, value-read}

@@ -13,7 +13,8 @@ use Rattle.word_list.specs.declared.rows.Command.TheVariants.{Drill, Scen}
 use Rattle.jps_run.specs.Calls.{reads_input, task}
 use Rattle.jps_run.specs.Drill.{drill_line}
 use Rattle.jps_run.specs.Parts.{Output, on_last, on_map, on_read, printed}
-use Rattle.jps_run.specs.Replies.{By, by_on, grids_of, manner_of}
+use Rattle.jps_run.specs.Manner.{by_on, grids_of, manner_of}
+use Rattle.jps_run.specs.Replies.{By}
 use Rattle.jps_run.specs.Rows.{rows_of, scen_lines, scen_output, scen_status}
 use Rattle.jps_run.specs.Who.{replies_by}
 use Rattle.jps_run.specs.declared.replies.findings.Finding.{Finding}

@@ -18,12 +18,11 @@ use Rattle.outcome_laws.proofs.Taken.{pending_taken, taken_begins}
 use Rattle.outcome_laws.specs.Files.{AreKnown}
 use Rattle.outcome_laws.proofs.Files.{not_both, one_list}
 use Rattle.jps_run.specs.Calls.{files_of}
-use Rattle.jps_run.specs.Ending.{HasFailed, HasLines, HasPart, first, none, of_all, of_file, of_input}
-use Rattle.jps_run.specs.Ending.{of_taken, some}
+use Rattle.jps_run.specs.Ending.{Fails, HasFailed, HasLines, HasPart, WroteFirstLines, WrotePart}
 use Rattle.outcome_laws.specs.Outcomes.{FilesAreKnown, WrittenBeginsTheOutput, WroteLinesOf}
 use Rattle.jps_run.specs.Live.{OnLive, answers_on}
 use Rattle.jps_run.specs.Outcome.{IsOutcome, IsOutput, Outcome, Spell, done, hearing, outcome_of}
-use Rattle.jps_run.specs.Replies.{grids_of, manner_of}
+use Rattle.jps_run.specs.Manner.{grids_of, manner_of}
 use Rattle.jps_run.specs.Who.{replies_by}
 use Rattle.jps_run.specs.Answers.{answer_lines}
 use Rattle.jps_run.proofs.Ended.{outcome-heard, outcome-printed}
@@ -116,45 +115,59 @@ module _ (words : List (List ℕ)) (holds : List ℕ → Held) (input input_now 
 
   part_begins : HasPart replies_by words holds input input_now out out_now
       → AppendsSome out.written out_now.written (concat outcome.out)
-  part_begins (of_all call spelled p) =
-      subst (λ (lines : List (List ℕ)). AppendsSome out.written out_now.written (concat lines))
-      (output_one call spelled p.lines p.status p.whole) p.wrote
-  part_begins (of_taken call spelled p) =
-      part-begun out out_now outcome.out p.such.lines
-      (taken_begins_all call spelled p p.such.lines p.such.stand) p.such.wrote
+  part_begins part = by_part part.such
+    where
+      by_part : WrotePart replies_by holds input input_now out out_now part.call
+          → AppendsSome out.written out_now.written (concat outcome.out)
+      by_part (inl p) =
+          subst (λ (lines : List (List ℕ)). AppendsSome out.written out_now.written (concat lines))
+          (output_one part.call part.spelled p.lines p.status p.whole) p.wrote
+      by_part (inr p) =
+          part-begun out out_now outcome.out p.such.lines
+          (taken_begins_all part.call part.spelled p p.such.lines p.such.stand) p.such.wrote
 
   lines_begin : HasLines replies_by words holds input input_now out out_now → Begun out out_now outcome.out
   unfolding Begun
-  lines_begin (none h) = ([], (outcome.out, refl), h)
-  lines_begin (some call spelled p) = (
-    take p.count p.lines,
-    subst (λ (lines : List (List ℕ)). BeginWith lines (take p.count p.lines))
-        (output_one call spelled p.lines p.status p.whole) (begin-by p.count p.lines),
-    p.wrote,
-  )
-  lines_begin (first call spelled p) = (
-    take p.such.count p.such.lines,
-    begin-then outcome.out p.such.lines (take p.such.count p.such.lines)
-        (taken_begins_all call spelled p p.such.lines p.such.stand) (begin-by p.such.count p.such.lines),
-    p.such.wrote,
-  )
+  lines_begin (inl h) = ([], (outcome.out, refl), h)
+  lines_begin (inr lines) = by_lines lines.such
+    where
+      by_lines : WroteFirstLines replies_by holds input input_now out out_now lines.call
+          → Begun out out_now outcome.out
+      by_lines (inl p) = (
+        take p.count p.lines,
+        subst (λ (lines : List (List ℕ)). BeginWith lines (take p.count p.lines))
+            (output_one lines.call lines.spelled p.lines p.status p.whole) (begin-by p.count p.lines),
+        p.wrote,
+      )
+      by_lines (inr p) = (
+        take p.such.count p.such.lines,
+        begin-then outcome.out p.such.lines (take p.such.count p.such.lines)
+            (taken_begins_all lines.call lines.spelled p p.such.lines p.such.stand)
+            (begin-by p.such.count p.such.lines),
+        p.such.wrote,
+      )
 
 -- so do the lines of a call of which a read failed
 module _ (words : List (List ℕ)) (disk disk_now : Disk) (input input_now : Inflow) (out out_now : Outflow)
     (script : List ℕ) (outcome : Outcome) (known : FilesAreKnown words disk.holds)
     (comes_in : input.left ≡ Some script) (is : IsOutcome replies_by words disk.holds (Some script) outcome) where
-  failed_begins : HasFailed replies_by words disk disk_now input input_now out out_now → Begun out out_now outcome.out
+  failed_begins : HasFailed replies_by words disk disk_now input input_now out out_now
+      → Begun out out_now outcome.out
   unfolding Begun
-  failed_begins (of_file rose h) = ([], (outcome.out, refl), h)
-  failed_begins (of_input rose p) = (
-    p.such.lines,
-    taken_begins_all words disk.holds input input_now out out_now script outcome known comes_in is rose.call
-        rose.spelled p
-        p.such.lines
-        (pending_taken (answers_on (manner_of replies_by rose.call.settings) p.read) input.left input_now.left
-        p.such.lines p.such.stand),
-    p.such.wrote,
-  )
+  failed_begins failed = by_read failed.such
+    where
+      by_read : Fails replies_by disk.holds input input_now out out_now disk disk_now failed.call
+          → Begun out out_now outcome.out
+      by_read (inl f) = ([], (outcome.out, refl), f.1)
+      by_read (inr f) =
+          let p = f.1 in (
+            p.such.lines,
+            taken_begins_all words disk.holds input input_now out out_now script outcome known comes_in is
+                failed.call failed.spelled p p.such.lines
+                (pending_taken (answers_on (manner_of replies_by failed.call.settings) p.read) input.left
+                input_now.left p.such.lines p.such.stand),
+            p.such.wrote,
+          )
 
   first_lines : HasFailed replies_by words disk disk_now input input_now out out_now
       ⊎ HasLines replies_by words disk.holds input input_now out out_now → Begun out out_now outcome.out

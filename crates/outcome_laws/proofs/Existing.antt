@@ -12,7 +12,7 @@ use Rattle.call_files.specs.Files.{AreAccepted, HasRefused}
 use Rattle.jps_run.specs.Calls.{files_of, output_of, reads_input, task}
 use Rattle.jps_run.specs.Outcome.{IsOutcome, Outcome, Spell, bad_text, bad_word, done, outcome_of, printing}
 use Rattle.jps_run.specs.Parts.{Output}
-use Rattle.jps_run.specs.Replies.{manner_of}
+use Rattle.jps_run.specs.Manner.{manner_of}
 use Rattle.jps_run.specs.Who.{replies_by}
 use Rattle.jps_run.proofs.Ended.{outcome-heard, outcome-printed}
 use Rattle.outcome_laws.specs.Existing.{ArePresent}

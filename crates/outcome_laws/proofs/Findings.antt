@@ -9,7 +9,8 @@ use Rattle.map_maker.specs.Making.{made_map}
 use Rattle.grid_moves.specs.Layers.{layers_of}
 use Rattle.jps_run.specs.Answers.{in_turn}
 use Rattle.jps_run.specs.Drill.{finding_on}
-use Rattle.jps_run.specs.Replies.{By, session_by}
+use Rattle.jps_run.specs.Manner.{session_by}
+use Rattle.jps_run.specs.Replies.{By}
 use Rattle.jps_run.specs.Who.{replies_by}
 use Rattle.jps_run.specs.declared.replies.findings.Finding.{Finding}
 use Rattle.outcome_laws.specs.Lines.{DrillsAreOne, FindingsAreOne}

@@ -1,5 +1,5 @@
 -- Which cells lie on the map, and which of them are free on the grid of a query.
-use Rattle.std.proofs.Common.{◌≡◌, refl, sym, ◌∙◌, Bool, true, false, ◌&&◌}
+use Rattle.std.proofs.Common.{◌≡◌, sym, ◌∙◌, Bool, true, false}
 use Rattle.std.specs.Prelude.{if◌then◌else◌}
 use Rattle.grid_moves.specs.declared.Cell.{Cell}
 use Rattle.grid_moves.specs.Grid.{IsGrid, is_free}
@@ -8,9 +8,6 @@ pub use Rattle.edit_replay.proofs.Grounds.{ends_free, ends_on, ground_on}
 
 pub not_both : {A : Type 0} (b : Bool) → b ≡ true → b ≡ false → A
 not_both b e f = absurd (let h : true ≡ false = sym e ∙ f in cc)
-
-pub and_true : (a b : Bool) → a ≡ true → b ≡ true → (a && b) ≡ true
-and_true a b e f = rw (e, f) refl
 
 module _ (ls : Layers) (are : AreLayers ls) where
   -- the grid of a query is that of a map

@@ -1,5 +1,5 @@
 -- Layers of maps, and what edits leave of layers.
-use Rattle.std.proofs.Common.{◌≡◌, ℕ, refl, ap, sym, ◌∙◌, subst, Bool, true, false, ◌&&◌, List}
+use Rattle.std.proofs.Common.{◌≡◌, ℕ, refl, ap, sym, ◌∙◌, Bool, true, false, ◌&&◌, List}
 use Rattle.std.proofs.Common.{map, reverse, ◌*◌}
 use Rattle.std.specs.Prelude.{Option, Some, None, Ok}
 use Rattle.std.specs.List.{find, enumerate_from}
@@ -20,11 +20,9 @@ use Rattle.map_maker.specs.Making.{cell_of, made_map}
 use Rattle.map_maker.specs.Words.{generator_of, words_of}
 use Rattle.map_maker.proofs.Drawn.{length-words_from}
 use Rattle.edit_replay.specs.Edited.{Edit, asked, edited, edited_layer}
-use Rattle.edit_replay.specs.Session.{SessionData}
 use Rattle.edit_replay.proofs.Edits.{is_free-edited, is_inside-edited}
 use Rattle.word_list.specs.declared.request.Settings.{Settings}
 use Rattle.call_files.specs.Layered.{layers_on}
-use Rattle.jps_run.specs.Session.{IsSessionOn, session_after}
 
 pub are_layers-map : (set : Settings) (m : Map) → IsMap m.width m.height m.cells → AreLayers (layers_on set m)
 are_layers-map set m is = are_layers-of set.rule m.width m.height m.cells (record {
@@ -110,9 +108,3 @@ are_layers-edited ls edits are =
       apart = apart-edited ls edits are;
     }
 
--- so a session has layers of one map, whatever edits came
-pub are_layers-after : (set : Settings) (m : Map) (d : SessionData) (edits : List Edit)
-    → AreLayers (layers_on set m)
-    → IsSessionOn set m d → AreLayers (session_after d edits).layers
-are_layers-after set m d edits are is =
-    are_layers-edited d.layers edits (subst (λ (k : SessionData). AreLayers k.layers) (sym is) are)

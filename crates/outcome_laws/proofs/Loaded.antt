@@ -17,7 +17,7 @@ use Rattle.call_files.specs.declared.kind.TextKind.TheVariants as kind
 use Rattle.jps_run.specs.Calls.{call_with, files_of, output_of, reads_input, task}
 use Rattle.jps_run.specs.Live.{answers_on}
 use Rattle.jps_run.specs.Parts.{Output, on_map}
-use Rattle.jps_run.specs.Replies.{Manner, manner_of}
+use Rattle.jps_run.specs.Manner.{Manner, manner_of}
 use Rattle.jps_run.specs.Who.{replies_by}
 use Rattle.jps_run.specs.Outcome.{IsOutcome, Outcome, Spell, bad_text, done, hearing, outcome_of, printing}
 use Rattle.outcome_laws.specs.Loaded.{AreTablesOf, DifferInTables}

@@ -32,7 +32,8 @@ use Rattle.jps_run.specs.Heard.{IsInput}
 use Rattle.jps_run.specs.Live.{answers_on}
 use Rattle.jps_run.specs.Outcome.{IsOutcome, Outcome, Spell, bad_text, bad_word, done, hearing, outcome_of, printing}
 use Rattle.jps_run.specs.Parts.{Output, on_map}
-use Rattle.jps_run.specs.Replies.{By, Manner, by_of, by_on, by_session, engine_for, layout_for, manner_of, session_by}
+use Rattle.jps_run.specs.Manner.{Manner, by_of, by_on, engine_for, layout_for, manner_of, session_by}
+use Rattle.jps_run.specs.Replies.{By, by_session}
 use Rattle.jps_run.specs.Who.{replies_by}
 use Rattle.outcome_laws.specs.Alike.{way_of}
 use Rattle.outcome_laws.specs.Files.{AreKnown}

@@ -11,7 +11,7 @@ use Rattle.call_files.specs.Kinds.{refusal_of}
 use Rattle.call_files.specs.MapFiles.{map_files}
 use Rattle.call_files.specs.declared.kind.TextKind.TheVariants as kind
 use Rattle.jps_run.specs.Calls.{task}
-use Rattle.jps_run.specs.Replies.{Manner}
+use Rattle.jps_run.specs.Manner.{Manner}
 
 -- whether a text of these files is refused does not hang on the texts before it
 abbrev pub StandAlone : List File → Type 0

@@ -8,7 +8,8 @@ use Rattle.word_list.specs.declared.request.Show.{Show}
 use Rattle.jps_run.specs.Answers.{answer_lines}
 use Rattle.jps_run.specs.Drill.{drilled, findings_of}
 use Rattle.jps_run.specs.Heard.{AnswerTaken, heard_commands}
-use Rattle.jps_run.specs.Replies.{By, Replies, manner_of}
+use Rattle.jps_run.specs.Manner.{manner_of}
+use Rattle.jps_run.specs.Replies.{By, Replies}
 use Rattle.jps_run.specs.Rows.{rows_of}
 use Rattle.jps_run.specs.Who.{replies_by}
 use Rattle.outcome_laws.specs.Alike.{BeginWith}

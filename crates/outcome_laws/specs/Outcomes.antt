@@ -16,7 +16,7 @@ use Rattle.word_list.specs.declared.request.Show.TheVariants as show
 use Rattle.word_list.specs.declared.rows.Command.{Command}
 use Rattle.word_list.specs.declared.rows.Command.TheVariants.{Drill, Scen}
 use Rattle.line_work.specs.Sending.{Wrote}
-use Rattle.jps_run.specs.Replies.{Manner}
+use Rattle.jps_run.specs.Manner.{Manner}
 use Rattle.jps_run.specs.Who.{replies_by}
 use Rattle.call_files.specs.Kinds.{takes}
 use Rattle.call_files.specs.declared.kind.Extent.TheVariants.{Small}

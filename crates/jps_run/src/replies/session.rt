@@ -2,7 +2,7 @@
 
 ghost use Rattle.std.specs.Prelude.{◌≡◌, IfOk};
 ghost use Rattle.map_text.specs.Faults.{plain};
-ghost use Rattle.jps_run.specs.Replies as replies;
+ghost use Rattle.jps_run.specs.Manner as manner;
 ghost use Rattle.jps_run.specs.Session as spec;
 
 use crate::NoMemory;
@@ -14,7 +14,7 @@ use word_list::{SessionEngine, Settings, States};
 
 /// The states of a cell, by the word for how many there are.
 pub fn layout_for(states: States) -> Layout
-    ensures { result ≡ replies.layout_for states }
+    ensures { result ≡ manner.layout_for states }
 {
     match states {
         States::Arrival => Layout::ByArrival,
@@ -24,7 +24,7 @@ pub fn layout_for(states: States) -> Layout
 
 // The engine of a session by its word; how many states a cell has is asked of one that jumps.
 fn engine_for(states: States, engine: SessionEngine) -> Engine
-    ensures { result ≡ replies.engine_for states engine }
+    ensures { result ≡ manner.engine_for states engine }
 {
     let layout = layout_for(states);
     match engine {

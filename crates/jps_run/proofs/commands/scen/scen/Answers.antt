@@ -16,7 +16,7 @@ use Rattle.call_files.specs.Layered.{layers_on}
 use Rattle.jps_run.specs.Calls.{call_with, output_of}
 use Rattle.jps_run.specs.Counting.{RoseForSearch, Search, search_of}
 use Rattle.jps_run.specs.Parts.{Is, Output}
-use Rattle.jps_run.specs.Replies.{by_on}
+use Rattle.jps_run.specs.Manner.{by_on}
 use Rattle.jps_run.specs.Answerers.{who_of}
 use Rattle.jps_run.specs.Rising.{RoseForEntries}
 use Rattle.jps_run.specs.Rows.{rows_of, scen_output}

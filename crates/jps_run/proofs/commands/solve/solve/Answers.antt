@@ -19,7 +19,7 @@ use Rattle.jps_run.specs.Answers.{solve_output}
 use Rattle.jps_run.specs.Calls.{call_with, output_of}
 use Rattle.jps_run.specs.Counting.{RoseForSearch, Search, search_of}
 use Rattle.jps_run.specs.Parts.{Is}
-use Rattle.jps_run.specs.Replies.{session_by}
+use Rattle.jps_run.specs.Manner.{session_by}
 use Rattle.jps_run.specs.Rising.{RoseForCommands}
 use Rattle.jps_run.specs.Session.{replies_of}
 use Rattle.jps_run.specs.Who.{replies_by}
