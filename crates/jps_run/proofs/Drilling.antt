@@ -21,7 +21,7 @@ use Rattle.jps_run.specs.Drill.{diagonal_in}
 use Rattle.jps_run.specs.Drilling.{HasDrilled, HasRoom, HaveCounted, IsDrilled, LeavesRoom, findings_by, sums_of}
 use Rattle.jps_run.specs.Drilling.{sums_text}
 use Rattle.jps_run.specs.Rising.{RoseForCommand}
-use Rattle.jps_run.specs.Session.{replies_of}
+use Rattle.jps_run.specs.Session.{session_replies}
 use Rattle.line_work.specs.Working.{Adds, CanComplete, HasRoomForOne}
 use Rattle.jps_run.specs.declared.replies.findings.Finding.{Finding}
 use Rattle.jps_run.specs.declared.replies.findings.Finding.TheVariants as finding
@@ -71,7 +71,7 @@ one-fits job room =
     subst HasRoom (sym h.summed) (has_room h.found (omega arith) h.short)
 
 module _ (job now : Summary) (command : ScriptCommand) (found : Finding)
-    (is : found ≡ finding_on (replies_of job.session) job.session.layers command)
+    (is : found ≡ finding_on (session_replies job.session) job.session.layers command)
     (on : GoesOn job.session command now.session)
     (counts : (all : List Finding) → job.sums ≡ sums_of all → now.sums ≡ sums_of (all ++ found ∷ [])) where
   -- one finding more leaves room for one less
@@ -93,9 +93,9 @@ module _ (job now : Summary) (command : ScriptCommand) (found : Finding)
       → Adds (HasDrilled first now (commands ++ command ∷ [])) so_far lines lines
   drilled-more lines first commands so_far h =
       let edits : List Edit = fold edits_with [] commands in
-      let give : Layers → ScriptCommand → Finding = finding_on (replies_of first.session) in
+      let give : Layers → ScriptCommand → Finding = finding_on (session_replies first.session) in
       let here : found ≡ give (edited first.session.layers edits) command =
-      is ∙ ap (λ (d : SessionData). finding_on (replies_of d) d.layers command) h.session in
+      is ∙ ap (λ (d : SessionData). finding_on (session_replies d) d.layers command) h.session in
       record {
         more = [];
         stand = record {

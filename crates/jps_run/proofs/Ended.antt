@@ -16,7 +16,7 @@ use Rattle.word_list.specs.Calls.{is_call}
 use Rattle.word_list.specs.Request.{Call}
 use Rattle.word_list.specs.Rule.{IsBadWord}
 use Rattle.jps_run.specs.Counting.{RoseAsCalled, RoseForCall}
-use Rattle.jps_run.specs.Ending.{CanHear, Comes, ComesRight, Gets, HasFailed, HasLines, HasPart, InputRose, NamedRose}
+use Rattle.jps_run.specs.Ending.{CanHear, Comes, EndsRight, Gets, HasFailed, HasLines, HasPart, InputRose, NamedRose}
 use Rattle.jps_run.specs.Ending.{Fails, WroteFirstLines, WrotePart, ending_line, line_of, memory_line, read_line}
 use Rattle.jps_run.specs.Ending.{status_of, write_line}
 use Rattle.jps_run.specs.Served.{HasServed}
@@ -26,7 +26,7 @@ use Rattle.call_files.specs.FaultLines.{word_line}
 use Rattle.call_files.specs.Files.{HasRefused}
 use Rattle.jps_run.specs.Live.{WroteHeard, answers_on}
 use Rattle.jps_run.specs.Calls.{MayHear, files_of, output_of, reads_input, task}
-use Rattle.jps_run.specs.Outcome.{Spell, IsOutput, bad_word, bad_text, done, hearing, outcome_of, printing}
+use Rattle.jps_run.specs.Outcome.{Spell, IsOutput, bad_word, bad_text, done, outcome_hearing, outcome_of, outcome_with}
 use Rattle.line_work.specs.Sending.{IsAll, Wrote}
 use Rattle.line_work.proofs.Pieces.{nothing}
 use Rattle.jps_run.specs.Who.{replies_by}
@@ -42,18 +42,18 @@ some-input (Some left) = (left, refl)
 pub outcome-heard : (call : Call) (text : List ℕ) (behind : List (List ℕ)) (m : Map) (script : List ℕ)
     → call.request.command ≡ Live → map_of text ≡ Ok m
     → outcome_of replies_by call (text ∷ behind) script
-    ≡ Some (hearing (answers_on (manner_of replies_by call.settings) m) script)
+    ≡ Some (outcome_hearing (answers_on (manner_of replies_by call.settings) m) script)
 unfolding outcome_of
 outcome-heard call text behind m script is spelled = rw is (value-read (map_of text) m _ spelled)
 
 -- and one that prints this
 pub outcome-printed : (call : Call) (texts : List (List ℕ)) (script : List ℕ) (o : Output)
     → output_of replies_by call texts ≡ Some o
-    → outcome_of replies_by call texts script ≡ Some (printing o)
+    → outcome_of replies_by call texts script ≡ Some (outcome_with o)
 unfolding outcome_of output_of
 outcome-printed call texts script o e =
     let off : reads_input call.request.command ≡ false = reads_none call.request.command e in
-    rw off (ap (option_map printing) e)
+    rw off (ap (option_map outcome_with) e)
   where
     -- it does not read what comes in
     reads_none : (c : Command) → (task c call.request.words).output (manner_of replies_by call.settings) texts ≡ Some o → reads_input c ≡ false
@@ -83,7 +83,7 @@ module _ (words : List (List ℕ)) (holds : List ℕ → Held) (input : Option (
     heard-comes call refusal spelled h printed =
         let s = h.such.stand in
         record {
-          outcome = hearing (answers_on (manner_of replies_by call.settings) h.read) s.script;
+          outcome = outcome_hearing (answers_on (manner_of replies_by call.settings) h.read) s.script;
           is = done call (h.text ∷ h.behind) s.script _ spelled h.accepted s.comes
               (outcome-heard call h.text h.behind h.read s.script h.is h.spelled);
           same_status = ap (λ (r : Option (List ℕ)). option_map_or (λ line. 3) r 0) (sym s.refused);
@@ -123,13 +123,6 @@ module _ (words : List (List ℕ)) (holds : List ℕ → Held) (input : Option (
       printed = printed;
     }
     text-comes call line spelled (inr h) printed = heard-comes call (Some line) spelled h printed
-
--- so it did by right replies
-pub rightly : {words : List (List ℕ)} {holds : List ℕ → Held} {input : Option (List ℕ)}
-    {out out_now err err_now : Outflow} {status : ℕ}
-    → Comes replies_by words holds input out out_now err err_now status
-    → ComesRight words holds input out out_now err err_now status
-rightly comes = record { replies = replies_by; right = replies_right; comes = comes }
 
 -- what is known of a call of `run` that ended with this status
 pub record EndsAs (words : List (List ℕ)) (disk disk_now : Disk) (input input_now : Inflow)
@@ -307,3 +300,17 @@ module _ (words : List (List ℕ)) (disk disk_now : Disk) (input input_now : Inf
       by_result (Err stop.Read) served rose printed = read-ends served printed
       by_result (Err stop.Write) served rose printed = write-ends served printed
       by_result (Err stop.Memory) served rose printed = memory-ends served printed
+
+-- and by right replies
+pub rightly : {words : List (List ℕ)} {disk disk_now : Disk} {input input_now : Inflow}
+    {out out_now err err_now : Outflow} {old new status : ℕ}
+    → EndsAs words disk disk_now input input_now out out_now err err_now old new status
+    → EndsRight words disk disk_now input input_now out out_now err err_now status
+rightly ends = record {
+  replies = replies_by;
+  right = replies_right;
+  outcome = ends.outcome;
+  read = ends.read;
+  part = ends.part;
+  memory = ends.memory;
+}

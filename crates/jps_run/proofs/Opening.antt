@@ -14,7 +14,7 @@ use Rattle.jps_run.specs.Calls.{call_with, output_of}
 use Rattle.jps_run.specs.Live.{OnLive}
 use Rattle.jps_run.specs.Opened.{IsCounted, IsWorkOf, Opens, OpensWork, opened_as}
 use Rattle.jps_run.specs.declared.commands.Opened.{Opened}
-use Rattle.jps_run.specs.Parts.{Is, Output, on_last, on_read, printed}
+use Rattle.jps_run.specs.Parts.{Prints, Output, on_last, on_read, printed}
 use Rattle.jps_run.specs.declared.work.Work.{Work}
 use Rattle.jps_run.specs.Works.{CanPerform, HasRisen, IsWhole}
 use Rattle.jps_run.specs.Who.{replies_by}
@@ -43,7 +43,7 @@ both-read text loaded m last read value make e is =
 -- the work of a call prints what the call asks for
 pub work-of : (call : Call) (texts : List (List ℕ)) (job : Work) (o : Output)
     → output_of replies_by call texts ≡ Some o → o.status ≤ 1 → CanPerform job
-    → ((lines : List (List ℕ)) (status : ℕ) → IsWhole job lines status → Is o lines status)
+    → ((lines : List (List ℕ)) (status : ℕ) → IsWhole job lines status → Prints o lines status)
     → ((old new : ℕ) → HasRisen job old new → IsCounted call texts old new) → IsWorkOf call texts job
 work-of call texts job o e small can whole counted = record {
   can = can;
@@ -56,7 +56,7 @@ work-of call texts job o e small can whole counted = record {
 
 -- a text is printed
 pub texted : (text : List ℕ) (code : ℕ) (lines : List (List ℕ)) (status : ℕ) → IsText text code lines status
-    → Is (printed text code) lines status
+    → Prints (printed text code) lines status
 texted text code lines status w = record { all = w.0; code = w.1 }
 
 -- what holds of the map of a call that answers what comes in

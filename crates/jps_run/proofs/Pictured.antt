@@ -15,7 +15,7 @@ use Rattle.jps_run.specs.Pictures.{IsPictured, drawing_of, drawing_status}
 use Rattle.line_work.specs.Sending.{AreLines}
 use Rattle.line_work.specs.declared.printed.Printed.{Printed}
 use Rattle.jps_run.specs.Rising.{RoseForQuery}
-use Rattle.jps_run.specs.Session.{replies_of}
+use Rattle.jps_run.specs.Session.{session_replies}
 use Rattle.edit_replay.specs.ReplyOf.{reply_finding}
 use Rattle.jps_run.specs.Who.{reply_to, who_is}
 use Rattle.jps_run.specs.declared.replies.drawing.Canvas.{Canvas}
@@ -30,7 +30,7 @@ small_drawing (reply.Walk points cost taken) = omega arith
 
 -- an end outside is answered so, and nothing is counted
 outside_reply : (d : SessionData) (s t : Cell) → (is_on_map d.layers s && is_on_map d.layers t) ≡ false
-    → reply.Outside ≡ replies_of d d.layers s t
+    → reply.Outside ≡ session_replies d d.layers s t
 unfolding reply_finding
 outside_reply d s t e = rw e refl
 
@@ -68,7 +68,7 @@ outside_counted (Ok done) d s t steps e = record {
 pub nothing_drawn : (canvas : Canvas) (s t : Cell) (show : Show) (out : Outflow)
     → AreLines (IsPictured canvas s t show) out out
 nothing_drawn canvas s t show out =
-    let r : Reply = replies_of canvas.session canvas.session.layers s t in
+    let r : Reply = session_replies canvas.session canvas.session.layers s t in
     record {
       lines = drawing_of (plain canvas.map) s t show r ∷ [];
       status = drawing_status r;

@@ -11,8 +11,8 @@ use Rattle.edit_replay.specs.declared.reply.Reply.{Reply}
 use Rattle.script_text.specs.declared.command.ScriptCommand.TheVariants.{Query}
 use Rattle.word_list.specs.declared.request.Show.{Show}
 use Rattle.jps_run.specs.Answers.{query_line, solve_output}
-use Rattle.jps_run.specs.Parts.{Is, printed}
-use Rattle.jps_run.specs.Session.{replies_of}
+use Rattle.jps_run.specs.Parts.{Prints, printed}
+use Rattle.jps_run.specs.Session.{session_replies}
 use Rattle.jps_run.specs.Rising.{RoseForQuery, RoseForCommands}
 use Rattle.jps_run.specs.Lines.{reply_line}
 use Rattle.jps_run.specs.Querying.{IsQueryWork}
@@ -32,10 +32,10 @@ module _ (d : SessionData) (show : Show) (sx sy gx gy : ℕ) where
   goal = record { x = gx; y = gy }
 
   pub one-line : (lines : List (List ℕ)) (status : ℕ)
-      → Is (solve_output (replies_of d) show d.layers (Query sx sy gx gy ∷ [])) lines status
-      → Is (printed (query_line (replies_of d) show d.layers start goal) 0) lines status
+      → Prints (solve_output (session_replies d) show d.layers (Query sx sy gx gy ∷ [])) lines status
+      → Prints (printed (query_line (session_replies d) show d.layers start goal) 0) lines status
   one-line lines status w = record {
-    all = w.all ∙ ap (λ (ls : Layers). query_line (replies_of d) show ls start goal ∷ []) (edited-nothing d.layers);
+    all = w.all ∙ ap (λ (ls : Layers). query_line (session_replies d) show ls start goal ∷ []) (edited-nothing d.layers);
     code = w.code;
   }
 

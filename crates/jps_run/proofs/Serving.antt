@@ -10,7 +10,7 @@ use Rattle.call_files.specs.Layered.{layers_on}
 use Rattle.jps_run.specs.Answering.{lines_by}
 use Rattle.jps_run.specs.Answers.{answer_lines}
 use Rattle.jps_run.specs.Manner.{manner_of, session_by}
-use Rattle.jps_run.specs.Session.{replies_of, session_on}
+use Rattle.jps_run.specs.Session.{session_replies, session_on}
 use Rattle.jps_run.specs.Who.{replies_by}
 use Rattle.jps_run.specs.Counting.{RoseForCall, none, read, some}
 use Rattle.jps_run.specs.Heard.{Answering, WroteAll, WroteFirst, WroteLines, AnswerHeard, AnswerPending, AnswerTaken}
@@ -36,7 +36,7 @@ module _ (call : Call) (holds : List ℕ → Held) (job : Answers) (l : IsListen
   -- its lines are those of the call
   lines_are : lines_by job ≡ answers_on (manner_of replies_by call.settings) l.on.read
   lines_are =
-      ap (λ (d : SessionData). λ (commands : List ScriptCommand). answer_lines (replies_of d) job.show d.layers commands)
+      ap (λ (d : SessionData). λ (commands : List ScriptCommand). answer_lines (session_replies d) job.show d.layers commands)
       l.on.such.session
       ∙ ap (λ (show : Show). λ (commands : List ScriptCommand). answer_lines (replies_by (session_by call.settings)) show
       (layers_on call.settings l.on.read) commands) l.on.such.show

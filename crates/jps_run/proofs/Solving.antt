@@ -14,7 +14,7 @@ use Rattle.script_text.specs.declared.command.ScriptCommand.TheVariants.{Query}
 use Rattle.word_list.specs.declared.request.Show.{Show}
 use Rattle.jps_run.specs.Answers.{answer_line, edits_of, edits_with, in_turn}
 use Rattle.jps_run.specs.Answering.{GoesOn, HasAnswered, IsSolved}
-use Rattle.jps_run.specs.Session.{replies_of, session_after}
+use Rattle.jps_run.specs.Session.{session_replies, session_after}
 use Rattle.line_work.specs.Working.{Adds, CanComplete, IsLeft}
 use Rattle.jps_run.specs.declared.replies.answers.Answers.{Answers}
 use Rattle.std.proofs.lemmas.List.Sums.{fold_push}
@@ -69,7 +69,7 @@ module _ {Y : Type 0} (give : Layers → ScriptCommand → Y) (ls : Layers) wher
 -- one command more is answered
 pub answered-more : {T E : Type 0} (result : Result T E) (job now : Answers) (command : ScriptCommand)
     (before after : List ℕ) → now.show ≡ job.show
-    → OnOk result (after ≡ before ++ answer_line (replies_of job.session) job.show job.session.layers command)
+    → OnOk result (after ≡ before ++ answer_line (session_replies job.session) job.show job.session.layers command)
     → OnOk result (GoesOn job.session command now.session)
     → OnOk result ((first : Answers) (commands : List ScriptCommand) (lines : List (List ℕ))
     → HasAnswered first job commands lines
@@ -77,11 +77,11 @@ pub answered-more : {T E : Type 0} (result : Result T E) (job now : Answers) (co
 answered-more (Err error) job now command before after same p on = tt
 answered-more (Ok done) job now command before after same p on = λ first commands lines h.
     let edits : List Edit = fold edits_with [] commands in
-    let give : Layers → ScriptCommand → List ℕ = answer_line (replies_of first.session) first.show in
+    let give : Layers → ScriptCommand → List ℕ = answer_line (session_replies first.session) first.show in
     let line : List ℕ = give (edited first.session.layers edits) command in
-    let is : answer_line (replies_of job.session) job.show job.session.layers command ≡ line =
-    ap (λ (d : SessionData). answer_line (replies_of d) job.show d.layers command) h.session
-    ∙ ap (λ (show : Show). answer_line (replies_of first.session) show (edited first.session.layers edits) command)
+    let is : answer_line (session_replies job.session) job.show job.session.layers command ≡ line =
+    ap (λ (d : SessionData). answer_line (session_replies d) job.show d.layers command) h.session
+    ∙ ap (λ (show : Show). answer_line (session_replies first.session) show (edited first.session.layers edits) command)
     h.show in
     record {
       more = line ∷ [];
@@ -97,7 +97,7 @@ answered-more (Ok done) job now command before after same p on = λ first comman
 -- the first answers can be completed, with a line for each command that is left
 pub answers-complete : CanComplete HasAnswered IsSolved false
 answers-complete first now some others lines h =
-    let give : Layers → ScriptCommand → List ℕ = answer_line (replies_of first.session) first.show in
+    let give : Layers → ScriptCommand → List ℕ = answer_line (session_replies first.session) first.show in
     let edits : List Edit = fold edits_with [] some in
     let more : List (List ℕ) = in_turn give first.session.layers edits others in
     record {

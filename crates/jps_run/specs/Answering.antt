@@ -8,9 +8,9 @@ use Rattle.edit_replay.specs.Session.{SessionData}
 use Rattle.script_text.specs.declared.command.ScriptCommand.{ScriptCommand}
 use Rattle.word_list.specs.declared.request.Settings.{Settings}
 use Rattle.jps_run.specs.Answers.{answer_lines, edits_with, solve_output}
-use Rattle.jps_run.specs.Parts.{Is}
+use Rattle.jps_run.specs.Parts.{Prints}
 use Rattle.jps_run.specs.Rising.{RoseForCommands}
-use Rattle.jps_run.specs.Session.{IsSessionOn, replies_of, session_after}
+use Rattle.jps_run.specs.Session.{IsSessionOn, session_replies, session_after}
 use Rattle.jps_run.specs.declared.replies.answers.Answers.{Answers}
 
 -- the session on a map answers, and shows what the settings ask for
@@ -20,7 +20,7 @@ pub record AreAnswersOn (set : Settings) (m : Map) (job : Answers) : Type 0 wher
 
 -- the lines that answer commands by this job
 abbrev pub lines_by : Answers → List ScriptCommand → List (List ℕ)
-lines_by job commands = answer_lines (replies_of job.session) job.show job.session.layers commands
+lines_by job commands = answer_lines (session_replies job.session) job.show job.session.layers commands
 
 -- the session goes on with the edits of the command
 pub record GoesOn (old : SessionData) (command : ScriptCommand) (new : SessionData) : Type 0 where
@@ -43,4 +43,4 @@ pub record HasAnswered (first now : Answers) (commands : List ScriptCommand) (li
 -- one line answers each command, with status 0
 abbrev pub IsSolved : Answers → List ScriptCommand → List (List ℕ) → ℕ → Type 0
 IsSolved first commands =
-    Is (solve_output (replies_of first.session) first.show first.session.layers commands)
+    Prints (solve_output (session_replies first.session) first.show first.session.layers commands)

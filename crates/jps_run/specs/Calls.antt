@@ -46,8 +46,9 @@ call_with asked set = record { request = asked; settings = set }
 abbrev pub cell_at : List (List ℕ) → ℕ → Cell
 cell_at words place = record { x = number_at words place; y = number_at words (place + 1) }
 
--- what is said of a command with its words: its name, the files that it reads, in their order, by the settings and
--- the name of a table file, and what is printed on their texts, where these are read
+-- what is said of a command with its words: its name; the files that it reads, in their order, by the settings and
+-- the name of a table file; and what is printed on their texts, each accepted. Nothing is, where the input is read:
+-- what answers that is told with outcomes
 pub record Task : Type 0 where
   pub name : List ℕ
   pub files : Settings → Option (List ℕ) → List File
@@ -62,7 +63,7 @@ saying name text = record {
 }
 
 -- the task of a command, with its words. A session that begins with a table file, whose text stands behind that of
--- the map, is that on the map
+-- the map, is that on the map; behind the map `judge` reads a scenario and walks
 abbrev pub task : Command → List (List ℕ) → Task
 task command.Help words = saying (codes "--help") help_text
 task command.Version words = saying (codes "--version") version_text

@@ -3,11 +3,11 @@ use Rattle.std.specs.Prelude.{◌≡◌, ℕ, ◌+◌, ◌<◌, ◌≤◌, ◌^�
 use Rattle.std.specs.List.{All, fold, sum_by}
 use Rattle.script_text.specs.declared.command.ScriptCommand.{ScriptCommand}
 use Rattle.jps_run.specs.Answers.{edits_with}
-use Rattle.jps_run.specs.Parts.{Is, printed}
+use Rattle.jps_run.specs.Parts.{Prints, printed}
 use Rattle.jps_run.specs.Rising.{RoseForCommands}
 use Rattle.jps_run.specs.Drill.{IsShortFinding, drill_line, findings_of, queries_text, edits_text, costs_text}
 use Rattle.jps_run.specs.Drill.{is_walk, is_none, is_blocked, is_done, is_same, straight_in, diagonal_in}
-use Rattle.jps_run.specs.Session.{replies_of, session_after}
+use Rattle.jps_run.specs.Session.{session_replies, session_after}
 use Rattle.jps_run.specs.declared.replies.findings.Summary.{Summary}
 use Rattle.jps_run.specs.declared.replies.findings.Finding.{Finding}
 use Rattle.jps_run.specs.declared.replies.findings.Sums.{Sums}
@@ -49,7 +49,7 @@ pub record LeavesRoom (job : Summary) (more : ℕ) : Type 0 where
 
 -- what commands come to by this job
 abbrev pub findings_by : Summary → List ScriptCommand → List Finding
-findings_by job commands = findings_of (replies_of job.session) job.session.layers commands
+findings_by job commands = findings_of (session_replies job.session) job.session.layers commands
 
 -- the commands came to findings with these sums, and their edits were made; no line is written before the
 -- sums
@@ -66,4 +66,4 @@ pub record HaveCounted (first now : Summary) (commands : List ScriptCommand) (ol
 
 -- one line sums up what the commands come to, with status 0
 abbrev pub IsDrilled : Summary → List ScriptCommand → List (List ℕ) → ℕ → Type 0
-IsDrilled first commands = Is (printed (drill_line (findings_by first commands)) 0)
+IsDrilled first commands = Prints (printed (drill_line (findings_by first commands)) 0)

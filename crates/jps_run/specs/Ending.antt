@@ -1,5 +1,5 @@
 -- How a call of `run` ends.
-use Rattle.std.specs.Prelude.{◌≡◌, true, ℕ, List, [], ◌⊎◌, codes, nat_eq, if◌then◌else◌, Option, Result, Ok, Err}
+use Rattle.std.specs.Prelude.{◌≡◌, true, ℕ, List, [], ◌≤◌, ◌⊎◌, codes, nat_eq, if◌then◌else◌, Option, Result, Ok, Err}
 use Rattle.std.specs.List.{concat}
 use Rattle.io_edge.specs.Causes.{Rose}
 use Rattle.word_list.specs.Calls.{is_call}
@@ -45,13 +45,6 @@ pub record Comes (replies : By → Replies) (words : List (List ℕ)) (holds : L
   pub wrote : Wrote out out_now (concat outcome.out)
   pub printed : Gets err err_now outcome.line
 
--- so it did by replies of which each is right
-pub record ComesRight (words : List (List ℕ)) (holds : List ℕ → Held) (input : Option (List ℕ))
-    (out out_now err err_now : Outflow) (status : ℕ) : Type 0 where
-  pub replies : By → Replies
-  pub right : AreRight replies
-  pub comes : Comes replies words holds input out out_now err err_now status
-
 -- the words spell a call of which this holds
 pub record OfCall (words : List (List ℕ)) (Such : Call → Type 0) : Type 0 where
   pub call : Call
@@ -67,13 +60,13 @@ abbrev pub CanHear : List (List ℕ) → (List ℕ → Held) → Type 0
 CanHear words holds = OfCall words (λ call. MayHear call holds)
 
 -- a call reads the input, and its count rose
-abbrev pub IsUnheard : Inflow → Inflow → Call → Type 0
-IsUnheard input input_now call =
+abbrev pub FailsToHear : Inflow → Inflow → Call → Type 0
+FailsToHear input input_now call =
     (reads_input call.request.command ≡ true) × Rose input.faults input_now.faults
 
 -- so it is with the call that the words ask for
 abbrev pub InputRose : List (List ℕ) → Inflow → Inflow → Type 0
-InputRose words input input_now = OfCall words (IsUnheard input input_now)
+InputRose words input input_now = OfCall words (FailsToHear input input_now)
 
 -- what is known where a call stops, by what its queries are replied
 module _ (replies : By → Replies) (holds : List ℕ → Held) (input input_now : Inflow) (out out_now : Outflow) where
@@ -81,16 +74,16 @@ module _ (replies : By → Replies) (holds : List ℕ → Held) (input input_now
   -- commands among the bytes that were taken were written
   abbrev pub Fails : Disk → Disk → Call → Type 0
   Fails disk disk_now call = (FileRose (files_of call) disk disk_now × Wrote out out_now [])
-      ⊎ (IsUnheard input input_now call
+      ⊎ (FailsToHear input input_now call
       × WrotePending replies call holds out out_now input.left input_now.left)
 
-  -- a first part of a right output was written; where the input is read, of the lines of the whole commands
+  -- a first part of the call's output was written; where the input is read, of the lines of the whole commands
   -- among the bytes that were taken
   abbrev pub WrotePart : Call → Type 0
   WrotePart call = IsPart (IsOutput replies call holds) out out_now
       ⊎ WroteSomeTaken replies call holds out out_now input.left input_now.left
 
-  -- the first lines of a right output were, each whole, and not all of them; where the input is read, the first
+  -- the first lines of the call's output were, each whole, and not all of them; where the input is read, the first
   -- lines of the whole commands among the bytes that were taken
   abbrev pub WroteFirstLines : Call → Type 0
   WroteFirstLines call = AreLines (IsOutput replies call holds) out out_now
@@ -109,6 +102,16 @@ abbrev pub HasLines : (By → Replies) → List (List ℕ) → (List ℕ → Hel
     → Type 0
 HasLines replies words holds input input_now out out_now =
     Wrote out out_now [] ⊎ OfCall words (WroteFirstLines replies holds input input_now out out_now)
+
+-- by replies of which each is right the outcome came about, or what is known where the call stopped does
+pub record EndsRight (words : List (List ℕ)) (disk disk_now : Disk) (input input_now : Inflow)
+    (out out_now err err_now : Outflow) (status : ℕ) : Type 0 where
+  pub replies : By → Replies
+  pub right : AreRight replies
+  pub outcome : status ≤ 3 → Comes replies words disk.holds input.left out out_now err err_now status
+  pub read : status ≡ 4 → HasFailed replies words disk disk_now input input_now out out_now
+  pub part : status ≡ 5 → HasPart replies words disk.holds input input_now out out_now
+  pub memory : status ≡ 6 → HasLines replies words disk.holds input input_now out out_now
 
 -- how the work on a call ended, as a status, and as what `err` gets
 abbrev pub status_of : Result ℕ Stop → ℕ

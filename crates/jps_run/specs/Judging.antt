@@ -2,7 +2,7 @@
 use Rattle.std.specs.Prelude.{◌≡◌, ℕ, ◌+◌, ◌^◌, ◌<◌, ◌≤◌, ◌++◌, List, [], length, count_by, codes, decimal}
 use Rattle.scen_text.specs.declared.entry.Entry.{Entry}
 use Rattle.call_files.specs.Reading.{AreFit}
-use Rattle.jps_run.specs.Parts.{Is}
+use Rattle.jps_run.specs.Parts.{Prints}
 use Rattle.jps_run.specs.Rulings.{is_accepted, is_refused, is_unjudged, judge_output}
 use Rattle.jps_run.specs.Rulings.{ruling_lines, rulings_of}
 use Rattle.jps_run.specs.declared.replies.judge.Judge.{Judge}
@@ -59,4 +59,4 @@ pub record CanGoOn (job : Judge) (more : ℕ) : Type 0 where
 
 -- the lines are a row for each entry and the sum, and the status is that of the rows
 abbrev pub IsJudged : Judge → List Entry → List (List ℕ) → ℕ → Type 0
-IsJudged first entries = Is (judge_output first.costs entries first.walks.items)
+IsJudged first entries = Prints (judge_output first.costs entries first.walks.items)

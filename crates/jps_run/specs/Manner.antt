@@ -34,8 +34,9 @@ abbrev pub by_of : States → Pick → By
 by_of asked (Session engine) = by_session (engine_for asked engine)
 by_of asked (Small engine) = by_small engine
 
-abbrev pub by_on : Settings → By
-by_on set = by_of set.states set.pick
+-- how the engine answers that the settings pick
+abbrev pub picked_by : Settings → By
+picked_by set = by_of set.states set.pick
 
 -- how a session answers, as the settings ask
 abbrev pub session_by : Settings → By
@@ -51,7 +52,7 @@ pub record Manner : Type 0 where
 
 abbrev pub manner_of : (By → Replies) → Settings → Manner
 manner_of replies set = record {
-  picked = replies (by_on set);
+  picked = replies (picked_by set);
   session = replies (session_by set);
   show = set.show;
   rule = set.rule;

@@ -31,12 +31,12 @@ pub record Outcome : Type 0 where
   pub line : List ℕ
 
 -- of a call that prints this
-abbrev pub printing : Output → Outcome
-printing o = record { status = o.status; out = o.lines; line = [] }
+abbrev pub outcome_with : Output → Outcome
+outcome_with o = record { status = o.status; out = o.lines; line = [] }
 
 -- of one that answers a script that comes in
-abbrev pub hearing : Answering → List ℕ → Outcome
-hearing answers script = record {
+abbrev pub outcome_hearing : Answering → List ℕ → Outcome
+outcome_hearing answers script = record {
   status = option_map_or (λ line. 3) (heard_refusal script) 0;
   out = answers (heard_commands script);
   line = unwrap_or (heard_refusal script) [];
@@ -46,8 +46,8 @@ hearing answers script = record {
 unfoldable pub outcome_of : (By → Replies) → Call → List (List ℕ) → List ℕ → Option Outcome
 outcome_of replies call texts script =
     if reads_input call.request.command
-    then on_map texts (λ m behind. Some (hearing (answers_on (manner_of replies call.settings) m) script))
-    else option_map printing (output_of replies call texts)
+    then on_map texts (λ m behind. Some (outcome_hearing (answers_on (manner_of replies call.settings) m) script))
+    else option_map outcome_with (output_of replies call texts)
 
 -- what words, held files and an input come to, by what is replied to queries: the words are refused, or else the
 -- text of a file, or else it is what the call comes to

@@ -14,7 +14,7 @@ abbrev pub printed : List ℕ → ℕ → Output
 printed text status = record { lines = text ∷ []; status = status }
 
 -- these lines and this status are the output
-pub record Is (output : Output) (lines : List (List ℕ)) (status : ℕ) : Type 0 where
+pub record Prints (output : Output) (lines : List (List ℕ)) (status : ℕ) : Type 0 where
   pub all : lines ≡ output.lines
   pub code : status ≡ output.status
 

@@ -10,9 +10,9 @@ use Rattle.word_list.specs.declared.request.Settings.{Settings}
 use Rattle.word_list.specs.declared.request.Show.{Show}
 use Rattle.word_list.specs.declared.request.Show.TheVariants.{Points, Cells, Trace, Taken}
 use Rattle.grid_moves.specs.Layers.{Layers}
-use Rattle.jps_run.specs.Parts.{Is, Output, printed}
+use Rattle.jps_run.specs.Parts.{Prints, Output, printed}
 use Rattle.jps_run.specs.Replies.{Replies}
-use Rattle.jps_run.specs.Session.{IsSessionOn, replies_of}
+use Rattle.jps_run.specs.Session.{IsSessionOn, session_replies}
 use Rattle.jps_run.specs.declared.replies.drawing.Canvas.{Canvas}
 
 -- the states that a search took, where a picture shows them
@@ -45,7 +45,7 @@ drawing replies show m ls s t =
 -- the lines and the status are those of a drawing
 abbrev pub IsPictured : Canvas → Cell → Cell → Show → List (List ℕ) → ℕ → Type 0
 IsPictured canvas s t show =
-    Is (drawing (replies_of canvas.session) show (plain canvas.map) canvas.session.layers s t)
+    Prints (drawing (session_replies canvas.session) show (plain canvas.map) canvas.session.layers s t)
 
 -- a map, and the session on it, as the settings ask
 abbrev pub IsCanvasOf : Settings → Map → Canvas → Type 0

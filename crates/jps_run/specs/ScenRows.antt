@@ -2,7 +2,7 @@
 use Rattle.std.specs.Prelude.{◌≡◌, ℕ, ◌+◌, ◌^◌, ◌<◌, List}
 use Rattle.scen_text.specs.declared.entry.Entry.{Entry}
 use Rattle.jps_run.specs.Answerers.{CanAnswer, who_of}
-use Rattle.jps_run.specs.Parts.{Is}
+use Rattle.jps_run.specs.Parts.{Prints}
 use Rattle.jps_run.specs.Rising.{RoseForEntries}
 use Rattle.jps_run.specs.Rows.{row_lines, rows_of, scen_output}
 use Rattle.jps_run.specs.Tally.{IsSmall, IsTally, tally_of}
@@ -36,5 +36,5 @@ pub record HaveCounted (first now : Scen) (entries : List Entry) (old new : ℕ)
 
 -- the lines are a row for each entry and the sum, and the status is that of the rows
 abbrev pub AreAllRows : Scen → List Entry → List (List ℕ) → ℕ → Type 0
-AreAllRows first entries = Is (scen_output (replies_by (who_of first.answerer).by) first.show
+AreAllRows first entries = Prints (scen_output (replies_by (who_of first.answerer).by) first.show
     (who_of first.answerer).layers entries)

@@ -24,7 +24,7 @@ served_stops call disk disk_now input input_now out out_now = record {
   Memory = Wrote out out_now [] ⊎ WroteFirstLines replies_by disk.holds input input_now out out_now call;
 }
 
--- the work on a call came to a right output, or it stops
+-- the work on a call came to the call's output, or it stops
 abbrev pub HasServed : Call → Disk → Disk → Inflow → Inflow → Outflow → Outflow → Result ℕ Stop → Type 0
 HasServed call disk disk_now input input_now out out_now result = EndsOrStops
     (λ status. (status ≤ 1)

@@ -7,13 +7,13 @@ use Rattle.edit_replay.specs.Session.{SessionData}
 use Rattle.word_list.specs.declared.request.Settings.{Settings}
 use Rattle.word_list.specs.Settings.{session_engine}
 use Rattle.call_files.specs.Layered.{layers_on}
-use Rattle.jps_run.specs.Manner.{by_on, engine_for}
+use Rattle.jps_run.specs.Manner.{picked_by, engine_for}
 use Rattle.jps_run.specs.Replies.{Replies, by_session}
 use Rattle.jps_run.specs.Who.{Who, replies_by}
 
 -- who answers on a map, as the settings ask
 abbrev pub who_on : Settings → Map → Who
-who_on set m = record { layers = layers_on set m; by = by_on set }
+who_on set m = record { layers = layers_on set m; by = picked_by set }
 
 -- the session on a map, as the settings ask
 abbrev pub session_on : Settings → Map → SessionData
@@ -25,8 +25,8 @@ abbrev pub IsSessionOn : Settings → Map → SessionData → Type 0
 IsSessionOn set m d = d ≡ session_on set m
 
 -- what a session replies
-abbrev pub replies_of : SessionData → Replies
-replies_of d = replies_by (by_session d.engine)
+abbrev pub session_replies : SessionData → Replies
+session_replies d = replies_by (by_session d.engine)
 
 -- the session after edits
 abbrev pub session_after : SessionData → List Edit → SessionData

@@ -4,7 +4,7 @@ ghost use Rattle.std.specs.Prelude.{◌≡◌, ◌≤◌, ◌⊎◌, OnOk, map, 
 ghost use Rattle.io_edge.specs.Causes.{Rose};
 ghost use Rattle.word_list.specs.Request.{IsSound, called};
 ghost use Rattle.jps_run.specs.Counting.{RoseAsCalled, RoseForCall};
-ghost use Rattle.jps_run.specs.Ending.{Comes, ComesRight, Gets, HasFailed, HasLines, CanHear, HasPart, InputRose, NamedRose, Names, ending_line, line_of, status_of};
+ghost use Rattle.jps_run.specs.Ending.{Comes, EndsRight, Gets, HasFailed, HasLines, CanHear, HasPart, InputRose, NamedRose, Names, ending_line, line_of, status_of};
 ghost use Rattle.jps_run.specs.Calls.{MayHear};
 ghost use Rattle.jps_run.specs.Served.{HasServed};
 ghost use Rattle.jps_run.specs.Who.{replies_by};
@@ -132,10 +132,12 @@ pub fn run<F: Files, I: Source, O: Sink, E: Sink, L: Ledger>(
 ) -> u8
     ensures statuses { result ≤ 6 }
     // The headline: the status, the output and the line are those of the outcome, where each query is
-    // replied to rightly, on the grid as the edits before it leave it.
-    ensures right { result ≤ 3 → ComesRight (map string_bytes words.now) (F.disk files.old).holds
-        (I.inflow input.old).left (O.outflow out.old) (O.outflow out.new) (E.outflow err.old) (E.outflow err.new) result }
-    // And by which reply: that of the run of the picked engine.
+    // replied to rightly, on the grid as the edits before it leave it. So it is with what is written where
+    // the call stops.
+    ensures right { EndsRight (map string_bytes words.now) (F.disk files.old) (F.disk files.new)
+        (I.inflow input.old) (I.inflow input.new) (O.outflow out.old) (O.outflow out.new) (E.outflow err.old)
+        (E.outflow err.new) result }
+    // And by which replies: those of the picked engine.
     ensures outcome { result ≤ 3 → Comes replies_by (map string_bytes words.now) (F.disk files.old).holds
         (I.inflow input.old).left (O.outflow out.old) (O.outflow out.new) (E.outflow err.old) (E.outflow err.new) result }
     // A read fault has its cause: the count of a file rose that the words name and that there was
@@ -143,11 +145,11 @@ pub fn run<F: Files, I: Source, O: Sink, E: Sink, L: Ledger>(
     // input that the words ask for, and exactly the lines of its whole commands so far were.
     ensures read { result ≡ 4 → HasFailed replies_by (map string_bytes words.now) (F.disk files.old) (F.disk files.new)
         (I.inflow input.old) (I.inflow input.new) (O.outflow out.old) (O.outflow out.new) }
-    // A write fault has its cause, and a first part of a whole right output was written.
+    // A write fault has its cause, and a first part of the whole output was written.
     ensures write { result ≡ 5 → Rose (O.outflow out.old).faults (O.outflow out.new).faults }
     ensures part { result ≡ 5 → HasPart replies_by (map string_bytes words.now) (F.disk files.old).holds
         (I.inflow input.old) (I.inflow input.new) (O.outflow out.old) (O.outflow out.new) }
-    // On want of memory the first lines of a right output were written, not all, or nothing.
+    // On want of memory the first lines of the output were written, not all, or nothing.
     ensures memory { result ≡ 6 → HasLines replies_by (map string_bytes words.now) (F.disk files.old).holds
         (I.inflow input.old) (I.inflow input.new) (O.outflow out.old) (O.outflow out.new) }
     ensures line { 4 ≤ result → Gets (E.outflow err.old) (E.outflow err.new) (ending_line result) }

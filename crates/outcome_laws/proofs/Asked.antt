@@ -13,7 +13,7 @@ use Rattle.word_list.specs.declared.rows.Command.TheVariants.{Drill, Scen}
 use Rattle.jps_run.specs.Calls.{reads_input, task}
 use Rattle.jps_run.specs.Drill.{drill_line}
 use Rattle.jps_run.specs.Parts.{Output, on_last, on_map, on_read, printed}
-use Rattle.jps_run.specs.Manner.{by_on, grids_of, manner_of}
+use Rattle.jps_run.specs.Manner.{picked_by, grids_of, manner_of}
 use Rattle.jps_run.specs.Replies.{By}
 use Rattle.jps_run.specs.Rows.{rows_of, scen_lines, scen_output, scen_status}
 use Rattle.jps_run.specs.Who.{replies_by}
@@ -45,7 +45,7 @@ pub cost_output : (words : List (List ℕ)) (command : Command) (set other : Set
 cost_output words Scen set other show rule costs texts =
     ap (λ (give : Layers → List Entry → Output). on_map texts (λ m behind. on_last behind (λ second.
     on_read (scen_of second) (λ entries. Some (give (grids_of (manner_of replies_by set) m) entries)))))
-    (fun_ext (λ ls. fun_ext (λ entries. scen_same (by_on set) (by_on other) set.show costs ls entries)))
+    (fun_ext (λ ls. fun_ext (λ entries. scen_same (picked_by set) (picked_by other) set.show costs ls entries)))
     ∙ rw (show, rule) refl
 cost_output words Drill set other show rule costs texts =
     ap (λ (found : List Finding). Some (printed (drill_line found) 0)) (drills_same set other (seed_at words 0) rule)

@@ -21,7 +21,7 @@ use Rattle.jps_run.specs.Calls.{files_of}
 use Rattle.jps_run.specs.Ending.{Fails, HasFailed, HasLines, HasPart, WroteFirstLines, WrotePart}
 use Rattle.outcome_laws.specs.Outcomes.{FilesAreKnown, WrittenBeginsTheOutput, WroteLinesOf}
 use Rattle.jps_run.specs.Live.{OnLive, answers_on}
-use Rattle.jps_run.specs.Outcome.{IsOutcome, IsOutput, Outcome, Spell, done, hearing, outcome_of}
+use Rattle.jps_run.specs.Outcome.{IsOutcome, IsOutput, Outcome, Spell, done, outcome_hearing, outcome_of}
 use Rattle.jps_run.specs.Manner.{grids_of, manner_of}
 use Rattle.jps_run.specs.Who.{replies_by}
 use Rattle.jps_run.specs.Answers.{answer_lines}
@@ -82,8 +82,8 @@ module _ (holds : List ℕ → Held) (script : List ℕ) (call : Call) (known : 
       let manner = manner_of replies_by call.settings in
       let begun : BeginWith (answer_lines manner.session manner.show (grids_of manner p.read) (heard_commands script)) lines
       = taken_begins manner.session manner.show (grids_of manner p.read) script left lines taken in
-      let same : hearing (answers_on manner p.read) script ≡ outcome =
-      same_value (hearing (answers_on manner p.read) script) outcome
+      let same : outcome_hearing (answers_on manner p.read) script ≡ outcome =
+      same_value (outcome_hearing (answers_on manner p.read) script) outcome
       (outcome_of replies_by call (p.text ∷ p.behind) script)
       (outcome-heard call p.text p.behind p.read script p.is p.spelled)
       (ap (λ (ts : List (List ℕ)). outcome_of replies_by call ts script)

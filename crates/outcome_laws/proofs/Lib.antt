@@ -3,6 +3,7 @@ pub mod Kept
 pub mod Words
 pub mod Files
 pub mod Ground
+pub mod Certificates
 pub mod Agreeing
 pub mod Findings
 pub mod Forgetting

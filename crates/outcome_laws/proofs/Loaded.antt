@@ -19,7 +19,7 @@ use Rattle.jps_run.specs.Live.{answers_on}
 use Rattle.jps_run.specs.Parts.{Output, on_map}
 use Rattle.jps_run.specs.Manner.{Manner, manner_of}
 use Rattle.jps_run.specs.Who.{replies_by}
-use Rattle.jps_run.specs.Outcome.{IsOutcome, Outcome, Spell, bad_text, done, hearing, outcome_of, printing}
+use Rattle.jps_run.specs.Outcome.{IsOutcome, Outcome, Spell, bad_text, done, outcome_hearing, outcome_of, outcome_with}
 use Rattle.outcome_laws.specs.Loaded.{AreTablesOf, DifferInTables}
 use Rattle.outcome_laws.proofs.Files.{ComesToRefusal, accepted_not_refused, comes, refuses}
 use Rattle.outcome_laws.proofs.Only.{CallComes, call_comes, finished, refused}
@@ -162,8 +162,8 @@ call_for command words tables set =
 leads_so : (holds : List ℕ → Held) (command same : Command) (words others : List (List ℕ))
     (one other : Option (List ℕ)) (set : Settings) → command ≡ same
     → (task command words).files set one ≡ (task same others).files set other
-    → ((manner : Manner) (texts : List (List ℕ))
-    → (task command words).output manner texts ≡ (task same others).output manner texts)
+    → ((texts : List (List ℕ)) → (task command words).output (manner_of replies_by set) texts
+    ≡ (task same others).output (manner_of replies_by set) texts)
     → Leads holds (call_for command words one set) (call_for same others other set)
 unfolding outcome_of output_of
 leads_so holds command same words others one other set e files output = record {
@@ -174,8 +174,8 @@ leads_so holds command same words others one other set e files output = record {
     λ script.
         let manner = manner_of replies_by set in
         let given : Command → Option Output → Option Outcome = λ c o. if reads_input c
-        then on_map texts (λ m behind. Some (hearing (answers_on manner m) script)) else option_map printing o in
-        ap (λ (o : Option Output). given same o) (sym (output manner texts))
+        then on_map texts (λ m behind. Some (outcome_hearing (answers_on manner m) script)) else option_map outcome_with o in
+        ap (λ (o : Option Output). given same o) (sym (output texts))
         ∙ ap (λ (c : Command). given c ((task command words).output manner texts)) (sym e),
   );
 }
@@ -219,8 +219,8 @@ module _ (holds : List ℕ → Held) (command : Command) (words : List (List ℕ
     unfolding outcome_of output_of
     loaded_same text loaded more many script =
         ap (λ (o : Option Output). if reads_input command
-        then on_map (text ∷ more) (λ m behind. Some (hearing (answers_on (manner_of replies_by set) m) script))
-        else option_map printing o) (t.output (manner_of replies_by set) text loaded more many)
+        then on_map (text ∷ more) (λ m behind. Some (outcome_hearing (answers_on (manner_of replies_by set) m) script))
+        else option_map outcome_with o) (t.output (manner_of replies_by set) text loaded more many)
 
     tables_off : Leads holds (asks (Some tables)) (asks None)
     tables_off = record {
@@ -258,7 +258,7 @@ module _ (holds : List ℕ → Held) (command : Command) (words : List (List ℕ
 
   apart : TakesNone command words → (one other : Option (List ℕ)) → Leads holds (asks one) (asks other)
   apart t one other = leads_so holds command command words words one other set refl
-      (t.files set set one other) (λ manner texts. refl)
+      (t.files set set one other) (λ texts. refl)
 
   both_lead : LeadBoth holds (asks (Some tables)) (asks None)
   both_lead = by_tables (tables_taken command words)
@@ -289,10 +289,10 @@ module _ (holds : List ℕ → Held) (call like : Call) (tables : List ℕ)
   between = record {
     off = leads_so holds call.request.command like.request.command call.request.words like.request.words
         None None call.settings differ.same.command (differ.same.files call.settings None)
-        differ.same.output;
+        (differ.same.output call.settings);
     on = leads_so holds like.request.command call.request.command like.request.words call.request.words
         None None call.settings (sym differ.same.command) (sym (differ.same.files call.settings None))
-        (λ manner texts. sym (differ.same.output manner texts));
+        (λ texts. sym (differ.same.output call.settings texts));
   }
 
   differ_lead : LeadBoth holds call like

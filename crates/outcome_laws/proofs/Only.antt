@@ -30,9 +30,9 @@ use Rattle.call_files.specs.declared.kind.TextKind.TheVariants as kind
 use Rattle.jps_run.specs.Calls.{call_with, files_of, output_of, reads_input, task}
 use Rattle.jps_run.specs.Heard.{IsInput}
 use Rattle.jps_run.specs.Live.{answers_on}
-use Rattle.jps_run.specs.Outcome.{IsOutcome, Outcome, Spell, bad_text, bad_word, done, hearing, outcome_of, printing}
+use Rattle.jps_run.specs.Outcome.{IsOutcome, Outcome, Spell, bad_text, bad_word, done, outcome_hearing, outcome_of, outcome_with}
 use Rattle.jps_run.specs.Parts.{Output, on_map}
-use Rattle.jps_run.specs.Manner.{Manner, by_of, by_on, engine_for, layout_for, manner_of, session_by}
+use Rattle.jps_run.specs.Manner.{Manner, by_of, picked_by, engine_for, layout_for, manner_of, session_by}
 use Rattle.jps_run.specs.Replies.{By, by_session}
 use Rattle.jps_run.specs.Who.{replies_by}
 use Rattle.outcome_laws.specs.Alike.{way_of}
@@ -168,7 +168,7 @@ module _ (set other : Settings) (rule : set.rule ≡ other.rule)
 
 -- engines that jump with the same states answer in one way, and take any map
 record AnswerAlike (one other : Settings) : Type 0 where
-  picked : way_of (by_on one) ≡ way_of (by_on other)
+  picked : way_of (picked_by one) ≡ way_of (picked_by other)
   session : way_of (session_by one) ≡ way_of (session_by other)
   small : is_for_small_maps one.pick ≡ is_for_small_maps other.pick
 
@@ -199,7 +199,7 @@ manner_same : (one other : Settings) → AnswerAlike one other → one.show ≡ 
     → manner_of replies_by one ≡ manner_of replies_by other
 manner_same one other alike show rule =
     rw (
-      replies_same (by_on one) (by_on other) alike.picked,
+      replies_same (picked_by one) (picked_by other) alike.picked,
       replies_same (session_by one) (session_by other) alike.session,
       show,
       rule,
@@ -208,7 +208,7 @@ manner_same one other alike show rule =
 -- what a call comes to hangs on whether it reads what comes in, on how it is answered, and on its output
 outcome_as : Bool → Manner → List (List ℕ) → List ℕ → Option Output → Option Outcome
 outcome_as reads manner texts script out =
-    if reads then on_map texts (λ m behind. Some (hearing (answers_on manner m) script)) else option_map printing out
+    if reads then on_map texts (λ m behind. Some (outcome_hearing (answers_on manner m) script)) else option_map outcome_with out
 
 outcome-is : (call : Call) (texts : List (List ℕ)) (script : List ℕ) → outcome_of replies_by call texts script
     ≡ outcome_as (reads_input call.request.command) (manner_of replies_by call.settings) texts script
@@ -271,7 +271,7 @@ module _ (holds : List ℕ → Held) (script : List ℕ) (call like : Call) (ali
         outcome-is call texts script
         ∙ ap (λ (c : Command). outcome_as (reads_input c) m texts script out) alike.same.command
         ∙ ap (λ (o : Option Output). outcome_as (reads_input like.request.command) m texts script o)
-        (alike.same.output m texts)
+        (alike.same.output call.settings texts)
         ∙ ap (λ (k : Manner). outcome_as (reads_input like.request.command) k texts script
         ((task like.request.command like.request.words).output k texts)) manner
         ∙ sym (outcome-is like texts script)
@@ -293,7 +293,7 @@ module _ (holds : List ℕ → Held) (script : List ℕ) (call like : Call) (ali
         ∙ rw silent refl
         ∙ ap (λ (o : Option Output). outcome_as false n texts script o)
         (cost_output call.request.words call.request.command call.settings like.settings alike.show alike.rule costs
-        texts ∙ alike.same.output n texts)
+        texts ∙ alike.same.output like.settings texts)
         ∙ ap (λ (b : Bool). outcome_as b n texts script ((task like.request.command like.request.words).output n texts))
         (sym (sym (ap reads_input alike.same.command) ∙ silent))
         ∙ sym (outcome-is like texts script)
@@ -334,7 +334,7 @@ module _ (holds : List ℕ → Held) (script : List ℕ) (call like : Call) (ali
 -- a call asks for what it asks for
 pub itself : (call : Call) → DifferInEngine call call
 itself call = record {
-  same = record { command = refl; files = λ set tables. refl; output = λ manner texts. refl };
+  same = record { command = refl; files = λ set tables. refl; output = λ set texts. refl };
   tables = refl;
   show = refl;
   rule = refl;

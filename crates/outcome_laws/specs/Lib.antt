@@ -1,6 +1,7 @@
 pub mod Layers
 pub mod Words
 pub mod Files
+pub mod Certificates
 pub mod Agreeing
 pub mod Alike
 pub mod Replies

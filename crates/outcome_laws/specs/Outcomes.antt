@@ -16,7 +16,7 @@ use Rattle.word_list.specs.declared.request.Show.TheVariants as show
 use Rattle.word_list.specs.declared.rows.Command.{Command}
 use Rattle.word_list.specs.declared.rows.Command.TheVariants.{Drill, Scen}
 use Rattle.line_work.specs.Sending.{Wrote}
-use Rattle.jps_run.specs.Manner.{Manner}
+use Rattle.jps_run.specs.Manner.{manner_of}
 use Rattle.jps_run.specs.Who.{replies_by}
 use Rattle.call_files.specs.Kinds.{takes}
 use Rattle.call_files.specs.declared.kind.Extent.TheVariants.{Small}
@@ -42,13 +42,14 @@ abbrev pub is_jump : Pick → Bool
 is_jump pick = jumps pick
 
 -- two commands with their words ask for the same, however numbers are spelled: whatever the settings and the
--- table file, the same files are read; and the same is printed
+-- table file, the same files are read, and the same is printed
 pub record AskTheSame (one other : Asked) : Type 0 where
   pub command : one.command ≡ other.command
   pub files : (set : Settings) (tables : Option (List ℕ))
       → (task one.command one.words).files set tables ≡ (task other.command other.words).files set tables
-  pub output : (manner : Manner) (texts : List (List ℕ))
-      → (task one.command one.words).output manner texts ≡ (task other.command other.words).output manner texts
+  pub output : (set : Settings) (texts : List (List ℕ))
+      → (task one.command one.words).output (manner_of replies_by set) texts
+      ≡ (task other.command other.words).output (manner_of replies_by set) texts
 
 -- two calls ask for the same, but that each may pick an engine of its own, and how many states of a cell its
 -- search has

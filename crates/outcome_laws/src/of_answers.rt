@@ -2,6 +2,7 @@
 
 ghost use Rattle.outcome_laws.specs.Existing.{AcceptedOrRefusedExist, BadWordsExist};
 ghost use Rattle.outcome_laws.specs.Files.{AcceptedTextsAreOne, RefusedLinesAreOne, AcceptedOrRefused};
+ghost use Rattle.outcome_laws.specs.Certificates.{AcceptedHold, ProofsAreAccepted};
 ghost use Rattle.outcome_laws.specs.Agreeing.{LengthsAgree, ProblemsAgree};
 ghost use Rattle.outcome_laws.specs.Words.{BadWordsAreOne, CallsHaveNone};
 
@@ -49,4 +50,15 @@ pub fn lengths_agree()
 /// So is what is made from a number, with an entry for each try that was kept.
 pub fn problems_agree()
     ensures { ProblemsAgree }
+{}
+
+/// What `check` accepts holds: the claim that a certificate is read as is accepted on the grid, and what the line says
+/// is so of all walks there.
+pub fn accepted_hold()
+    ensures { AcceptedHold }
+{}
+
+/// What `prove` prints between free cells of one grid of a map is read again, and accepted on that grid.
+pub fn proofs_are_accepted()
+    ensures { ProofsAreAccepted }
 {}

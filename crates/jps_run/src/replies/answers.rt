@@ -3,7 +3,7 @@
 ghost use Rattle.std.specs.Prelude.{◌≡◌, ◌++◌, OnOk};
 ghost use Rattle.jps_run.specs.Answering.{GoesOn, IsSolved};
 ghost use Rattle.jps_run.specs.Answers.{answer_line};
-ghost use Rattle.jps_run.specs.Session.{replies_of};
+ghost use Rattle.jps_run.specs.Session.{session_replies};
 ghost use Rattle.jps_run.specs.Rising.{RoseForCommand, RoseForCommands};
 ghost use Rattle.line_work.specs.Sending.{SendsWhole};
 
@@ -91,7 +91,7 @@ fn put_answer<L: Ledger>(
     steps: &mut Steps<L>,
 ) -> Result<(), NoMemory>
     ensures answered { OnOk result (lines.new.items ≡ lines.old.items
-        ++ answer_line (replies_of session.old) show session.old.layers command) }
+        ++ answer_line (session_replies session.old) show session.old.layers command) }
     ensures edited { OnOk result (GoesOn session.old command session.new) }
     ensures counted { OnOk result (RoseForCommand session.old session.new command steps.old steps.new) }
 {

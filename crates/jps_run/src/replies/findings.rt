@@ -7,7 +7,7 @@ ghost use Rattle.jps_run.specs.Rising.{RoseForCommand, RoseForCommands};
 ghost use Rattle.jps_run.specs.Drill as spec;
 ghost use Rattle.jps_run.specs.Drill.{IsShortFinding, finding_on};
 ghost use Rattle.jps_run.specs.Drilling.{HasRoom, IsDrilled, sums_of, sums_text};
-ghost use Rattle.jps_run.specs.Session.{replies_of};
+ghost use Rattle.jps_run.specs.Session.{session_replies};
 ghost use Rattle.line_work.specs.Sending.{SendsWhole};
 
 use crate::NoMemory;
@@ -210,7 +210,7 @@ fn find<L: Ledger>(
     command: ScriptCommand,
     steps: &mut Steps<L>,
 ) -> Result<Finding, NoMemory>
-    ensures found { IfOk result (λ found. found ≡ finding_on (replies_of session.old) session.old.layers command) }
+    ensures found { IfOk result (λ found. found ≡ finding_on (session_replies session.old) session.old.layers command) }
     ensures short { IfOk result (λ found. IsShortFinding found) }
     ensures edited { OnOk result (GoesOn session.old command session.new) }
     ensures counted { OnOk result (RoseForCommand session.old session.new command steps.old steps.new) }

@@ -12,7 +12,7 @@ returns-in-Err g c =
     c.refuse_word.ensures.memory in
     record {
       statuses = h.statuses;
-      right = λ few. rightly (h.outcome few);
+      right = rightly h;
       outcome = h.outcome;
       read = h.read;
       write = h.write;
@@ -37,7 +37,7 @@ returns g c =
     c.finish.ensures.status c.finish.ensures.printed in
     record {
       statuses = h.statuses;
-      right = λ few. rightly (h.outcome few);
+      right = rightly h;
       outcome = h.outcome;
       read = h.read;
       write = h.write;

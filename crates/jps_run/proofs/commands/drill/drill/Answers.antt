@@ -9,10 +9,10 @@ use Rattle.word_list.specs.Request.{asking}
 use Rattle.word_list.specs.declared.rows.Command.TheVariants as command
 use Rattle.jps_run.specs.Calls.{call_with, output_of}
 use Rattle.jps_run.specs.Counting.{search_of}
-use Rattle.jps_run.specs.Parts.{Is, printed}
+use Rattle.jps_run.specs.Parts.{Prints, printed}
 use Rattle.jps_run.specs.Rising.{RoseForCommands}
 use Rattle.jps_run.specs.Drill.{drill_line, findings_of}
-use Rattle.jps_run.specs.Session.{IsSessionOn, replies_of, session_on}
+use Rattle.jps_run.specs.Session.{IsSessionOn, session_replies, session_on}
 use Rattle.jps_run.proofs.Opening.{work-of}
 use Rattle.jps_run.proofs.Drilling.{few-commands}
 use Rattle.jps_run.proofs.commands.drill.drill.Goals as goal
@@ -29,11 +29,11 @@ returns c =
     let e : c.in_ok-commands.commands.items ≡ drill_commands seed
     = rw (← c.seed-seed.ensures) c.in_ok-commands.ensures in
     let line : SessionData → List ScriptCommand → List ℕ = λ d commands.
-    drill_line (findings_of (replies_of d) d.layers commands) in
+    drill_line (findings_of (session_replies d) d.layers commands) in
     work-of (call_with (asking command.Drill c.args.request) set) [] _
     (printed (line (session_on set (made_map seed 256 256 25)) (drill_commands seed)) 0) refl (omega arith)
     (few-commands seed c.in_ok-commands.commands.items e, c.new.ensures)
-    (λ lines status w. subst (λ (d : SessionData). Is (printed (line d (drill_commands seed)) 0) lines status) begun
-    (subst (λ (some : List ScriptCommand). Is (printed (line session some) 0) lines status) e w))
+    (λ lines status w. subst (λ (d : SessionData). Prints (printed (line d (drill_commands seed)) 0) lines status) begun
+    (subst (λ (some : List ScriptCommand). Prints (printed (line session some) 0) lines status) e w))
     (λ old new rose. inr (subst (λ (d : SessionData). RoseForCommands d (drill_commands seed) old new) begun
     (subst (λ (some : List ScriptCommand). RoseForCommands session some old new) e rose)))

@@ -5,7 +5,7 @@ use Rattle.word_list.specs.Request.{asking}
 use Rattle.word_list.specs.declared.rows.Command.TheVariants as command
 use Rattle.map_text.specs.Faults.{map_of}
 use Rattle.jps_run.specs.Calls.{call_with, output_of}
-use Rattle.jps_run.specs.Parts.{Is}
+use Rattle.jps_run.specs.Parts.{Prints}
 use Rattle.jps_run.specs.Rulings.{judge_output, rulings_of}
 use Rattle.jps_run.proofs.Judged.{small_judge_status}
 use Rattle.jps_run.proofs.Opening.{value-read, work-of}
@@ -28,6 +28,6 @@ returns-clause-opened g c =
           ∙ value-read _ entries _ r.entries.0 ∙ value-read _ claimed _ r.walks.0)
           (small_judge_status (rulings_of ls entries claimed))
           (record { fit = r.walks.1; none = c.new.ensures; enough = omega (arith, r.walks.2) })
-          (λ lines status w. subst (λ (k : Layers). Is (judge_output k entries claimed) lines status) r.costs.is w)
+          (λ lines status w. subst (λ (k : Layers). Prints (judge_output k entries claimed) lines status) r.costs.is w)
           (λ old new rose. inl refl);
     }

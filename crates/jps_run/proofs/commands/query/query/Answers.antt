@@ -7,7 +7,7 @@ use Rattle.jps_run.specs.Answers.{query_line}
 use Rattle.map_text.specs.Faults.{map_of}
 use Rattle.jps_run.specs.Calls.{call_with, output_of}
 use Rattle.jps_run.specs.Counting.{RoseForSearch, Search, search_of}
-use Rattle.jps_run.specs.Parts.{Is, printed}
+use Rattle.jps_run.specs.Parts.{Prints, printed}
 use Rattle.jps_run.specs.Session.{who_on}
 use Rattle.jps_run.proofs.Opening.{value-read, work-of}
 use Rattle.jps_run.specs.Rising.{RoseForQuery}
@@ -35,7 +35,7 @@ returns-clause-opened g c =
             ← c.ends_of-ends.ensures.gx,
             ← c.ends_of-ends.ensures.gy,
           ) refl) (omega arith) work.can
-          (λ lines status w. subst (λ (who : Who). Is (printed (line who) 0) lines status) r.is.is.0
+          (λ lines status w. subst (λ (who : Who). Prints (printed (line who) 0) lines status) r.is.is.0
           (work.right lines status w))
           (λ old new rose. inr (subst (λ (o : Option Search). RoseForSearch o old new)
           (sym (value-read (map_of r.text) r.is.map _ r.is.spelled)) (rw (

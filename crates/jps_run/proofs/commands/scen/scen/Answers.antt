@@ -15,8 +15,8 @@ use Rattle.word_list.specs.declared.rows.Command.TheVariants as command
 use Rattle.call_files.specs.Layered.{layers_on}
 use Rattle.jps_run.specs.Calls.{call_with, output_of}
 use Rattle.jps_run.specs.Counting.{RoseForSearch, Search, search_of}
-use Rattle.jps_run.specs.Parts.{Is, Output}
-use Rattle.jps_run.specs.Manner.{by_on}
+use Rattle.jps_run.specs.Parts.{Prints, Output}
+use Rattle.jps_run.specs.Manner.{picked_by}
 use Rattle.jps_run.specs.Answerers.{who_of}
 use Rattle.jps_run.specs.Rising.{RoseForEntries}
 use Rattle.jps_run.specs.Rows.{rows_of, scen_output}
@@ -73,9 +73,9 @@ returns-clause-opened g c =
           s.accepted);
       is = work-of (call_with (asking command.Scen c.args.request) set) _ _ (output (who_on set r.is.map))
           (both-read r.text r.loaded r.is.map s.text scen_of entries _ r.is.spelled s.spelled.0)
-          (small_status (rows_of (replies_by (by_on set)) (layers_on set r.is.map) entries))
+          (small_status (rows_of (replies_by (picked_by set)) (layers_on set r.is.map) entries))
           (c.in_ok-answerer.ensures.ready, s.spelled.1, c.new-2.ensures)
-          (λ lines status w. subst (λ (who : Who). Is (output who) lines status) is w)
+          (λ lines status w. subst (λ (who : Who). Prints (output who) lines status) is w)
           (λ old new rose. inr (subst (λ (o : Option Search). RoseForSearch o old new)
           (sym (both-read r.text r.loaded r.is.map s.text scen_of entries _ r.is.spelled s.spelled.0))
           (subst (λ (by : Who). RoseForEntries by entries old new) is rose)));

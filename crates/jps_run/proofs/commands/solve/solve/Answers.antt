@@ -18,10 +18,10 @@ use Rattle.call_files.specs.Layered.{layers_on}
 use Rattle.jps_run.specs.Answers.{solve_output}
 use Rattle.jps_run.specs.Calls.{call_with, output_of}
 use Rattle.jps_run.specs.Counting.{RoseForSearch, Search, search_of}
-use Rattle.jps_run.specs.Parts.{Is}
+use Rattle.jps_run.specs.Parts.{Prints}
 use Rattle.jps_run.specs.Manner.{session_by}
 use Rattle.jps_run.specs.Rising.{RoseForCommands}
-use Rattle.jps_run.specs.Session.{replies_of}
+use Rattle.jps_run.specs.Session.{session_replies}
 use Rattle.jps_run.specs.Who.{replies_by}
 use Rattle.jps_run.specs.declared.work.Work.TheVariants as work
 use Rattle.jps_run.proofs.Opening.{both-read, work-of}
@@ -64,11 +64,11 @@ returns-clause-opened g c =
     let s = rw (c.name-script.ensures) at c.in_ok-commands.ensures.read texts tt in
     let job = c.in_ok-job.job in
     let commands = c.in_ok-commands.commands.items in
-    let whole : Is (solve_output (replies_of job.session) job.show job.session.layers commands)
-    ≡ Is (solve_output (replies_by (session_by c.args.settings)) c.args.settings.show
+    let whole : Prints (solve_output (session_replies job.session) job.show job.session.layers commands)
+    ≡ Prints (solve_output (replies_by (session_by c.args.settings)) c.args.settings.show
     (layers_on c.args.settings r.is.map) commands) =
-    ap (λ (d : SessionData). Is (solve_output (replies_of d) job.show d.layers commands)) r.is.is.session
-    ∙ ap (λ (show : Show). Is (solve_output (replies_by (session_by c.args.settings)) show
+    ap (λ (d : SessionData). Prints (solve_output (session_replies d) job.show d.layers commands)) r.is.is.session
+    ∙ ap (λ (show : Show). Prints (solve_output (replies_by (session_by c.args.settings)) show
     (layers_on c.args.settings r.is.map) commands)) r.is.is.show in
     record {
       texts = r.text ∷ (r.loaded ++ s.text ∷ []);

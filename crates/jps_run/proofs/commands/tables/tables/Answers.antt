@@ -7,7 +7,7 @@ use Rattle.table_file.specs.Encoding.{encoding}
 use Rattle.word_list.specs.declared.request.Settings.{Settings}
 use Rattle.map_text.specs.Faults.{map_of}
 use Rattle.jps_run.specs.Calls.{call_with, output_of}
-use Rattle.jps_run.specs.Parts.{Is, printed}
+use Rattle.jps_run.specs.Parts.{Prints, printed}
 use Rattle.jps_run.specs.declared.work.Work.TheVariants as work
 use Rattle.word_list.specs.Request.{asking}
 use Rattle.word_list.specs.declared.rows.Command.TheVariants as command
@@ -23,7 +23,7 @@ module _ (set : Settings) (m : Map) (ls : Layers) (are : AreLayersOf set m ls) (
     (corner : file.corner ≡ ls.land.corner) where
   -- what is written is the table file of the map
   encodes : (lines : List (List ℕ)) (status : ℕ) → IsEncoded file lines status
-      → Is (printed (tables_text set.rule m) 0) lines status
+      → Prints (printed (tables_text set.rule m) 0) lines status
   encodes lines status whole =
       let of_map = layers_of set.rule m.width m.height m.cells in
       let on_land = subst (λ (l : Layers). AreTablesOf file.land l.land) are land in
