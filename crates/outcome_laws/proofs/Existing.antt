@@ -16,7 +16,7 @@ use Rattle.jps_run.specs.Manner.{manner_of}
 use Rattle.jps_run.specs.Who.{replies_by}
 use Rattle.jps_run.proofs.Ended.{outcome-heard, outcome-printed}
 use Rattle.outcome_laws.specs.Existing.{ArePresent}
-use Rattle.outcome_laws.proofs.Accepted.{has_output, with_tables}
+use Rattle.outcome_laws.proofs.Commands.{has_output, with_tables}
 use Rattle.outcome_laws.proofs.Refusing.{accepted_or_refused, bad_word_exists}
 
 -- a command that reads the input is the one that answers what comes in

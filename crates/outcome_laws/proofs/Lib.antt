@@ -9,7 +9,7 @@ pub mod Findings
 pub mod Forgetting
 pub mod Rows
 pub mod Taken
-pub mod Accepted
+pub mod Commands
 pub mod Tasks
 pub mod SmallMaps
 pub mod Asked

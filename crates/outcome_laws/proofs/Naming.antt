@@ -1,11 +1,10 @@
--- A call's first word is the name of what it does, and each command is called by its name.
+-- A call's first word is the name of what it does.
 use Rattle.std.proofs.Common.{◌≡◌, ◌∙◌, ℕ, Bool, List, [], ◌∷◌, refl, ap, subst}
 use Rattle.std.specs.Prelude.{Some, bytes_eq}
 use Rattle.std.proofs.lemmas.Slice.Eq.{bytes_eq-Decides}
-use Rattle.word_list.specs.declared.rows.Command.TheVariants as command
 use Rattle.word_list.specs.Request.{Call, Named, Row, row_of, rows}
 use Rattle.jps_run.specs.Calls.{task, task_of}
-use Rattle.outcome_laws.specs.Words.{CallsGoByName, CommandsAreCalled}
+use Rattle.outcome_laws.specs.Words.{CallsGoByName}
 use Rattle.outcome_laws.proofs.Spelled.{call_by, row_called, spelled}
 
 module _ (words : List (List ℕ)) where
@@ -27,23 +26,3 @@ by_name (name ∷ words) call e = let is = spelled name words call e in
     let made = call_by is.row words in
     subst (λ (k : Call). Some name ≡ Some (task_of k).name) is.spells
     (ap Some (named made.request.words name is.row is.known))
-
-pub called : CommandsAreCalled
-called command.Help words = refl
-called command.Version words = refl
-called command.Query words = refl
-called command.Solve words = refl
-called command.Live words = refl
-called command.Scen words = refl
-called command.Judge words = refl
-called command.Lengths words = refl
-called command.Problems words = refl
-called command.Prove words = refl
-called command.Check words = refl
-called command.Make words = refl
-called command.Drill words = refl
-called command.Draw words = refl
-called command.Costs words = refl
-called command.Tables words = refl
-called command.Boxes words = refl
-called command.Moves words = refl

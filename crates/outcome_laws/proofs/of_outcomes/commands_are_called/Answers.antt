@@ -1,4 +1,4 @@
-use Rattle.outcome_laws.proofs.Naming.{called}
+use Rattle.outcome_laws.proofs.Commands.{called}
 use Rattle.outcome_laws.proofs.of_outcomes.commands_are_called.Goals as goal
 
 pub returns : goal.returns

@@ -1,4 +1,4 @@
--- What texts that a call's files are accepted with give: a map that is read of them, and an output.
+-- Of each command: accepted texts give an output, and it is called by its name.
 use Rattle.std.proofs.Common.{◌≡◌, ◌∙◌, refl, sym, ap, subst, ℕ, Bool, true, false, List, [], ◌∷◌, ◌++◌, length}
 use Rattle.std.proofs.Common.{append-nil}
 use Rattle.std.specs.Prelude.{Option, Some, None, Result, Ok, Err, if◌then◌else◌}
@@ -27,6 +27,7 @@ use Rattle.jps_run.specs.Parts.{Output, on_last, on_map, on_read, printed}
 use Rattle.jps_run.specs.Manner.{Manner, grids_of}
 use Rattle.jps_run.specs.Rulings.{judge_output}
 use Rattle.jps_run.specs.Texts.{help_text, version_text}
+use Rattle.outcome_laws.specs.Words.{CommandsAreCalled}
 use Rattle.jps_run.proofs.Opening.{last-read, value-read}
 
 -- a text that is not refused is read
@@ -199,3 +200,24 @@ module _ (holds : List ℕ → Held) where
   has_output set command.Tables words tables manner texts p silent = on_its _ (any_map (word_at words 0) texts p)
   has_output set command.Boxes words tables manner texts p silent = on_its _ (small_map (word_at words 0) texts p)
   has_output set command.Moves words tables manner texts p silent = on_its _ (small_map (word_at words 0) texts p)
+
+-- and each has a row in the table of commands by its name
+pub called : CommandsAreCalled
+called command.Help words = refl
+called command.Version words = refl
+called command.Query words = refl
+called command.Solve words = refl
+called command.Live words = refl
+called command.Scen words = refl
+called command.Judge words = refl
+called command.Lengths words = refl
+called command.Problems words = refl
+called command.Prove words = refl
+called command.Check words = refl
+called command.Make words = refl
+called command.Drill words = refl
+called command.Draw words = refl
+called command.Costs words = refl
+called command.Tables words = refl
+called command.Boxes words = refl
+called command.Moves words = refl
