@@ -18,7 +18,8 @@ use Rattle.jps_run.specs.Answers.{edits_with}
 use Rattle.jps_run.specs.Drill.{drill_line, finding_on}
 use Rattle.jps_run.specs.Drill.{IsShortFinding, is_walk, is_none, is_blocked, is_done, is_same, straight_in}
 use Rattle.jps_run.specs.Drill.{diagonal_in}
-use Rattle.jps_run.specs.Drilling.{HasDrilled, HasRoom, HaveCounted, IsDrilled, LeavesRoom, findings_by, sums_of}
+use Rattle.jps_run.specs.Drilling.{HasDrilled, HasRoom, HaveCounted, IsDrilled, LeavesRoom, findings_by}
+use Rattle.jps_run.specs.Drilling.{sums_of}
 use Rattle.jps_run.specs.Drilling.{sums_text}
 use Rattle.jps_run.specs.Rising.{RoseForCommand}
 use Rattle.jps_run.specs.Session.{session_replies}

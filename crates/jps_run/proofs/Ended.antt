@@ -16,8 +16,10 @@ use Rattle.word_list.specs.Calls.{is_call}
 use Rattle.word_list.specs.Request.{Call}
 use Rattle.word_list.specs.Rule.{IsBadWord}
 use Rattle.jps_run.specs.Counting.{RoseAsCalled, RoseForCall}
-use Rattle.jps_run.specs.Ending.{CanHear, Comes, EndsRight, Gets, HasFailed, HasLines, HasPart, InputRose, NamedRose}
-use Rattle.jps_run.specs.Ending.{Fails, WroteFirstLines, WrotePart, ending_line, line_of, memory_line, read_line}
+use Rattle.jps_run.specs.Ending.{CanHear, Comes, EndsRight, Gets, HasFailed, HasLines, HasPart, InputRose}
+use Rattle.jps_run.specs.Ending.{NamedRose}
+use Rattle.jps_run.specs.Ending.{Fails, WroteFirstLines, WrotePart, ending_line, line_of, memory_line}
+use Rattle.jps_run.specs.Ending.{read_line}
 use Rattle.jps_run.specs.Ending.{status_of, write_line}
 use Rattle.jps_run.specs.Served.{HasServed}
 use Rattle.line_work.specs.declared.stop.Stop.{Stop}
@@ -26,7 +28,8 @@ use Rattle.call_files.specs.FaultLines.{word_line}
 use Rattle.call_files.specs.Files.{HasRefused}
 use Rattle.jps_run.specs.Live.{WroteHeard, answers_on}
 use Rattle.jps_run.specs.Calls.{MayHear, files_of, output_of, reads_input, task}
-use Rattle.jps_run.specs.Outcome.{Spell, IsOutput, bad_word, bad_text, done, outcome_hearing, outcome_of, outcome_with}
+use Rattle.jps_run.specs.Outcome.{Spell, IsOutput, bad_word, bad_text, done, outcome_hearing, outcome_of}
+use Rattle.jps_run.specs.Outcome.{outcome_with}
 use Rattle.line_work.specs.Sending.{IsAll, Wrote}
 use Rattle.line_work.proofs.Pieces.{nothing}
 use Rattle.jps_run.specs.Who.{replies_by}
@@ -56,7 +59,8 @@ outcome-printed call texts script o e =
     rw off (ap (option_map outcome_with) e)
   where
     -- it does not read what comes in
-    reads_none : (c : Command) → (task c call.request.words).output (manner_of replies_by call.settings) texts ≡ Some o → reads_input c ≡ false
+    reads_none : (c : Command) → (task c call.request.words).output
+        (manner_of replies_by call.settings) texts ≡ Some o → reads_input c ≡ false
     reads_none Live is = absurd (cc)
     reads_none other is = refl
 
@@ -181,7 +185,8 @@ module _ (words : List (List ℕ)) (disk disk_now : Disk) (input input_now : Inf
 
   -- the call was done
   done-ends : (status : ℕ) → (status ≤ 1) × (IsAll (IsOutput replies_by call disk.holds) out out_now status
-      ⊎ ((status ≡ 0) × WroteHeard replies_by call disk.holds out out_now input.left None)) → Gets err err_now []
+      ⊎ ((status ≡ 0) × WroteHeard replies_by call disk.holds out out_now input.left None))
+      → Gets err err_now []
       → RoseForCall call disk.holds input.left old new
       → EndsAs words disk disk_now input input_now out out_now err err_now old new status
   done-ends status served printed rose = let small : status ≤ 1 = served.0 in record {

@@ -14,7 +14,8 @@ use Rattle.scen_text.specs.declared.entry.Entry.{Entry}
 use Rattle.walk_judge.specs.declared.claims.Claimed.{Claimed}
 use Rattle.call_files.specs.Reading.{AreFit}
 use Rattle.jps_run.specs.Judging.{CanGoOn, HasJudged, IsJudged, counts_of, rulings_by, sum_text}
-use Rattle.jps_run.specs.Rulings.{is_refused, judge_status, ruling_line, ruling_lines, ruling_of, rulings_line}
+use Rattle.jps_run.specs.Rulings.{is_refused, judge_status, ruling_line, ruling_lines, ruling_of}
+use Rattle.jps_run.specs.Rulings.{rulings_line}
 use Rattle.line_work.specs.Working.{Adds, CanComplete, HasRoomForOne}
 use Rattle.jps_run.specs.declared.replies.judge.Judge.{Judge}
 use Rattle.jps_run.specs.declared.replies.ruling.Counts.{Counts}

@@ -17,7 +17,8 @@ use Rattle.jps_run.specs.Answering.{IsSolved, lines_by}
 use Rattle.call_files.specs.FaultLines.{long_line, script_line}
 use Rattle.call_files.specs.Kinds.{limit_of}
 use Rattle.call_files.specs.declared.kind.TextKind.TheVariants as kind
-use Rattle.jps_run.specs.Heard.{AnswerHeard, AnswerTaken, AreWhole, IsInput, WroteAll, WroteFirst, heard_commands, heard_refusal}
+use Rattle.jps_run.specs.Heard.{AnswerHeard, AnswerTaken, AreWhole, IsInput, WroteAll, WroteFirst}
+use Rattle.jps_run.specs.Heard.{heard_commands, heard_refusal}
 use Rattle.jps_run.specs.Heard.{is_long}
 use Rattle.jps_run.specs.Heard.{WroteLines, counted}
 use Rattle.jps_run.specs.Hearing.{HasWritten}

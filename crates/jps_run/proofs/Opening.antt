@@ -38,7 +38,8 @@ pub both-read : {V F X : Type 0} (text : List ℕ) (loaded : List (List ℕ)) (m
     ≡ make m value
 both-read text loaded m last read value make e is =
     value-read (map_of text) m (λ m. on_last (loaded ++ last ∷ []) (λ second. on_read (read second) (make m))) e
-    ∙ last-read loaded last (λ second. on_read (read second) (make m)) ∙ value-read (read last) value (make m) is
+    ∙ last-read loaded last (λ second. on_read (read second) (make m))
+    ∙ value-read (read last) value (make m) is
 
 -- the work of a call prints what the call asks for
 pub work-of : (call : Call) (texts : List (List ℕ)) (job : Work) (o : Output)

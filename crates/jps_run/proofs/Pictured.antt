@@ -34,7 +34,8 @@ outside_reply : (d : SessionData) (s t : Cell) → (is_on_map d.layers s && is_o
 unfolding reply_finding
 outside_reply d s t e = rw e refl
 
-pub outside_text : {E : Type 0} (result : Result Printed E) (d : SessionData) (m : Map) (s t : Cell) (show : Show)
+pub outside_text : {E : Type 0} (result : Result Printed E) (d : SessionData) (m : Map) (s t : Cell)
+    (show : Show)
     → (is_on_map d.layers s && is_on_map d.layers t) ≡ false
     → IfOk result (λ p. p.text.items ≡ codes "outside\n")
     → IfOk result (λ p. p.text.items ≡ drawing_of m s t show (reply_to (who_is d) s t))

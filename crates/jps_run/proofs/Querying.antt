@@ -35,7 +35,8 @@ module _ (d : SessionData) (show : Show) (sx sy gx gy : ℕ) where
       → Prints (solve_output (session_replies d) show d.layers (Query sx sy gx gy ∷ [])) lines status
       → Prints (printed (query_line (session_replies d) show d.layers start goal) 0) lines status
   one-line lines status w = record {
-    all = w.all ∙ ap (λ (ls : Layers). query_line (session_replies d) show ls start goal ∷ []) (edited-nothing d.layers);
+    all = w.all ∙ ap (λ (ls : Layers). query_line (session_replies d) show ls start goal ∷ [])
+        (edited-nothing d.layers);
     code = w.code;
   }
 

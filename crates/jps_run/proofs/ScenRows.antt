@@ -132,7 +132,8 @@ rows-complete first now some others lines h =
     let rest : List (List ℕ) = row_lines first.show (1 + length done) left in
     let sum : List ℕ = sum_line first.show rows in
     let all : done ++ left ≡ rows =
-    sym (map-append (row_for (replies_by (who_of first.answerer).by) (who_of first.answerer).layers) some others) in
+    sym (map-append (row_for (replies_by (who_of first.answerer).by)
+    (who_of first.answerer).layers) some others) in
     record {
       more = rest ++ sum ∷ [];
       status = scen_status rows;

@@ -13,7 +13,8 @@ use Rattle.jps_run.specs.Manner.{manner_of, session_by}
 use Rattle.jps_run.specs.Session.{session_replies, session_on}
 use Rattle.jps_run.specs.Who.{replies_by}
 use Rattle.jps_run.specs.Counting.{RoseForCall, none, read, some}
-use Rattle.jps_run.specs.Heard.{Answering, WroteAll, WroteFirst, WroteLines, AnswerHeard, AnswerPending, AnswerTaken}
+use Rattle.jps_run.specs.Heard.{Answering, WroteAll, WroteFirst, WroteLines, AnswerHeard, AnswerPending}
+use Rattle.jps_run.specs.Heard.{AnswerTaken}
 use Rattle.jps_run.specs.Live.{OnLive, answers_on}
 use Rattle.jps_run.specs.Hearing.{Hears}
 use Rattle.call_files.specs.Reading.{open_stops}
@@ -36,9 +37,11 @@ module _ (call : Call) (holds : List ℕ → Held) (job : Answers) (l : IsListen
   -- its lines are those of the call
   lines_are : lines_by job ≡ answers_on (manner_of replies_by call.settings) l.on.read
   lines_are =
-      ap (λ (d : SessionData). λ (commands : List ScriptCommand). answer_lines (session_replies d) job.show d.layers commands)
+      ap (λ (d : SessionData). λ (commands : List ScriptCommand). answer_lines
+      (session_replies d) job.show d.layers commands)
       l.on.such.session
-      ∙ ap (λ (show : Show). λ (commands : List ScriptCommand). answer_lines (replies_by (session_by call.settings)) show
+      ∙ ap (λ (show : Show). λ (commands : List ScriptCommand). answer_lines (replies_by
+      (session_by call.settings)) show
       (layers_on call.settings l.on.read) commands) l.on.such.show
 
   pub on-live : (Such : Answering → Type 0) → Such (lines_by job)

@@ -69,7 +69,8 @@ module _ {Y : Type 0} (give : Layers → ScriptCommand → Y) (ls : Layers) wher
 -- one command more is answered
 pub answered-more : {T E : Type 0} (result : Result T E) (job now : Answers) (command : ScriptCommand)
     (before after : List ℕ) → now.show ≡ job.show
-    → OnOk result (after ≡ before ++ answer_line (session_replies job.session) job.show job.session.layers command)
+    → OnOk result (after ≡ before ++ answer_line
+    (session_replies job.session) job.show job.session.layers command)
     → OnOk result (GoesOn job.session command now.session)
     → OnOk result ((first : Answers) (commands : List ScriptCommand) (lines : List (List ℕ))
     → HasAnswered first job commands lines
@@ -81,7 +82,8 @@ answered-more (Ok done) job now command before after same p on = λ first comman
     let line : List ℕ = give (edited first.session.layers edits) command in
     let is : answer_line (session_replies job.session) job.show job.session.layers command ≡ line =
     ap (λ (d : SessionData). answer_line (session_replies d) job.show d.layers command) h.session
-    ∙ ap (λ (show : Show). answer_line (session_replies first.session) show (edited first.session.layers edits) command)
+    ∙ ap (λ (show : Show). answer_line (session_replies first.session) show
+    (edited first.session.layers edits) command)
     h.show in
     record {
       more = line ∷ [];

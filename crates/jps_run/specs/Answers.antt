@@ -1,12 +1,15 @@
 -- The lines that answer commands.
-use Rattle.std.specs.Prelude.{ℕ, List, [], ◌∷◌, ◌++◌}
+use Rattle.std.specs.Prelude.{◌≡◌, ℕ, List, [], ◌∷◌, ◌++◌, codes, refl}
 use Rattle.grid_moves.specs.declared.Cell.{Cell}
 use Rattle.grid_moves.specs.declared.Ground.TheVariants.{Blocked, Land, Water}
-use Rattle.grid_moves.specs.Layers.{Layers}
-use Rattle.edit_replay.specs.Edited.{Edit, edit_at, edit_reply, edited}
+use Rattle.grid_moves.specs.Layers.{Layers, layers_of}
+use Rattle.grid_moves.specs.declared.Corner.TheVariants.{Never}
+use Rattle.edit_replay.specs.Edited.{Edit, edit_at, edit_reply, edited, edited_layer}
+use Rattle.edit_replay.specs.declared.reply.Reply.TheVariants.{None}
 use Rattle.script_text.specs.declared.command.ScriptCommand.{ScriptCommand}
 use Rattle.script_text.specs.declared.command.ScriptCommand.TheVariants.{Block, Free, Flood, Query}
 use Rattle.word_list.specs.declared.request.Show.{Show}
+use Rattle.word_list.specs.declared.request.Show.TheVariants.{Points}
 use Rattle.jps_run.specs.Lines.{reply_line, edit_line}
 use Rattle.jps_run.specs.Parts.{Output}
 use Rattle.jps_run.specs.Replies.{Replies}
@@ -48,3 +51,13 @@ answer_lines replies show ls commands = in_turn (answer_line replies show) ls []
 -- what is printed for commands, and the status
 abbrev pub solve_output : Replies → Show → Layers → List ScriptCommand → Output
 solve_output replies show ls commands = record { lines = answer_lines replies show ls commands; status = 0 }
+
+-- a worked row, where no query finds a walk: the second edit finds what the first one made
+abbrev none_found : Replies
+none_found ls s t = None []
+
+pub edits_count_later : answer_lines none_found Points (layers_of Never 2 1 (codes ".."))
+    (Block 0 0 ∷ Block 0 0 ∷ Query 0 0 1 0 ∷ Free 2 0 ∷ [])
+    ≡ codes "ok\n" ∷ codes "same\n" ∷ codes "none\n" ∷ codes "outside\n" ∷ []
+unfolding edited_layer
+edits_count_later = refl

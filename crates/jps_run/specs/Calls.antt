@@ -31,7 +31,8 @@ use Rattle.jps_run.specs.Answers.{query_line, solve_output}
 use Rattle.jps_run.specs.Drill.{drill_line, drilled}
 use Rattle.jps_run.specs.Parts.{Output, on_last, on_map, on_read, printed}
 use Rattle.jps_run.specs.Pictures.{drawing}
-use Rattle.jps_run.specs.Manner.{Manner, grids_of, manner_of}
+use Rattle.call_files.specs.Layered.{grids_under}
+use Rattle.jps_run.specs.Manner.{Manner, manner_of}
 use Rattle.jps_run.specs.Replies.{By, Replies}
 use Rattle.jps_run.specs.Rows.{scen_output}
 use Rattle.jps_run.specs.Rulings.{judge_output}
@@ -46,9 +47,9 @@ call_with asked set = record { request = asked; settings = set }
 abbrev pub cell_at : List (List ℕ) → ℕ → Cell
 cell_at words place = record { x = number_at words place; y = number_at words (place + 1) }
 
--- what is said of a command with its words: its name; the files that it reads, in their order, by the settings and
--- the name of a table file; and what is printed on their texts, each accepted. Nothing is, where the input is read:
--- what answers that is told with outcomes
+-- what is said of a command with its words: its name; the files that it reads, in their order, by the
+-- settings and the name of a table file; and what is printed on their texts, each accepted. Nothing is,
+-- where the input is read: what answers that is told with outcomes
 pub record Task : Type 0 where
   pub name : List ℕ
   pub files : Settings → Option (List ℕ) → List File
@@ -62,8 +63,8 @@ saying name text = record {
   output = λ manner texts. Some (printed text 0);
 }
 
--- the task of a command, with its words. A session that begins with a table file, whose text stands behind that of
--- the map, is that on the map; behind the map `judge` reads a scenario and walks
+-- the task of a command, with its words. A session that begins with a table file, whose text stands behind
+-- that of the map, is that on the map; behind the map `judge` reads a scenario and walks
 abbrev pub task : Command → List (List ℕ) → Task
 task command.Help words = saying (codes "--help") help_text
 task command.Version words = saying (codes "--version") version_text
@@ -71,13 +72,14 @@ task command.Query words = record {
   name = codes "query";
   files = λ set tables. map_files set (word_at words 0) tables;
   output = λ manner texts. on_map texts (λ m behind. Some (printed
-      (query_line manner.picked manner.show (grids_of manner m) (cell_at words 1) (cell_at words 3)) 0));
+      (query_line manner.picked manner.show (grids_under manner.rule m) (cell_at words 1)
+      (cell_at words 3)) 0));
 }
 task command.Solve words = record {
   name = codes "solve";
   files = λ set tables. map_files set (word_at words 0) tables ++ file_of kind.Script (word_at words 1) ∷ [];
   output = λ manner texts. on_map texts (λ m behind. on_last behind (λ second. on_read (script_of second)
-      (λ commands. Some (solve_output manner.session manner.show (grids_of manner m) commands))));
+      (λ commands. Some (solve_output manner.session manner.show (grids_under manner.rule m) commands))));
 }
 task command.Live words = record {
   name = codes "live";
@@ -88,7 +90,7 @@ task command.Scen words = record {
   name = codes "scen";
   files = λ set tables. map_files set (word_at words 0) tables ++ file_of kind.Scen (word_at words 1) ∷ [];
   output = λ manner texts. on_map texts (λ m behind. on_last behind (λ second. on_read (scen_of second)
-      (λ entries. Some (scen_output manner.picked manner.show (grids_of manner m) entries))));
+      (λ entries. Some (scen_output manner.picked manner.show (grids_under manner.rule m) entries))));
 }
 task command.Judge words = record {
   name = codes "judge";
@@ -97,36 +99,37 @@ task command.Judge words = record {
       ∷ [];
   output = λ manner texts. on_map texts (λ m behind. on_read (scen_of (first_text behind)) (λ entries.
       on_last behind (λ third. on_read (walks_of third (length entries)) (λ claimed.
-      Some (judge_output (grids_of manner m) entries claimed)))));
+      Some (judge_output (grids_under manner.rule m) entries claimed)))));
 }
 task command.Lengths words = record {
   name = codes "lengths";
   files = λ set tables. file_of kind.Map (word_at words 0) ∷ file_of kind.Scen (word_at words 1) ∷ [];
   output = λ manner texts. on_map texts (λ m behind. on_last behind (λ second. on_read (scen_of second)
       (λ entries. Some (record {
-        lines = lengths_answer (grids_of manner m) second entries;
-        status = lengths_status (length_lines (grids_of manner m) second entries);
+        lines = lengths_answer (grids_under manner.rule m) second entries;
+        status = lengths_status (length_lines (grids_under manner.rule m) second entries);
       }))));
 }
 task command.Problems words = record {
   name = codes "problems";
   files = λ set tables. file_of kind.Map (word_at words 0) ∷ [];
   output = λ manner texts. on_map texts (λ m behind. Some (printed
-      (problems_text (grids_of manner m) (word_at words 0) (seed_at words 1) (count_at words 2))
-      (problems_status (grids_of manner m) (seed_at words 1) (count_at words 2))));
+      (problems_text (grids_under manner.rule m) (word_at words 0) (seed_at words 1) (count_at words 2))
+      (problems_status (grids_under manner.rule m) (seed_at words 1) (count_at words 2))));
 }
 task command.Prove words = record {
   name = codes "prove";
   files = λ set tables. file_of kind.Map (word_at words 0) ∷ [];
   output = λ manner texts. on_map texts (λ m behind. Some (printed
-      (proof_answer (grids_of manner m) (cell_at words 1) (cell_at words 3))
-      (proof_status (grids_of manner m) (cell_at words 1) (cell_at words 3))));
+      (proof_answer (grids_under manner.rule m) (cell_at words 1) (cell_at words 3))
+      (proof_status (grids_under manner.rule m) (cell_at words 1) (cell_at words 3))));
 }
 task command.Check words = record {
   name = codes "check";
   files = λ set tables. file_of kind.Map (word_at words 0) ∷ file_of kind.Cert (word_at words 1) ∷ [];
   output = λ manner texts. on_map texts (λ m behind. on_last behind (λ second. on_read (certificate_of second)
-      (λ stated. let found = certificate_answer (query_grid (grids_of manner m) stated.head.start) stated in
+      (λ stated. let found = certificate_answer (query_grid
+      (grids_under manner.rule m) stated.head.start) stated in
       Some (printed (verdict_line found) (verdict_status found)))));
 }
 task command.Make words = saying (codes "make") (canonical_text
@@ -141,13 +144,13 @@ task command.Draw words = record {
   name = codes "draw";
   files = λ set tables. file_of kind.Map (word_at words 0) ∷ [];
   output = λ manner texts. on_map texts (λ m behind. Some (drawing manner.session manner.show m
-      (grids_of manner m) (cell_at words 1) (cell_at words 3)));
+      (grids_under manner.rule m) (cell_at words 1) (cell_at words 3)));
 }
 task command.Costs words = record {
   name = codes "costs";
   files = λ set tables. file_of kind.Map (word_at words 0) ∷ [];
   output = λ manner texts. on_map texts (λ m behind.
-      Some (record { lines = costs_answer (grids_of manner m) (cell_at words 1); status = 0 }));
+      Some (record { lines = costs_answer (grids_under manner.rule m) (cell_at words 1); status = 0 }));
 }
 task command.Tables words = record {
   name = codes "tables";
@@ -158,13 +161,13 @@ task command.Boxes words = record {
   name = codes "boxes";
   files = λ set tables. file_of kind.SmallMap (word_at words 0) ∷ [];
   output = λ manner texts. on_map texts (λ m behind.
-      Some (printed (boxes_answer (grids_of manner m) (cell_at words 1)) 0));
+      Some (printed (boxes_answer (grids_under manner.rule m) (cell_at words 1)) 0));
 }
 task command.Moves words = record {
   name = codes "moves";
   files = λ set tables. file_of kind.SmallMap (word_at words 0) ∷ [];
   output = λ manner texts. on_map texts (λ m behind.
-      Some (printed (moves_answer (grids_of manner m) (cell_at words 1)) 0));
+      Some (printed (moves_answer (grids_under manner.rule m) (cell_at words 1)) 0));
 }
 
 -- the task of a call

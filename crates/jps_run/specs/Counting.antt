@@ -77,7 +77,8 @@ pub data HasCounted (call : Call) (holds : List ℕ → Held) (old new : ℕ) : 
 pub data RoseForCall (call : Call) (holds : List ℕ → Held) (input : Option (List ℕ))
     (old new : ℕ) : Type 0 where
   read : HasCounted call holds old new → RoseForCall call holds input old new
-  heard : OnLive call holds (λ m. RoseHeard (session_on call.settings m) input old new) → RoseForCall call holds input old new
+  heard : OnLive call holds (λ m. RoseHeard (session_on call.settings m) input old new)
+      → RoseForCall call holds input old new
 
 -- it rose as the searches of the call that the words spell make it
 pub record RoseAsCalled (words : List (List ℕ)) (holds : List ℕ → Held) (input : Option (List ℕ))

@@ -14,7 +14,8 @@ use Rattle.map_maker.specs.Making.{made_map}
 use Rattle.script_text.specs.declared.command.ScriptCommand.{ScriptCommand}
 use Rattle.script_text.specs.declared.command.ScriptCommand.TheVariants.{Block, Free, Flood, Query}
 use Rattle.jps_run.specs.Answers.{in_turn}
-use Rattle.jps_run.specs.Manner.{Manner, grids_of}
+use Rattle.call_files.specs.Layered.{grids_under}
+use Rattle.jps_run.specs.Manner.{Manner}
 use Rattle.jps_run.specs.Replies.{Replies}
 use Rattle.jps_run.specs.declared.replies.findings.Finding.{Finding}
 use Rattle.jps_run.specs.declared.replies.findings.Finding.TheVariants as finding
@@ -106,4 +107,4 @@ drill_line found =
 -- what the commands of the seed come to, on the map of the seed: 256 by 256, a quarter of it blocked
 abbrev pub drilled : Manner → ℕ → List Finding
 drilled manner seed =
-    findings_of manner.session (grids_of manner (made_map seed 256 256 25)) (drill_commands seed)
+    findings_of manner.session (grids_under manner.rule (made_map seed 256 256 25)) (drill_commands seed)

@@ -1,5 +1,6 @@
 -- How a call of `run` ends.
-use Rattle.std.specs.Prelude.{◌≡◌, true, ℕ, List, [], ◌≤◌, ◌⊎◌, codes, nat_eq, if◌then◌else◌, Option, Result, Ok, Err}
+use Rattle.std.specs.Prelude.{◌≡◌, true, ℕ, List, [], ◌≤◌, ◌⊎◌, codes, nat_eq, if◌then◌else◌, Option, Result}
+use Rattle.std.specs.Prelude.{Ok, Err}
 use Rattle.std.specs.List.{concat}
 use Rattle.io_edge.specs.Causes.{Rose}
 use Rattle.word_list.specs.Calls.{is_call}
@@ -37,7 +38,8 @@ abbrev pub Gets : Outflow → Outflow → List ℕ → Type 0
 Gets before now line = Wrote before now line ⊎ WroteSome before now line
 
 -- the outcome came about: its status is answered, `out` got its lines, and `err` its line
-pub record Comes (replies : By → Replies) (words : List (List ℕ)) (holds : List ℕ → Held) (input : Option (List ℕ))
+pub record Comes (replies : By → Replies) (words : List (List ℕ)) (holds : List ℕ
+    → Held) (input : Option (List ℕ))
     (out out_now err err_now : Outflow) (status : ℕ) : Type 0 where
   pub outcome : Outcome
   pub is : IsOutcome replies words holds input outcome
@@ -69,7 +71,8 @@ abbrev pub InputRose : List (List ℕ) → Inflow → Inflow → Type 0
 InputRose words input input_now = OfCall words (FailsToHear input input_now)
 
 -- what is known where a call stops, by what its queries are replied
-module _ (replies : By → Replies) (holds : List ℕ → Held) (input input_now : Inflow) (out out_now : Outflow) where
+module _ (replies : By → Replies) (holds : List ℕ
+    → Held) (input input_now : Inflow) (out out_now : Outflow) where
   -- a read failed: of a file, and nothing was written; or of the input, and exactly the lines of the whole
   -- commands among the bytes that were taken were written
   abbrev pub Fails : Disk → Disk → Call → Type 0
@@ -77,24 +80,26 @@ module _ (replies : By → Replies) (holds : List ℕ → Held) (input input_now
       ⊎ (FailsToHear input input_now call
       × WrotePending replies call holds out out_now input.left input_now.left)
 
-  -- a first part of the call's output was written; where the input is read, of the lines of the whole commands
-  -- among the bytes that were taken
+  -- a first part of the call's output was written; where the input is read, of the lines of the whole
+  -- commands among the bytes that were taken
   abbrev pub WrotePart : Call → Type 0
   WrotePart call = IsPart (IsOutput replies call holds) out out_now
       ⊎ WroteSomeTaken replies call holds out out_now input.left input_now.left
 
-  -- the first lines of the call's output were, each whole, and not all of them; where the input is read, the first
-  -- lines of the whole commands among the bytes that were taken
+  -- the first lines of the call's output were, each whole, and not all of them; where the input is read, the
+  -- first lines of the whole commands among the bytes that were taken
   abbrev pub WroteFirstLines : Call → Type 0
   WroteFirstLines call = AreLines (IsOutput replies call holds) out out_now
       ⊎ WroteLinesTaken replies call holds out out_now input.left input_now.left
 
 -- so it is with the call that the words ask for; for want of memory nothing may have been written
-abbrev pub HasFailed : (By → Replies) → List (List ℕ) → Disk → Disk → Inflow → Inflow → Outflow → Outflow → Type 0
+abbrev pub HasFailed : (By → Replies) → List (List ℕ) → Disk → Disk → Inflow → Inflow → Outflow → Outflow
+    → Type 0
 HasFailed replies words disk disk_now input input_now out out_now =
     OfCall words (Fails replies disk.holds input input_now out out_now disk disk_now)
 
-abbrev pub HasPart : (By → Replies) → List (List ℕ) → (List ℕ → Held) → Inflow → Inflow → Outflow → Outflow → Type 0
+abbrev pub HasPart : (By → Replies) → List (List ℕ) → (List ℕ → Held) → Inflow → Inflow → Outflow
+    → Outflow → Type 0
 HasPart replies words holds input input_now out out_now =
     OfCall words (WrotePart replies holds input input_now out out_now)
 

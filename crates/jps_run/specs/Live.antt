@@ -8,8 +8,10 @@ use Rattle.word_list.specs.declared.rows.Command.TheVariants.{Live}
 use Rattle.call_files.specs.Files.{AreAccepted}
 use Rattle.jps_run.specs.Answers.{answer_lines}
 use Rattle.jps_run.specs.Calls.{files_of}
-use Rattle.jps_run.specs.Heard.{Answering, AnswerHeard, AnswerPending, AnswerTaken, WroteAll, WroteFirst, WroteLines}
-use Rattle.jps_run.specs.Manner.{Manner, grids_of, manner_of}
+use Rattle.jps_run.specs.Heard.{Answering, AnswerHeard, AnswerPending, AnswerTaken, WroteAll, WroteFirst}
+use Rattle.jps_run.specs.Heard.{WroteLines}
+use Rattle.call_files.specs.Layered.{grids_under}
+use Rattle.jps_run.specs.Manner.{Manner, manner_of}
 use Rattle.jps_run.specs.Replies.{By, Replies}
 
 -- the call answers what comes in: each of its files is accepted, the map first, and of the map this holds
@@ -24,26 +26,30 @@ pub record OnLive (call : Call) (holds : List ℕ → Held) (Such : Map → Type
 
 -- the lines that answer commands on a map
 abbrev pub answers_on : Manner → Map → Answering
-answers_on manner m commands = answer_lines manner.session manner.show (grids_of manner m) commands
+answers_on manner m commands = answer_lines manner.session manner.show (grids_under manner.rule m) commands
 
 -- its lines were written; exactly those of the whole commands among the bytes that were taken; a first part
 -- of these; the first ones of these, each whole
 abbrev pub WroteHeard : (By → Replies) → Call → (List ℕ → Held) → Outflow → Outflow → Option (List ℕ)
     → Option (List ℕ) → Type 0
 WroteHeard replies call holds out out_now input refusal =
-    OnLive call holds (λ m. WroteAll (AnswerHeard (answers_on (manner_of replies call.settings) m) input refusal) out out_now)
+    OnLive call holds (λ m. WroteAll (AnswerHeard (answers_on
+    (manner_of replies call.settings) m) input refusal) out out_now)
 
 abbrev pub WrotePending : (By → Replies) → Call → (List ℕ → Held) → Outflow → Outflow → Option (List ℕ)
     → Option (List ℕ) → Type 0
 WrotePending replies call holds out out_now input left =
-    OnLive call holds (λ m. WroteAll (AnswerPending (answers_on (manner_of replies call.settings) m) input left) out out_now)
+    OnLive call holds (λ m. WroteAll (AnswerPending (answers_on
+    (manner_of replies call.settings) m) input left) out out_now)
 
 abbrev pub WroteSomeTaken : (By → Replies) → Call → (List ℕ → Held) → Outflow → Outflow → Option (List ℕ)
     → Option (List ℕ) → Type 0
 WroteSomeTaken replies call holds out out_now input left =
-    OnLive call holds (λ m. WroteFirst (AnswerTaken (answers_on (manner_of replies call.settings) m) input left) out out_now)
+    OnLive call holds (λ m. WroteFirst (AnswerTaken (answers_on
+    (manner_of replies call.settings) m) input left) out out_now)
 
 abbrev pub WroteLinesTaken : (By → Replies) → Call → (List ℕ → Held) → Outflow → Outflow → Option (List ℕ)
     → Option (List ℕ) → Type 0
 WroteLinesTaken replies call holds out out_now input left =
-    OnLive call holds (λ m. WroteLines (AnswerTaken (answers_on (manner_of replies call.settings) m) input left) out out_now)
+    OnLive call holds (λ m. WroteLines (AnswerTaken (answers_on
+    (manner_of replies call.settings) m) input left) out out_now)

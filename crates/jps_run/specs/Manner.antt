@@ -1,7 +1,5 @@
 -- How a call is answered, as its settings ask.
-use Rattle.grid_moves.specs.Layers.{Layers, layers_of}
 use Rattle.grid_moves.specs.declared.Corner.{Corner}
-use Rattle.map_text.specs.Map.{Map}
 use Rattle.best_first.specs.declared.state.Layout.{Layout}
 use Rattle.best_first.specs.declared.state.Layout.TheVariants.{ByArrival, ByCell}
 use Rattle.edit_replay.specs.declared.engine.Engine.{Engine}
@@ -42,8 +40,8 @@ picked_by set = by_of set.states set.pick
 abbrev pub session_by : Settings → By
 session_by set = by_session (engine_for set.states (session_engine set.pick))
 
--- how a call is answered: what is replied to its queries by the picked engine, and by a session; what is shown of
--- a reply; and the corner rule
+-- how a call is answered: what is replied to its queries by the picked engine, and by a session; what is
+-- shown of a reply; and the corner rule
 pub record Manner : Type 0 where
   pub picked : Replies
   pub session : Replies
@@ -57,7 +55,3 @@ manner_of replies set = record {
   show = set.show;
   rule = set.rule;
 }
-
--- the grids of a map
-abbrev pub grids_of : Manner → Map → Layers
-grids_of manner m = layers_of manner.rule m.width m.height m.cells

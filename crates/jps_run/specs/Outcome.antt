@@ -19,7 +19,8 @@ abbrev pub Spell : List (List ℕ) → Call → Type 0
 Spell words call = call_of words ≡ Some call
 
 -- the lines and the status are the output of a call, with the files that are held
-pub record IsOutput (replies : By → Replies) (call : Call) (holds : List ℕ → Held) (lines : List (List ℕ)) (status : ℕ) : Type 0 where
+pub record IsOutput (replies : By → Replies) (call : Call) (holds : List ℕ
+    → Held) (lines : List (List ℕ)) (status : ℕ) : Type 0 where
   pub texts : List (List ℕ)
   pub accepted : AreAccepted holds [] (files_of call) texts
   pub answered : output_of replies call texts ≡ Some (record { lines = lines; status = status })
@@ -42,15 +43,17 @@ outcome_hearing answers script = record {
   line = unwrap_or (heard_refusal script) [];
 }
 
--- what a call comes to on the texts of its files, each accepted, and on a script that comes in, if it reads one
+-- what a call comes to on the texts of its files, each accepted, and on a script that comes in, if it reads
+-- one
 unfoldable pub outcome_of : (By → Replies) → Call → List (List ℕ) → List ℕ → Option Outcome
 outcome_of replies call texts script =
     if reads_input call.request.command
-    then on_map texts (λ m behind. Some (outcome_hearing (answers_on (manner_of replies call.settings) m) script))
+    then on_map texts (λ m behind. Some (outcome_hearing (answers_on
+    (manner_of replies call.settings) m) script))
     else option_map outcome_with (output_of replies call texts)
 
--- what words, held files and an input come to, by what is replied to queries: the words are refused, or else the
--- text of a file, or else it is what the call comes to
+-- what words, held files and an input come to, by what is replied to queries: the words are refused, or else
+-- the text of a file, or else it is what the call comes to
 pub data IsOutcome (replies : By → Replies) (words : List (List ℕ)) (holds : List ℕ → Held)
     (input : Option (List ℕ))
     : Outcome → Type 0 where

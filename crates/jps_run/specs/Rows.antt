@@ -1,5 +1,6 @@
 -- The rows that judge a scenario.
-use Rattle.std.specs.Prelude.{ℕ, ◌+◌, Bool, true, false, ◌||◌, if◌then◌else◌, List, []}
+use Rattle.std.specs.Fmt.{digits}
+use Rattle.std.specs.Prelude.{◌≡◌, refl, ℕ, ◌+◌, Bool, true, false, ◌||◌, if◌then◌else◌, List, []}
 use Rattle.std.specs.Prelude.{◌∷◌, ◌++◌, length, codes, decimal, count_by, map}
 use Rattle.std.specs.List.{list_all, sum_by}
 use Rattle.root2_cost.specs.declared.lengths.Decimal.{Decimal}
@@ -12,8 +13,9 @@ use Rattle.scen_text.specs.declared.entry.Entry.{Entry}
 use Rattle.word_list.specs.declared.request.Show.{Show}
 use Rattle.word_list.specs.declared.request.Show.TheVariants.{Points, Cells, Trace, Taken}
 pub use Rattle.scen_maker.specs.Settling.{goal_of, has_sides, start_of}
-use Rattle.grid_moves.specs.Layers.{Layers}
-use Rattle.jps_run.specs.Parts.{Output}
+use Rattle.grid_moves.specs.Layers.{Layers, layers_of}
+use Rattle.grid_moves.specs.declared.Corner.TheVariants.{Never}
+use Rattle.jps_run.specs.Parts.{Output, printed}
 use Rattle.jps_run.specs.Replies.{Replies}
 use Rattle.jps_run.specs.declared.replies.row.Row.{Row}
 use Rattle.jps_run.specs.declared.replies.row.Row.TheVariants as row
@@ -119,3 +121,9 @@ scen_output replies show ls entries = record {
   lines = scen_lines show (rows_of replies ls entries);
   status = scen_status (rows_of replies ls entries);
 }
+
+-- a worked row: a scenario with no entry
+pub no_entries : scen_output (λ ls s t. reply.Outside) Points (layers_of Never 1 1 (codes ".")) []
+    ≡ printed (codes "sum 0 agree 0 near 0 off 0 other 0\n") 0
+unfolding digits
+no_entries = refl

@@ -1,4 +1,5 @@
--- Who answers a query, and which reply it has: a function of the grids, of how it is answered and of the ends.
+-- Who answers a query, and which reply it has: a function of the grids, of how it is answered and of the
+-- ends.
 use Rattle.std.specs.Prelude.{◌≡◌, ℕ, [], Option, None}
 use Rattle.grid_moves.specs.declared.Cell.{Cell}
 use Rattle.grid_moves.specs.Grid.{GridData}
@@ -23,8 +24,8 @@ pub record Who : Type 0 where
 abbrev pub who_is : SessionData → Who
 who_is d = record { layers = d.layers; by = by_session d.engine }
 
--- what is found on a grid: by the engine's run, by the run that goes by the boxes of the grid, or by following
--- its first moves, where nothing is searched and no state is taken
+-- what is found on a grid: by the engine's run, by the run that goes by the boxes of the grid, or by
+-- following its first moves, where nothing is searched and no state is taken
 abbrev pub found_by : By → GridData → Cell → Cell → Found
 found_by (by_session engine) g s t = found_with (states_of engine) g s t
 found_by by_boxes g s t = boxed_found g s t

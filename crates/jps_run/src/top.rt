@@ -173,7 +173,10 @@ pub fn run<F: Files, I: Source, O: Sink, E: Sink, L: Ledger>(
         Ok(call) => call,
         Err(bad) => return refuse_word(alloc, bad.0, err),
     };
-    finish(serve(alloc, request, settings, files, input, out, steps), err)
+    finish(
+        serve(alloc, request, settings, files, input, out, steps),
+        err,
+    )
 }
 
 /// Refuses a list of words of which some are no text, and answers the status.

@@ -1,4 +1,3 @@
-pub mod Turns
 pub mod Stopping
 pub mod Pieces
 pub mod Looping

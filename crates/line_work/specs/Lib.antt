@@ -1,4 +1,3 @@
 pub mod Stops
 pub mod Sending
 pub mod Working
-pub mod Turns

@@ -13,7 +13,8 @@ use Rattle.word_list.specs.declared.rows.Command.TheVariants.{Drill, Scen}
 use Rattle.jps_run.specs.Calls.{reads_input, task}
 use Rattle.jps_run.specs.Drill.{drill_line}
 use Rattle.jps_run.specs.Parts.{Output, on_last, on_map, on_read, printed}
-use Rattle.jps_run.specs.Manner.{picked_by, grids_of, manner_of}
+use Rattle.call_files.specs.Layered.{grids_under}
+use Rattle.jps_run.specs.Manner.{picked_by, manner_of}
 use Rattle.jps_run.specs.Replies.{By}
 use Rattle.jps_run.specs.Rows.{rows_of, scen_lines, scen_output, scen_status}
 use Rattle.jps_run.specs.Who.{replies_by}
@@ -34,7 +35,8 @@ scen_same : (by other : By) (show : Show) → AsksForCosts Scen show → (ls : L
 scen_same by other show costs ls entries =
     let d = rows_alike by other ls entries in
     let output : List (List ℕ) → ℕ → Output = λ lines status. record { lines = lines; status = status } in
-    ap (λ (lines : List (List ℕ)). output lines (scen_status (rows_of (replies_by by) ls entries))) (d.lines show costs)
+    ap (λ (lines : List (List ℕ)). output lines (scen_status (rows_of (replies_by by) ls entries)))
+    (d.lines show costs)
     ∙ ap (λ (status : ℕ). output (scen_lines show (rows_of (replies_by other) ls entries)) status) d.status
 
 -- so it is with all that is printed
@@ -44,9 +46,10 @@ pub cost_output : (words : List (List ℕ)) (command : Command) (set other : Set
     ≡ (task command words).output (manner_of replies_by other) texts
 cost_output words Scen set other show rule costs texts =
     ap (λ (give : Layers → List Entry → Output). on_map texts (λ m behind. on_last behind (λ second.
-    on_read (scen_of second) (λ entries. Some (give (grids_of (manner_of replies_by set) m) entries)))))
+    on_read (scen_of second) (λ entries. Some (give (grids_under set.rule m) entries)))))
     (fun_ext (λ ls. fun_ext (λ entries. scen_same (picked_by set) (picked_by other) set.show costs ls entries)))
     ∙ rw (show, rule) refl
 cost_output words Drill set other show rule costs texts =
-    ap (λ (found : List Finding). Some (printed (drill_line found) 0)) (drills_same set other (seed_at words 0) rule)
+    ap (λ (found : List Finding). Some (printed (drill_line found) 0)) (drills_same set other
+    (seed_at words 0) rule)
 cost_output words apart set other show rule costs texts = absurd costs

@@ -22,7 +22,8 @@ use Rattle.jps_run.specs.Ending.{Fails, HasFailed, HasLines, HasPart, WroteFirst
 use Rattle.outcome_laws.specs.Outcomes.{FilesAreKnown, WrittenBeginsTheOutput, WroteLinesOf}
 use Rattle.jps_run.specs.Live.{OnLive, answers_on}
 use Rattle.jps_run.specs.Outcome.{IsOutcome, IsOutput, Outcome, Spell, done, outcome_hearing, outcome_of}
-use Rattle.jps_run.specs.Manner.{grids_of, manner_of}
+use Rattle.call_files.specs.Layered.{grids_under}
+use Rattle.jps_run.specs.Manner.{manner_of}
 use Rattle.jps_run.specs.Who.{replies_by}
 use Rattle.jps_run.specs.Answers.{answer_lines}
 use Rattle.jps_run.proofs.Ended.{outcome-heard, outcome-printed}
@@ -74,14 +75,16 @@ module _ (before now : Outflow) where
 module _ (holds : List ℕ → Held) (script : List ℕ) (call : Call) (known : AreKnown holds (files_of call))
     {Such : Map → Type 0} (p : OnLive call holds Such) (left : Option (List ℕ))
     (lines : List (List ℕ))
-    (taken : AnswerTaken (answers_on (manner_of replies_by call.settings) p.read) (Some script) left lines) where
+    (taken : AnswerTaken (answers_on (manner_of replies_by call.settings) p.read)
+    (Some script) left lines) where
   call_begins : (outcome : Outcome) → CallComes call holds (Some script) outcome → BeginWith outcome.out lines
   call_begins _ (refused line r) =
       absurd (not_both holds (files_of call) (p.text ∷ p.behind) line known p.accepted r)
   call_begins _ (finished texts heard outcome q comes e) =
       let manner = manner_of replies_by call.settings in
-      let begun : BeginWith (answer_lines manner.session manner.show (grids_of manner p.read) (heard_commands script)) lines
-      = taken_begins manner.session manner.show (grids_of manner p.read) script left lines taken in
+      let begun : BeginWith (answer_lines manner.session manner.show (grids_under manner.rule p.read)
+      (heard_commands script)) lines
+      = taken_begins manner.session manner.show (grids_under manner.rule p.read) script left lines taken in
       let same : outcome_hearing (answers_on manner p.read) script ≡ outcome =
       same_value (outcome_hearing (answers_on manner p.read) script) outcome
       (outcome_of replies_by call (p.text ∷ p.behind) script)
@@ -109,7 +112,8 @@ module _ (words : List (List ℕ)) (holds : List ℕ → Held) (input input_now 
       → BeginWith outcome.out lines
   taken_begins_all call spelled p lines taken =
       call_begins holds script call (known call spelled) p input_now.left lines
-      (subst (λ (text : Option (List ℕ)). AnswerTaken (answers_on (manner_of replies_by call.settings) p.read) text
+      (subst (λ (text : Option (List ℕ)). AnswerTaken (answers_on
+      (manner_of replies_by call.settings) p.read) text
       input_now.left lines) comes_in taken) outcome
       (call_comes words holds (Some script) call outcome spelled is)
 
@@ -150,7 +154,8 @@ module _ (words : List (List ℕ)) (holds : List ℕ → Held) (input input_now 
 -- so do the lines of a call of which a read failed
 module _ (words : List (List ℕ)) (disk disk_now : Disk) (input input_now : Inflow) (out out_now : Outflow)
     (script : List ℕ) (outcome : Outcome) (known : FilesAreKnown words disk.holds)
-    (comes_in : input.left ≡ Some script) (is : IsOutcome replies_by words disk.holds (Some script) outcome) where
+    (comes_in : input.left ≡ Some script) (is : IsOutcome replies_by words disk.holds
+    (Some script) outcome) where
   failed_begins : HasFailed replies_by words disk disk_now input input_now out out_now
       → Begun out out_now outcome.out
   unfolding Begun

@@ -1,17 +1,15 @@
 -- That what `check` accepts holds, and that what `prove` prints is accepted.
 use Rattle.std.proofs.Common.{◌≡◌, refl, ap, sym, subst, Bool, true, false, ◌&&◌, ℕ, List}
-use Rattle.std.specs.Prelude.{Option, Some, None, Result, Ok, Err, if◌then◌else◌, nat_eq, codes}
+use Rattle.std.specs.Prelude.{Option, Some, None, Ok, Err, if◌then◌else◌, nat_eq, codes}
 use Rattle.std.specs.Option.{option_map_or}
 use Rattle.std.proofs.lemmas.Bool.{and_parts}
-use Rattle.grid_moves.specs.Grid.{GridData, is_free}
+use Rattle.grid_moves.specs.Grid.{is_free}
 use Rattle.grid_moves.specs.Layers.{Layers, in_one_layer, is_on_map, query_grid}
 use Rattle.grid_moves.specs.Reply.{are_free_ends}
 use Rattle.grid_moves.specs.declared.Cell.{Cell}
-use Rattle.potential_check.specs.Accepted.{AcceptsClaim, Holds, proof_of}
+use Rattle.potential_check.specs.Accepted.{AcceptsClaim, Holds}
 use Rattle.potential_check.specs.Answers.{certificate_answer, claim_answer}
-use Rattle.potential_check.specs.Text.{Plain}
 use Rattle.potential_check.specs.declared.verdict.Proof.{Proof}
-use Rattle.potential_check.specs.declared.verdict.Reject.{Reject}
 use Rattle.potential_check.specs.declared.verdict.Reject.TheVariants.{Ends, Size}
 use Rattle.potential_check.proofs.Judging.{claim_holds, claims_are_answered}
 use Rattle.potential_make.specs.Made.{made_certificate}
@@ -29,7 +27,8 @@ accepted_hold g read proof e =
     (is_free g read.head.start && is_free g read.head.goal) e
   where
     by_tests : (sized free : Bool) → (if sized
-        then (if free then claim_answer g read.head.start read.head.goal read.claim else Err Ends) else Err Size)
+        then (if free then claim_answer g read.head.start read.head.goal read.claim else Err Ends) else Err
+        Size)
         ≡ Ok proof
         → AcceptsClaim g read.head.start read.head.goal read.claim
         × Holds g read.head.start read.head.goal proof

@@ -1,5 +1,6 @@
 -- Of each command: accepted texts give an output, and it is called by its name.
-use Rattle.std.proofs.Common.{◌≡◌, ◌∙◌, refl, sym, ap, subst, ℕ, Bool, true, false, List, [], ◌∷◌, ◌++◌, length}
+use Rattle.std.proofs.Common.{◌≡◌, ◌∙◌, refl, sym, ap, subst, ℕ, Bool, true, false, List, [], ◌∷◌, ◌++◌}
+use Rattle.std.proofs.Common.{length}
 use Rattle.std.proofs.Common.{append-nil}
 use Rattle.std.specs.Prelude.{Option, Some, None, Result, Ok, Err, if◌then◌else◌}
 use Rattle.io_edge.specs.Known.{Held}
@@ -24,7 +25,8 @@ use Rattle.call_files.specs.declared.kind.TextKind.{TextKind}
 use Rattle.call_files.specs.declared.kind.TextKind.TheVariants as kind
 use Rattle.jps_run.specs.Calls.{Task, reads_input, task}
 use Rattle.jps_run.specs.Parts.{Output, on_last, on_map, on_read, printed}
-use Rattle.jps_run.specs.Manner.{Manner, grids_of}
+use Rattle.call_files.specs.Layered.{grids_under}
+use Rattle.jps_run.specs.Manner.{Manner}
 use Rattle.jps_run.specs.Rulings.{judge_output}
 use Rattle.jps_run.specs.Texts.{help_text, version_text}
 use Rattle.outcome_laws.specs.Words.{CommandsAreCalled}
@@ -153,7 +155,8 @@ module _ (holds : List ℕ → Held) where
 
   -- so each command that does not read what comes in has an output on accepted texts
   pub has_output : (set : Settings) (command : Command) (words : List (List ℕ)) (tables : Option (List ℕ))
-      (manner : Manner) (texts : List (List ℕ)) → AreAccepted holds [] ((task command words).files set tables) texts
+      (manner : Manner) (texts : List (List ℕ))
+      → AreAccepted holds [] ((task command words).files set tables) texts
       → reads_input command ≡ false → HasOutput (task command words) manner texts
   has_output set command.Help words tables manner texts p silent = (printed help_text 0, refl)
   has_output set command.Version words tables manner texts p silent = (printed version_text 0, refl)
@@ -188,7 +191,7 @@ module _ (holds : List ℕ → Held) where
       let entries = read_of scen_line (scen_of second) p.1.0.1 in
       let claimed = read_of walks_line (walks_of third (length entries.0))
       (subst (λ (n : ℕ). fault_in walks_line (walks_of third n) ≡ None) (ap count_in entries.1) p.1.1.0.1) in (
-        judge_output (grids_of manner m.0) entries.0 claimed.0,
+        judge_output (grids_under manner.rule m.0) entries.0 claimed.0,
         value-read (map_of text) m.0 _ m.1 ∙ value-read (scen_of second) entries.0 _ entries.1
             ∙ value-read (walks_of third (length entries.0)) claimed.0 _ claimed.1,
       )
@@ -197,9 +200,12 @@ module _ (holds : List ℕ → Held) where
   has_output set command.Prove words tables manner texts p silent = on_its _ (any_map (word_at words 0) texts p)
   has_output set command.Draw words tables manner texts p silent = on_its _ (any_map (word_at words 0) texts p)
   has_output set command.Costs words tables manner texts p silent = on_its _ (any_map (word_at words 0) texts p)
-  has_output set command.Tables words tables manner texts p silent = on_its _ (any_map (word_at words 0) texts p)
-  has_output set command.Boxes words tables manner texts p silent = on_its _ (small_map (word_at words 0) texts p)
-  has_output set command.Moves words tables manner texts p silent = on_its _ (small_map (word_at words 0) texts p)
+  has_output set command.Tables words tables manner texts p silent = on_its _ (any_map
+      (word_at words 0) texts p)
+  has_output set command.Boxes words tables manner texts p silent = on_its _ (small_map
+      (word_at words 0) texts p)
+  has_output set command.Moves words tables manner texts p silent = on_its _ (small_map
+      (word_at words 0) texts p)
 
 -- and each has a row in the table of commands by its name
 pub called : CommandsAreCalled

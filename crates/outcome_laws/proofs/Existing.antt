@@ -10,7 +10,8 @@ use Rattle.word_list.specs.declared.rows.Command.TheVariants.{Live}
 use Rattle.call_files.specs.FaultLines.{word_line}
 use Rattle.call_files.specs.Files.{AreAccepted, HasRefused}
 use Rattle.jps_run.specs.Calls.{files_of, output_of, reads_input, task}
-use Rattle.jps_run.specs.Outcome.{IsOutcome, Outcome, Spell, bad_text, bad_word, done, outcome_of, outcome_with}
+use Rattle.jps_run.specs.Outcome.{IsOutcome, Outcome, Spell, bad_text, bad_word, done, outcome_of}
+use Rattle.jps_run.specs.Outcome.{outcome_with}
 use Rattle.jps_run.specs.Parts.{Output}
 use Rattle.jps_run.specs.Manner.{manner_of}
 use Rattle.jps_run.specs.Who.{replies_by}
@@ -53,8 +54,11 @@ module _ (words : List (List ℕ)) (holds : List ℕ → Held) (script : List �
           )
       by_input false silent =
           let o = has_output holds call.settings call.request.command call.request.words call.request.tables
-          (manner_of replies_by call.settings) texts p silent in
-          (outcome_with o.0, done call texts script (outcome_with o.0) spelled p refl (outcome-printed call texts script o.0 (output_is call texts o.0 o.1)))
+          (manner_of replies_by call.settings) texts p silent in (
+            outcome_with o.0,
+            done call texts script (outcome_with o.0) spelled p refl
+                (outcome-printed call texts script o.0 (output_is call texts o.0 o.1)),
+          )
 
   refused_ends : (call : Call) → Spell words call → (line : List ℕ) → HasRefused holds (files_of call) line
       → HasOutcome words holds script

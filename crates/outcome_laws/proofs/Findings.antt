@@ -27,10 +27,12 @@ finding_same by other ls (Flood x y) = refl
 
 -- so commands do
 pub findings_same : FindingsAreOne
-findings_same by other ls commands = ap (λ (give : Layers → ScriptCommand → Finding). in_turn give ls [] commands)
+findings_same by other ls commands = ap (λ (give : Layers → ScriptCommand
+    → Finding). in_turn give ls [] commands)
     (fun_ext (λ ls. fun_ext (λ command. finding_same by other ls command)))
 
 -- and a drill
 pub drills_same : DrillsAreOne
 drills_same set other seed rule =
-    rw rule (findings_same (session_by set) (session_by other) (layers_of other.rule 256 256 (made_map seed 256 256 25).cells) (drill_commands seed))
+    rw rule (findings_same (session_by set) (session_by other) (layers_of other.rule 256 256
+    (made_map seed 256 256 25).cells) (drill_commands seed))

@@ -107,4 +107,3 @@ are_layers-edited ls edits are =
       corner = water.corner ∙ are.corner ∙ sym land.corner;
       apart = apart-edited ls edits are;
     }
-

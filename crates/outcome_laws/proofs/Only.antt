@@ -30,7 +30,8 @@ use Rattle.call_files.specs.declared.kind.TextKind.TheVariants as kind
 use Rattle.jps_run.specs.Calls.{call_with, files_of, output_of, reads_input, task}
 use Rattle.jps_run.specs.Heard.{IsInput}
 use Rattle.jps_run.specs.Live.{answers_on}
-use Rattle.jps_run.specs.Outcome.{IsOutcome, Outcome, Spell, bad_text, bad_word, done, outcome_hearing, outcome_of, outcome_with}
+use Rattle.jps_run.specs.Outcome.{IsOutcome, Outcome, Spell, bad_text, bad_word, done, outcome_hearing}
+use Rattle.jps_run.specs.Outcome.{outcome_of, outcome_with}
 use Rattle.jps_run.specs.Parts.{Output, on_map}
 use Rattle.jps_run.specs.Manner.{Manner, by_of, picked_by, engine_for, layout_for, manner_of, session_by}
 use Rattle.jps_run.specs.Replies.{By, by_session}
@@ -208,7 +209,8 @@ manner_same one other alike show rule =
 -- what a call comes to hangs on whether it reads what comes in, on how it is answered, and on its output
 outcome_as : Bool → Manner → List (List ℕ) → List ℕ → Option Output → Option Outcome
 outcome_as reads manner texts script out =
-    if reads then on_map texts (λ m behind. Some (outcome_hearing (answers_on manner m) script)) else option_map outcome_with out
+    if reads then on_map texts (λ m behind. Some (outcome_hearing
+    (answers_on manner m) script)) else option_map outcome_with out
 
 outcome-is : (call : Call) (texts : List (List ℕ)) (script : List ℕ) → outcome_of replies_by call texts script
     ≡ outcome_as (reads_input call.request.command) (manner_of replies_by call.settings) texts script
@@ -237,7 +239,8 @@ module _ (holds : List ℕ → Held) (script : List ℕ) (call like : Call) (ali
 
   -- both come to one outcome on the same texts, and so they do
   abbrev Same : Type 0
-  Same = (texts : List (List ℕ)) → outcome_of replies_by call texts script ≡ outcome_of replies_by like texts script
+  Same = (texts : List (List ℕ)) → outcome_of replies_by call texts script
+      ≡ outcome_of replies_by like texts script
 
   both_finished : Same → (one other : List (List ℕ)) (left right : List ℕ) (a b : Outcome)
       → AreAccepted holds [] (files_of call) one → AreAccepted holds [] (files_of like) other
@@ -292,9 +295,11 @@ module _ (holds : List ℕ → Held) (script : List ℕ) (call like : Call) (ali
         outcome-is call texts script
         ∙ rw silent refl
         ∙ ap (λ (o : Option Output). outcome_as false n texts script o)
-        (cost_output call.request.words call.request.command call.settings like.settings alike.show alike.rule costs
+        (cost_output call.request.words call.request.command call.settings like.settings alike.show
+        alike.rule costs
         texts ∙ alike.same.output like.settings texts)
-        ∙ ap (λ (b : Bool). outcome_as b n texts script ((task like.request.command like.request.words).output n texts))
+        ∙ ap (λ (b : Bool). outcome_as b n texts script
+        ((task like.request.command like.request.words).output n texts))
         (sym (sym (ap reads_input alike.same.command) ∙ silent))
         ∙ sym (outcome-is like texts script)
 
@@ -312,15 +317,18 @@ module _ (holds : List ℕ → Held) (script : List ℕ) (call like : Call) (ali
             → files_of call ≡ files_of (call_with call.request like.settings)
         none_read drill =
             ap (λ (c : Command). (task c call.request.words).files call.settings call.request.tables) drill
-            ∙ sym (ap (λ (c : Command). (task c call.request.words).files like.settings call.request.tables) drill)
+            ∙ sym (ap (λ (c : Command). (task c call.request.words).files like.settings
+            call.request.tables) drill)
     one_cost_outcome one other (inr (inl small)) p q =
         both_same
         (same_alike holds (files_of call) (files_of like)
-        (same_files call.settings like.settings alike.rule small call.request ∙ like_files)) one_cost one other p q
+        (same_files call.settings like.settings alike.rule small call.request
+        ∙ like_files)) one_cost one other p q
     one_cost_outcome one other (inr (inr (inr small))) p q =
         both_same
         (subst (λ (files : List File). AreAlike holds (files_of call) files) like_files
-        (small_alike holds call.settings like.settings alike.rule call.request known small)) one_cost one other p q
+        (small_alike holds call.settings like.settings alike.rule call.request known small)) one_cost one
+        other p q
     one_cost_outcome one other (inr (inr (inl few))) p q = by_ends one other few p q
       where
         by_ends : (one other : Outcome) → (one.status ≢ 3) × (other.status ≢ 3)
@@ -348,7 +356,8 @@ record IsBadIn (words : List (List ℕ)) (outcome : Outcome) : Type 0 where
 
 -- two outcomes of the same words
 words_or_call : (words : List (List ℕ)) (holds : List ℕ → Held) (script : List ℕ) (one : Outcome)
-    → IsOutcome replies_by words holds (Some script) one → IsBadIn words one ⊎ ((call : Call) × Spell words call)
+    → IsOutcome replies_by words holds (Some script) one
+    → IsBadIn words one ⊎ ((call : Call) × Spell words call)
 words_or_call words holds script _ (bad_word number bad) =
     inl (record { number = number; bad = bad; is = refl })
 words_or_call words holds script _ (bad_text call line spelled is) = inr (call, spelled)
@@ -360,7 +369,8 @@ module _ (words : List (List ℕ)) (holds : List ℕ → Held) (script : List �
   spelled_one : (call : Call) → Spell words call → one ≡ other
   spelled_one call spelled =
       one_outcome holds script call call (itself call)
-      (known call spelled) (record { picked = refl; session = refl; small = refl }) one other (call_comes words holds (Some script) call one spelled p)
+      (known call spelled) (record { picked = refl; session = refl; small = refl }) one other
+      (call_comes words holds (Some script) call one spelled p)
       (call_comes words holds (Some script) call other spelled q)
 
   by_words : IsBadIn words one ⊎ ((call : Call) × Spell words call)
@@ -383,9 +393,11 @@ pub jumps_same : (words others : List (List ℕ)) (call like : Call) (holds : Li
     (one other : Outcome) → AreKnown holds (files_of call) → Spell words call → Spell others like
     → DifferInEngine call like → is_jump call.settings.pick ≡ true → is_jump like.settings.pick ≡ true
     → call.settings.states ≡ like.settings.states
-    → IsOutcome replies_by words holds (Some script) one → IsOutcome replies_by others holds (Some script) other → one ≡ other
+    → IsOutcome replies_by words holds (Some script) one
+    → IsOutcome replies_by others holds (Some script) other → one ≡ other
 jumps_same words others call like holds script one other known spelled also alike jump jumps as_many p q =
-    one_outcome holds script call like alike known (jumps_alike call.settings like.settings jump jumps as_many) one other
+    one_outcome holds script call like alike known
+    (jumps_alike call.settings like.settings jump jumps as_many) one other
     (call_comes words holds (Some script) call one spelled p)
     (call_comes others holds (Some script) like other also q)
 
@@ -395,7 +407,8 @@ pub costs_same : (words others : List (List ℕ)) (call like : Call) (holds : Li
     → (call.request.command ≡ Drill)
     ⊎ (is_for_small_maps call.settings.pick ≡ is_for_small_maps like.settings.pick)
     ⊎ ((one.status ≢ 3) × (other.status ≢ 3)) ⊎ HoldsSmallMap (holds (word_at call.request.words 0))
-    → IsOutcome replies_by words holds (Some script) one → IsOutcome replies_by others holds (Some script) other → one ≡ other
+    → IsOutcome replies_by words holds (Some script) one
+    → IsOutcome replies_by others holds (Some script) other → one ≡ other
 costs_same words others call like holds script one other known spelled also alike costs maps p q =
     one_cost_outcome holds script call like alike known costs one other maps
     (call_comes words holds (Some script) call one spelled p)

@@ -55,7 +55,8 @@ module _ (by other : By) (ls : Layers) where
   bare_alike [] = refl
   bare_alike (entry ∷ entries) =
       ap (λ (r : Row). r ∷ map without_taken (rows_of (replies_by by) ls entries)) (row_alike entry)
-      ∙ ap (λ (rows : List Row). without_taken (row_for (replies_by other) ls entry) ∷ rows) (bare_alike entries)
+      ∙ ap (λ (rows : List Row). without_taken (row_for (replies_by other) ls entry) ∷ rows)
+      (bare_alike entries)
 
 pub rows_alike : RowsDifferInTaken
 rows_alike by other ls entries = differ_in_taken _ _ (bare_alike by other ls entries)

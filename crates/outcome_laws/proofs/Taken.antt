@@ -10,7 +10,8 @@ use Rattle.script_text.proofs.Feeding.{commands-end, commands-grow}
 use Rattle.call_files.specs.Kinds.{limit_of}
 use Rattle.call_files.specs.declared.kind.TextKind.TheVariants as kind
 use Rattle.jps_run.specs.Answers.{answer_line, answer_lines, edits_with, in_turn}
-use Rattle.jps_run.specs.Heard.{AnswerPending, AnswerTaken, Answering, AreWhole, at_end, counted, heard_commands}
+use Rattle.jps_run.specs.Heard.{AnswerPending, AnswerTaken, Answering, AreWhole, at_end, counted}
+use Rattle.jps_run.specs.Heard.{heard_commands}
 use Rattle.jps_run.specs.Heard.{so_far}
 use Rattle.jps_run.proofs.Listening.{few-heard, long-heard_of}
 use Rattle.jps_run.proofs.Solving.{in_turn-more}
@@ -70,7 +71,8 @@ module _ (taken rest : List ℕ) where
       → Begin commands (heard_commands (taken ++ rest))
   part-heard commands (so_far c) = by_length (less_or_not (limit_of kind.Script) (length (taken ++ rest)))
     where
-      by_length : (limit_of kind.Script < length (taken ++ rest)) ⊎ (length (taken ++ rest) ≤ limit_of kind.Script)
+      by_length : (limit_of kind.Script < length (taken ++ rest))
+          ⊎ (length (taken ++ rest) ≤ limit_of kind.Script)
           → Begin commands (heard_commands (taken ++ rest))
       by_length (inr few) = begin-same commands _ _ _ c (in_whole few) (few-heard (taken ++ rest) few).0
       by_length (inl long) = begin-same commands _ _ _ c in_counted (long-heard_of (taken ++ rest) long).0

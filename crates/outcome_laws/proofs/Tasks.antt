@@ -1,5 +1,5 @@
--- What a task hangs on: its files on the settings and a table file by those of its map alone, and what is printed
--- not on the text of the table file.
+-- What a task hangs on: its files on the settings and a table file by those of its map alone, and what is
+-- printed not on the text of the table file.
 use Rattle.std.proofs.Common.{◌≡◌, ◌⊎◌, inl, inr, refl, sym, ℕ, List, [], ◌∷◌, ◌++◌, append-nil, length}
 use Rattle.std.specs.Prelude.{⊤, Option}
 use Rattle.word_list.specs.Kinds.{word_at}
@@ -19,8 +19,8 @@ StandAlone [] = ⊤
 StandAlone (file ∷ files) = ((one other : List (List ℕ)) (text : List ℕ)
     → refusal_of file.kind one text ≡ refusal_of file.kind other text) × StandAlone files
 
--- the command reads a map with a table file, and behind these files that stand alone; a text that stands between
--- the map's and theirs is no matter for what is printed
+-- the command reads a map with a table file, and behind these files that stand alone; a text that stands
+-- between the map's and theirs is no matter for what is printed
 pub record TakesTables (command : Command) (words : List (List ℕ)) : Type 0 where
   pub rest : List File
   pub alone : StandAlone rest

@@ -15,13 +15,14 @@ use Rattle.grid_answers.specs.Certificates.{proof_answer, why_unproved}
 use Rattle.word_list.specs.declared.request.Settings.{Settings}
 use Rattle.call_files.specs.Layered.{layers_on}
 
--- where a certificate, as it is read, is accepted on a grid, its claim is, and what it proves holds of all walks
+-- where a certificate, as it is read, is accepted on a grid, its claim is, and what it proves holds of all
+-- walks
 abbrev pub AcceptedHold : Type 0
 AcceptedHold = (g : GridData) (read : Plain) (proof : Proof) → certificate_answer g read ≡ Ok proof
     → AcceptsClaim g read.head.start read.head.goal read.claim × Holds g read.head.start read.head.goal proof
 
--- what is printed for a query between free cells of one grid of a map is a certificate that is read and accepted
--- there
+-- what is printed for a query between free cells of one grid of a map is a certificate that is read and
+-- accepted there
 abbrev pub ProofsAreAccepted : Type 0
 ProofsAreAccepted = (set : Settings) (text : List ℕ) (m : Map) (s t : Cell) → map_of text ≡ Ok m
     → why_unproved (layers_on set m) s t ≡ None

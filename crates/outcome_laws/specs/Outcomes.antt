@@ -59,15 +59,16 @@ pub record DifferInEngine (call other : Call) : Type 0 where
   pub show : call.settings.show ≡ other.settings.show
   pub rule : call.settings.rule ≡ other.settings.rule
 
--- Calls that differ in which of the engines `jps`, `block` and `plus` they pick come to the same outcome, where
--- their searches go by the same rule of states.
+-- Calls that differ in which of the engines `jps`, `block` and `plus` they pick come to the same outcome,
+-- where their searches go by the same rule of states.
 abbrev pub JumpEnginesPrintTheSame : Type 0
 JumpEnginesPrintTheSame = (words others : List (List ℕ)) (call like : Call) (holds : List ℕ → Held)
     (script : List ℕ) (one other : Outcome) → AreKnown holds (files_of call)
     → Spell words call → Spell others like → DifferInEngine call like
     → is_jump call.settings.pick ≡ true → is_jump like.settings.pick ≡ true
     → call.settings.states ≡ like.settings.states
-    → IsOutcome replies_by words holds (Some script) one → IsOutcome replies_by others holds (Some script) other → one ≡ other
+    → IsOutcome replies_by words holds (Some script) one
+    → IsOutcome replies_by others holds (Some script) other → one ≡ other
 
 -- a scenario is judged without its counts of taken states, or a drill is asked for
 abbrev pub AsksForCosts : Command → Show → Type 0
@@ -80,9 +81,9 @@ abbrev pub HoldsSmallMap : Held → Type 0
 HoldsSmallMap held = (text : List ℕ) (m : Map) → held ≡ holding text → map_of text ≡ Ok m
     → takes Small m ≡ true
 
--- Of calls that ask for costs alone this is so for all engines, by either rule of states: of drills always, and of
--- scenarios where these engines take the same maps, or neither call is refused, or the text for the map, which the
--- first word names, is that of a small one, or of none.
+-- Of calls that ask for costs alone this is so for all engines, by either rule of states: of drills always,
+-- and of scenarios where these engines take the same maps, or neither call is refused, or the text for the
+-- map, which the first word names, is that of a small one, or of none.
 abbrev pub EnginesPrintTheSameCosts : Type 0
 EnginesPrintTheSameCosts = (words others : List (List ℕ)) (call like : Call) (holds : List ℕ → Held)
     (script : List ℕ) (one other : Outcome) → AreKnown holds (files_of call)
@@ -91,7 +92,8 @@ EnginesPrintTheSameCosts = (words others : List (List ℕ)) (call like : Call) (
     → (call.request.command ≡ Drill)
     ⊎ (is_for_small_maps call.settings.pick ≡ is_for_small_maps like.settings.pick)
     ⊎ ((one.status ≢ 3) × (other.status ≢ 3)) ⊎ HoldsSmallMap (holds (word_at call.request.words 0))
-    → IsOutcome replies_by words holds (Some script) one → IsOutcome replies_by others holds (Some script) other → one ≡ other
+    → IsOutcome replies_by words holds (Some script) one
+    → IsOutcome replies_by others holds (Some script) other → one ≡ other
 
 -- the first ones of these lines were written, each whole
 abbrev pub WroteLinesOf : List (List ℕ) → Outflow → Outflow → Type 0

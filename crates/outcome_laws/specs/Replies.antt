@@ -16,8 +16,8 @@ abbrev pub AlikeReplyTheSame : Type 0
 AlikeReplyTheSame = (by other : By) (ls : Layers) (s t : Cell) → way_of by ≡ way_of other
     → replies_by by ls s t ≡ replies_by other ls s t
 
--- replies come to the same, whoever answers: an end lies outside, an end is blocked, no walk leads there, or what a
--- walk costs
+-- replies come to the same, whoever answers: an end lies outside, an end is blocked, no walk leads there, or
+-- what a walk costs
 abbrev pub RepliesCostTheSame : Type 0
 RepliesCostTheSame = (by other : By) (ls : Layers) (s t : Cell)
     → finding_of (replies_by by ls s t) ≡ finding_of (replies_by other ls s t)

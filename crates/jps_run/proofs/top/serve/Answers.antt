@@ -5,7 +5,8 @@ use Rattle.jps_run.specs.declared.commands.Opened.{Opened}
 use Rattle.jps_run.specs.Heard.{RoseHeard}
 use Rattle.jps_run.specs.Counting.{heard}
 use Rattle.jps_run.proofs.Rising.{on_ok}
-use Rattle.jps_run.proofs.Serving.{heard-served, may-hear, on-session, unopened-served, work-counted, work-served}
+use Rattle.jps_run.proofs.Serving.{heard-served, may-hear, on-session, unopened-served, work-counted}
+use Rattle.jps_run.proofs.Serving.{work-served}
 use Rattle.jps_run.proofs.top.serve.Goals as goal
 
 pub returns-in_err-opened-clause-served : goal.returns-in_err-opened-clause-served
