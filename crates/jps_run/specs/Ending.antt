@@ -38,9 +38,8 @@ abbrev pub Gets : Outflow → Outflow → List ℕ → Type 0
 Gets before now line = Wrote before now line ⊎ WroteSome before now line
 
 -- the outcome came about: its status is answered, `out` got its lines, and `err` its line
-pub record Comes (replies : By → Replies) (words : List (List ℕ)) (holds : List ℕ
-    → Held) (input : Option (List ℕ))
-    (out out_now err err_now : Outflow) (status : ℕ) : Type 0 where
+pub record Comes (replies : By → Replies) (words : List (List ℕ)) (holds : List ℕ → Held)
+    (input : Option (List ℕ)) (out out_now err err_now : Outflow) (status : ℕ) : Type 0 where
   pub outcome : Outcome
   pub is : IsOutcome replies words holds input outcome
   pub same_status : outcome.status ≡ status
@@ -71,8 +70,8 @@ abbrev pub InputRose : List (List ℕ) → Inflow → Inflow → Type 0
 InputRose words input input_now = OfCall words (FailsToHear input input_now)
 
 -- what is known where a call stops, by what its queries are replied
-module _ (replies : By → Replies) (holds : List ℕ
-    → Held) (input input_now : Inflow) (out out_now : Outflow) where
+module _ (replies : By → Replies) (holds : List ℕ → Held) (input input_now : Inflow)
+    (out out_now : Outflow) where
   -- a read failed: of a file, and nothing was written; or of the input, and exactly the lines of the whole
   -- commands among the bytes that were taken were written
   abbrev pub Fails : Disk → Disk → Call → Type 0

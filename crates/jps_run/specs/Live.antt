@@ -28,28 +28,28 @@ pub record OnLive (call : Call) (holds : List ℕ → Held) (Such : Map → Type
 abbrev pub answers_on : Manner → Map → Answering
 answers_on manner m commands = answer_lines manner.session manner.show (grids_under manner.rule m) commands
 
+-- so it is for a call
+abbrev pub lines_on : (By → Replies) → Call → Map → Answering
+lines_on replies call = answers_on (manner_of replies call.settings)
+
 -- its lines were written; exactly those of the whole commands among the bytes that were taken; a first part
 -- of these; the first ones of these, each whole
 abbrev pub WroteHeard : (By → Replies) → Call → (List ℕ → Held) → Outflow → Outflow → Option (List ℕ)
     → Option (List ℕ) → Type 0
 WroteHeard replies call holds out out_now input refusal =
-    OnLive call holds (λ m. WroteAll (AnswerHeard (answers_on
-    (manner_of replies call.settings) m) input refusal) out out_now)
+    OnLive call holds (λ m. WroteAll (AnswerHeard (lines_on replies call m) input refusal) out out_now)
 
 abbrev pub WrotePending : (By → Replies) → Call → (List ℕ → Held) → Outflow → Outflow → Option (List ℕ)
     → Option (List ℕ) → Type 0
 WrotePending replies call holds out out_now input left =
-    OnLive call holds (λ m. WroteAll (AnswerPending (answers_on
-    (manner_of replies call.settings) m) input left) out out_now)
+    OnLive call holds (λ m. WroteAll (AnswerPending (lines_on replies call m) input left) out out_now)
 
 abbrev pub WroteSomeTaken : (By → Replies) → Call → (List ℕ → Held) → Outflow → Outflow → Option (List ℕ)
     → Option (List ℕ) → Type 0
 WroteSomeTaken replies call holds out out_now input left =
-    OnLive call holds (λ m. WroteFirst (AnswerTaken (answers_on
-    (manner_of replies call.settings) m) input left) out out_now)
+    OnLive call holds (λ m. WroteFirst (AnswerTaken (lines_on replies call m) input left) out out_now)
 
 abbrev pub WroteLinesTaken : (By → Replies) → Call → (List ℕ → Held) → Outflow → Outflow → Option (List ℕ)
     → Option (List ℕ) → Type 0
 WroteLinesTaken replies call holds out out_now input left =
-    OnLive call holds (λ m. WroteLines (AnswerTaken (answers_on
-    (manner_of replies call.settings) m) input left) out out_now)
+    OnLive call holds (λ m. WroteLines (AnswerTaken (lines_on replies call m) input left) out out_now)

@@ -9,9 +9,8 @@ use Rattle.call_files.specs.FaultLines.{word_line}
 use Rattle.call_files.specs.Files.{AreAccepted, HasRefused}
 use Rattle.jps_run.specs.Calls.{files_of, output_of, reads_input}
 use Rattle.jps_run.specs.Heard.{Answering, IsInput, heard_commands, heard_refusal}
-use Rattle.jps_run.specs.Live.{answers_on}
+use Rattle.jps_run.specs.Live.{lines_on}
 use Rattle.jps_run.specs.Parts.{Output, on_map}
-use Rattle.jps_run.specs.Manner.{manner_of}
 use Rattle.jps_run.specs.Replies.{By, Replies}
 
 -- the words spell the call
@@ -19,8 +18,8 @@ abbrev pub Spell : List (List ℕ) → Call → Type 0
 Spell words call = call_of words ≡ Some call
 
 -- the lines and the status are the output of a call, with the files that are held
-pub record IsOutput (replies : By → Replies) (call : Call) (holds : List ℕ
-    → Held) (lines : List (List ℕ)) (status : ℕ) : Type 0 where
+pub record IsOutput (replies : By → Replies) (call : Call) (holds : List ℕ → Held) (lines : List (List ℕ))
+    (status : ℕ) : Type 0 where
   pub texts : List (List ℕ)
   pub accepted : AreAccepted holds [] (files_of call) texts
   pub answered : output_of replies call texts ≡ Some (record { lines = lines; status = status })
@@ -48,8 +47,7 @@ outcome_hearing answers script = record {
 unfoldable pub outcome_of : (By → Replies) → Call → List (List ℕ) → List ℕ → Option Outcome
 outcome_of replies call texts script =
     if reads_input call.request.command
-    then on_map texts (λ m behind. Some (outcome_hearing (answers_on
-    (manner_of replies call.settings) m) script))
+    then on_map texts (λ m behind. Some (outcome_hearing (lines_on replies call m) script))
     else option_map outcome_with (output_of replies call texts)
 
 -- what words, held files and an input come to, by what is replied to queries: the words are refused, or else

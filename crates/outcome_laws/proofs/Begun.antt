@@ -112,9 +112,9 @@ module _ (words : List (List ℕ)) (holds : List ℕ → Held) (input input_now 
       → BeginWith outcome.out lines
   taken_begins_all call spelled p lines taken =
       call_begins holds script call (known call spelled) p input_now.left lines
-      (subst (λ (text : Option (List ℕ)). AnswerTaken (answers_on
-      (manner_of replies_by call.settings) p.read) text
-      input_now.left lines) comes_in taken) outcome
+      (subst (λ (text : Option (List ℕ)).
+      AnswerTaken (answers_on (manner_of replies_by call.settings) p.read) text input_now.left lines)
+      comes_in taken) outcome
       (call_comes words holds (Some script) call outcome spelled is)
 
   part_begins : HasPart replies_by words holds input input_now out out_now
@@ -154,8 +154,8 @@ module _ (words : List (List ℕ)) (holds : List ℕ → Held) (input input_now 
 -- so do the lines of a call of which a read failed
 module _ (words : List (List ℕ)) (disk disk_now : Disk) (input input_now : Inflow) (out out_now : Outflow)
     (script : List ℕ) (outcome : Outcome) (known : FilesAreKnown words disk.holds)
-    (comes_in : input.left ≡ Some script) (is : IsOutcome replies_by words disk.holds
-    (Some script) outcome) where
+    (comes_in : input.left ≡ Some script)
+    (is : IsOutcome replies_by words disk.holds (Some script) outcome) where
   failed_begins : HasFailed replies_by words disk disk_now input input_now out out_now
       → Begun out out_now outcome.out
   unfolding Begun

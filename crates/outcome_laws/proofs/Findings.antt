@@ -27,8 +27,8 @@ finding_same by other ls (Flood x y) = refl
 
 -- so commands do
 pub findings_same : FindingsAreOne
-findings_same by other ls commands = ap (λ (give : Layers → ScriptCommand
-    → Finding). in_turn give ls [] commands)
+findings_same by other ls commands =
+    ap (λ (give : Layers → ScriptCommand → Finding). in_turn give ls [] commands)
     (fun_ext (λ ls. fun_ext (λ command. finding_same by other ls command)))
 
 -- and a drill
