@@ -4,16 +4,12 @@ use Rattle.std.specs.Prelude.{Ok, Err, Result, Option, Some}
 use Rattle.io_edge.specs.Known.{Disk, Held}
 use Rattle.map_text.specs.Faults.{map_of}
 use Rattle.map_text.specs.Map.{Map}
-use Rattle.word_list.specs.Request.{Call, asking, called}
-use Rattle.word_list.specs.declared.request.Settings.{Settings}
-use Rattle.word_list.specs.declared.rows.Command.{Command}
-use Rattle.word_list.specs.declared.rows.Request.{Request}
+use Rattle.word_list.specs.Request.{Call}
 use Rattle.line_work.specs.Sending.{IsText}
 use Rattle.line_work.specs.declared.stop.Stop.{Stop}
-use Rattle.jps_run.specs.Calls.{call_with, output_of}
+use Rattle.jps_run.specs.Calls.{output_of}
 use Rattle.jps_run.specs.Live.{OnLive}
 use Rattle.jps_run.specs.Opened.{IsCounted, IsWorkOf, Opens, OpensWork, opened_as}
-use Rattle.jps_run.specs.declared.commands.Opened.{Opened}
 use Rattle.jps_run.specs.Parts.{Prints, Output, on_last, on_read, printed}
 use Rattle.jps_run.specs.declared.work.Work.{Work}
 use Rattle.jps_run.specs.Works.{CanPerform, HasRisen, IsWhole}
@@ -74,16 +70,7 @@ as_live p such = record {
 }
 
 -- what a command opens as its work is what the call is opened as
-opened-so : (call : Call) (disk disk_now : Disk) (work : Result Work Stop) → OpensWork call disk disk_now work
+pub opened-so : (call : Call) (disk disk_now : Disk) (work : Result Work Stop) → OpensWork call disk disk_now work
     → Opens call disk disk_now (opened_as work)
 opened-so call disk disk_now (Ok work) opens = opens
 opened-so call disk disk_now (Err stop) opens = opens
-
-pub opened-for : (command : Command) (request : Request) (set : Settings) (disk disk_now : Disk)
-    (work : Result Work Stop) (result : Result Opened Stop) → request.command ≡ command
-    → OpensWork (call_with (asking command request) set) disk disk_now work → result ≡ opened_as work
-    → Opens (called request set) disk disk_now result
-opened-for command request set disk disk_now work result is opens e =
-    subst (λ (r : Result Opened Stop). Opens (called request set) disk disk_now r) (sym e)
-    (opened-so (called request set) disk disk_now work
-    (subst (λ (k : Command). OpensWork (call_with (asking k request) set) disk disk_now work) (sym is) opens))

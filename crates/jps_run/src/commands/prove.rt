@@ -4,7 +4,7 @@ ghost use Rattle.std.specs.Prelude.{◌≡◌};
 ghost use Rattle.word_list.specs.Request.{asking};
 ghost use Rattle.word_list.specs.declared.rows.Command.TheVariants as command;
 ghost use Rattle.jps_run.specs.Calls.{call_with};
-ghost use Rattle.jps_run.specs.Opened.{OpensWork};
+ghost use Rattle.jps_run.specs.Opened.{Opens, opened_as};
 
 use crate::commands::ends_of;
 use crate::work::Work;
@@ -23,8 +23,8 @@ pub(crate) fn prove<F: Files>(
     settings: Settings,
     files: &mut F,
 ) -> Result<Work, Stop>
-    ensures opened { OpensWork (call_with (asking command.Prove request.entry) settings)
-        (F.disk files.old) (F.disk files.new) result }
+    ensures opened { Opens (call_with (asking command.Prove request.entry) settings)
+        (F.disk files.old) (F.disk files.new) (opened_as result) }
     ensures unchanged { (F.disk files.new).holds ≡ (F.disk files.old).holds }
 {
     let map = request.name(0);

@@ -4,7 +4,7 @@ ghost use Rattle.std.specs.Prelude.{◌≡◌};
 ghost use Rattle.word_list.specs.Request.{IsSound, asking};
 ghost use Rattle.word_list.specs.declared.rows.Command.TheVariants as command;
 ghost use Rattle.jps_run.specs.Calls.{call_with};
-ghost use Rattle.jps_run.specs.Opened.{OpensWork};
+ghost use Rattle.jps_run.specs.Opened.{Opens, opened_as};
 
 use crate::commands::ends_of;
 use crate::commands::query_work::work_on;
@@ -23,8 +23,8 @@ pub(crate) fn query<F: Files>(
     files: &mut F,
 ) -> Result<Work, Stop>
     requires { IsSound request settings }
-    ensures opened { OpensWork (call_with (asking command.Query request.entry) settings)
-        (F.disk files.old) (F.disk files.new) result }
+    ensures opened { Opens (call_with (asking command.Query request.entry) settings)
+        (F.disk files.old) (F.disk files.new) (opened_as result) }
     ensures unchanged { (F.disk files.new).holds ≡ (F.disk files.old).holds }
 {
     let map = request.name(0);

@@ -3,7 +3,7 @@
 ghost use Rattle.std.specs.Prelude.{◌≡◌};
 ghost use Rattle.word_list.specs.Request.{IsSound, asking};
 ghost use Rattle.word_list.specs.declared.rows.Command.TheVariants as command;
-ghost use Rattle.jps_run.specs.Opened.{OpensWork};
+ghost use Rattle.jps_run.specs.Opened.{Opens, opened_as};
 ghost use Rattle.jps_run.specs.Calls.{call_with};
 
 use crate::replies::{Answerer, Scen, Tally, open_basis};
@@ -23,8 +23,8 @@ pub(crate) fn scen<F: Files>(
     files: &mut F,
 ) -> Result<Work, Stop>
     requires { IsSound request settings }
-    ensures opened { OpensWork (call_with (asking command.Scen request.entry) settings)
-        (F.disk files.old) (F.disk files.new) result }
+    ensures opened { Opens (call_with (asking command.Scen request.entry) settings)
+        (F.disk files.old) (F.disk files.new) (opened_as result) }
     ensures unchanged { (F.disk files.new).holds ≡ (F.disk files.old).holds }
 {
     let map = request.name(0);

@@ -24,7 +24,7 @@ use Rattle.jps_run.specs.Rising.{RoseForCommands}
 use Rattle.jps_run.specs.Session.{session_replies}
 use Rattle.jps_run.specs.Who.{replies_by}
 use Rattle.jps_run.specs.declared.work.Work.TheVariants as work
-use Rattle.jps_run.proofs.Opening.{both-read, work-of}
+use Rattle.jps_run.proofs.Opening.{both-read, opened-so, work-of}
 use Rattle.jps_run.proofs.commands.solve.solve.Goals as goal
 
 pub returns-in_err-job-clause-opened : goal.returns-in_err-job-clause-opened
@@ -34,9 +34,9 @@ returns-in_err-job-clause-opened g c =
     let now = g.F.Files.disk c.open_answers.new.files in
     let files = map_files c.args.settings (word_at ws 0) (option_copied c.args.request.tables) in
     let last = file_of kinds.Script (word_at ws 1) in
-    passed _ (open_stops disk now files) (open_stops disk now (files ++ last ∷ [])) c.from_residual.result
+    opened-so (call_with (asking command.Solve c.args.request) c.args.settings) disk now c.from_residual.result (passed _ (open_stops disk now files) (open_stops disk now (files ++ last ∷ [])) c.from_residual.result
     c.in_err-job.field-0.0 c.from_residual.ensures.1 (rw (c.name-map.ensures) at c.in_err-job.ensures.read)
-    (stops-longer disk now files (last ∷ []))
+    (stops-longer disk now files (last ∷ [])))
 
 pub returns-in_err-commands-clause-opened : goal.returns-in_err-commands-clause-opened
 returns-in_err-commands-clause-opened g c =
@@ -47,10 +47,10 @@ returns-in_err-commands-clause-opened g c =
     let made = c.in_ok-job.ensures in
     let r = rw (c.name-map.ensures) at made.read in
     let texts : List (List ℕ) = r.text ∷ r.loaded in
-    reading-stops disk _ last (next-file disk.holds files last [] texts r.accepted)
+    opened-so (call_with (asking command.Solve c.args.request) c.args.settings) disk (g.F.Files.disk c.read_file.new.files) c.from_residual-in_err-commands.result (reading-stops disk _ last (next-file disk.holds files last [] texts r.accepted)
     (g.F.Files.disk c.open_answers.new.files) (g.F.Files.disk c.read_file.new.files) made.unchanged made.later _
     c.from_residual-in_err-commands.result c.in_err-commands.field-0.0
-    (rw (c.name-script.ensures) at c.in_err-commands.ensures.read texts tt) c.from_residual-in_err-commands.ensures.1
+    (rw (c.name-script.ensures) at c.in_err-commands.ensures.read texts tt) c.from_residual-in_err-commands.ensures.1)
 
 pub returns-clause-opened : goal.returns-clause-opened
 unfolding output_of search_of
