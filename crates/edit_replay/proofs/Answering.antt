@@ -4,14 +4,11 @@ use Rattle.std.specs.Prelude.{IfOk, Ok, Err, Option, Some}
 use Rattle.std.specs.Prelude as option
 use Rattle.std.specs.declared.result.Result.{Result}
 use Rattle.grid_moves.specs.declared.Cell.{Cell}
-use Rattle.grid_moves.specs.declared.Corner.{Corner}
-use Rattle.grid_moves.specs.declared.Ground.TheVariants.{Land, Water}
 use Rattle.grid_moves.specs.declared.ends.Unsearched.{Unsearched}
 use Rattle.grid_moves.specs.declared.ends.Unsearched.TheVariants as why
 use Rattle.grid_moves.specs.Ends.{IsUnsearched}
-use Rattle.grid_moves.specs.Grid.{AreCells, GridData, is_free, layer_of}
-use Rattle.grid_moves.specs.Layers.{AreLayers, Layers, query_grid}
-use Rattle.grid_moves.proofs.Layering.{are_layers-of}
+use Rattle.grid_moves.specs.Grid.{GridData, is_free}
+use Rattle.grid_moves.specs.Layers.{Layers, query_grid}
 use Rattle.grid_moves.specs.Reply.{IsRight, are_free_ends}
 use Rattle.path_points.specs.declared.points.Walk as points
 use Rattle.path_points.specs.Least.{IsLeastOrNone}
@@ -67,10 +64,3 @@ pub unsearched_short : (reason : Unsearched) → IsShort (answer_of (reply_witho
 unsearched_short why.Outside = tt
 unsearched_short why.Blocked = tt
 unsearched_short (why.Apart ends) = tt
-
--- two grids that are made of one map
-pub are_layers-made : (corner : Corner) (width height : ℕ) (bytes : List ℕ) (land water : GridData)
-    → AreCells width height bytes → land ≡ layer_of Land corner width height bytes
-    → water ≡ layer_of Water corner width height bytes → AreLayers (record { land = land; water = water })
-are_layers-made corner width height bytes land water cells e f =
-    rw (e, f) (are_layers-of corner width height bytes cells)

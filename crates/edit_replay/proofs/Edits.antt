@@ -1,23 +1,21 @@
 -- Edited layers: no edit at all, and one edit more.
 use Rattle.std.proofs.Common.{◌≡◌, ◌≢◌, ℕ, zero, suc, ◌+◌, ◌<◌, ◌≤◌, arith, length, List, [], ◌∷◌, ◌++◌}
 use Rattle.std.proofs.Common.{Bool, true, false, ◌&&◌, cond, map, reverse, get_or, refl, ap, sym, ◌∙◌}
-use Rattle.std.proofs.Common.{subst, zero-add}
+use Rattle.std.proofs.Common.{set-set, subst, zero-add}
 use Rattle.std.specs.Prelude.{Option, Some, nat_eq, if◌then◌else◌, slice_set}
 use Rattle.std.specs.List.{find, enumerate_from}
 use Rattle.std.specs.Option.{option_map_or}
 use Rattle.std.proofs.lemmas.List.{reverse-append, set-get_or}
-use Rattle.std.proofs.lemmas.Bool.{false≢true}
 use Rattle.std.proofs.lemmas.Bool.Decides.{nat_tests}
 use Rattle.grid_moves.specs.declared.Cell.{Cell}
 use Rattle.grid_moves.specs.Grid.{GridData, IsGrid, cell_number, grid_with, is_free, is_ground, is_inside}
 use Rattle.grid_moves.specs.Move.{is_same}
-use Rattle.grid_moves.proofs.Edited.{is_free-with_other, is_free-with_same, is_grid-with}
 use Rattle.grid_moves.proofs.Legal.{is_same-cell, is_same-itself}
 use Rattle.grid_moves.proofs.Places.{number_below, one_cell}
 use Rattle.grid_moves.specs.declared.Ground.{Ground}
-use Rattle.grid_moves.specs.declared.Ground.TheVariants.{Blocked, Land, Water}
+use Rattle.grid_moves.specs.declared.Ground.TheVariants.{Land, Water}
 use Rattle.grid_moves.specs.Layers.{AreLayers, Layers, ground_at, is_on_map, layers_with}
-use Rattle.grid_moves.proofs.Layering.{ground_at-layers, is_inside-water}
+use Rattle.grid_moves.proofs.Layering.{ground_at-layers, is_inside-water, same_layers}
 use Rattle.edit_replay.specs.Edited.{Edit, asked, edited, edited_layer, names}
 use Rattle.edit_replay.specs.Replies.{AddsEdit}
 
@@ -77,13 +75,6 @@ itself n = grind (arith, nat_tests)
 with_flags : GridData → List Bool → GridData
 with_flags g free = record { width = g.width; height = g.height; corner = g.corner; free = free }
 
--- two layers with the same grids are one
-pub same_layers : (p q : Layers) → p.land ≡ q.land → p.water ≡ q.water → p ≡ q
-same_layers p q e f =
-    let first : p ≡ record { land = q.land; water = p.water } =
-    ap (λ (g : GridData). let ls : Layers = record { land = g; water = p.water } in ls) e in
-    first ∙ ap (λ (g : GridData). let ls : Layers = record { land = q.land; water = g } in ls) f
-
 -- no edit at all
 layer-nothing : (ground : Ground) (g : GridData) → edited_layer ground g [] ≡ g
 unfolding edited_layer with_flags
@@ -141,6 +132,14 @@ grid_with-same g c free inside as_asked =
     ap (λ (flags : List Bool). with_flags g flags)
     (ap (λ (b : Bool). slice_set g.free (cell_number g.width c) b) (sym flag)
     ∙ set-get_or g.free (cell_number g.width c) false)
+
+-- a cell that was set is set back
+pub set_back : (g : GridData) (c : Cell) (free was : Bool) → is_inside g c ≡ true → is_free g c ≡ was
+    → grid_with (grid_with g c free) c was ≡ g
+unfolding with_flags
+set_back g c free was inside as_it_was =
+    ap (λ (flags : List Bool). with_flags g flags) (set-set g.free (cell_number g.width c) free was)
+    ∙ grid_with-same g c was inside as_it_was
 
 -- where a layer after some edits is the one grid, after these and one more it is the other
 LayerAdds : Ground → GridData → Edit → GridData → Type 0
@@ -264,43 +263,3 @@ is_free-edited ground g edits c grid inside =
         let column : c.x < g.width = grind (arith, nat_tests) in
         let row : c.y < g.height = grind (arith, nat_tests) in
         rw grid.whole (number_below g.width g.height c column row)
-
--- where a cell was changed in both layers they are layers still
-pub layers_changed : (ls after : Layers) (c : Cell) (to : Ground) → AreLayers ls → is_on_map ls c ≡ true
-    → after ≡ layers_with ls c to → AreLayers after
-layers_changed ls after c to are inside changed = subst (λ (k : Layers). AreLayers k) (sym changed) (record {
-  land = is_grid-with ls.land c (is_ground Land to) are.land;
-  water = is_grid-with ls.water c (is_ground Water to) are.water;
-  width = are.width;
-  height = are.height;
-  corner = are.corner;
-  apart = λ u. by_cell u (is_same u c) refl;
-})
-  where
-    in_water : is_inside ls.water c ≡ true
-    in_water = is_inside-water ls are c ∙ inside
-
-    one_ground : (to : Ground) → (is_ground Land to && is_ground Water to) ≡ false
-    one_ground Blocked = refl
-    one_ground Land = refl
-    one_ground Water = refl
-
-    both : {a b x y : Bool} → a ≡ x → b ≡ y → (x && y) ≡ false → (a && b) ≡ false
-    both {b = b} {x = x} e f h = ap (λ (t : Bool). t && b) e ∙ ap (λ (t : Bool). x && t) f ∙ h
-
-    differs : (u : Cell) → is_same u c ≡ false → u ≢ c
-    differs u e same = let here = ap (λ (v : Cell). is_same v c) same in
-        absurd (false≢true (sym e ∙ here ∙ is_same-itself c))
-
-    by_cell : (u : Cell) (same : Bool) → is_same u c ≡ same
-        → (is_free (grid_with ls.land c (is_ground Land to)) u
-        && is_free (grid_with ls.water c (is_ground Water to)) u)
-        ≡ false
-    by_cell u true e = subst (λ (v : Cell). (is_free (grid_with ls.land c (is_ground Land to)) v
-        && is_free (grid_with ls.water c (is_ground Water to)) v) ≡ false)
-        (sym (is_same-cell u c e))
-        (both (is_free-with_same ls.land c (is_ground Land to) are.land inside)
-        (is_free-with_same ls.water c (is_ground Water to) are.water in_water) (one_ground to))
-    by_cell u false e =
-        both (is_free-with_other ls.land c u (is_ground Land to) inside (differs u e))
-        (is_free-with_other ls.water c u (is_ground Water to) in_water (differs u e)) (are.apart u)

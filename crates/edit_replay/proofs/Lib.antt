@@ -1,6 +1,7 @@
 pub mod Grounds
 pub mod Simple
 pub mod Edits
+pub mod Editing
 pub mod Answering
 pub mod Replying
 pub mod Counts

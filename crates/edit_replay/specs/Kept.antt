@@ -7,7 +7,6 @@ use Rattle.bit_grid.specs.Bits.{AreBitsOf}
 use Rattle.plus_tables.specs.Tables.{AreTablesOf}
 use Rattle.plain_search.specs.Room.{HasRoom}
 use Rattle.search_core.specs.Jumping.{HasPlaces}
-use Rattle.edit_replay.specs.declared.kept.Both.{Both}
 use Rattle.edit_replay.specs.declared.kept.Finder.{Finder}
 use Rattle.edit_replay.specs.declared.kept.Finder.TheVariants as finder
 use Rattle.edit_replay.specs.declared.kept.Kept.{Kept}
@@ -27,16 +26,11 @@ abbrev pub engine_of : Kept → Engine
 engine_of (kept.Plain places) = Plain
 engine_of (kept.Jumps finder space) = engine_with finder space.layout
 
--- two grids as layers
-abbrev pub as_layers : Both GridData → Layers
-as_layers grids = record { land = grids.land; water = grids.water }
-
 -- jumps on these grids are found so
-abbrev pub IsFinderOf : Both GridData → Finder → Type 0
-IsFinderOf grids finder.Cells = ⊤
-IsFinderOf grids (finder.Bits bits) = AreBitsOf bits.land grids.land × AreBitsOf bits.water grids.water
-IsFinderOf grids (finder.Tables tables) = AreTablesOf tables.land grids.land
-    × AreTablesOf tables.water grids.water
+abbrev pub IsFinderOf : Layers → Finder → Type 0
+IsFinderOf ls finder.Cells = ⊤
+IsFinderOf ls (finder.Bits bits) = AreBitsOf bits.land ls.land × AreBitsOf bits.water ls.water
+IsFinderOf ls (finder.Tables tables) = AreTablesOf tables.land ls.land × AreTablesOf tables.water ls.water
 
 -- jumps on the grid of water, or on that of land, are found so
 abbrev pub IsFinderOn : Bool → GridData → Finder → Type 0
@@ -45,11 +39,11 @@ IsFinderOn is_water g (finder.Bits bits) = AreBitsOf (if is_water then bits.wate
 IsFinderOn is_water g (finder.Tables tables) = AreTablesOf (if is_water then tables.water else tables.land) g
 
 -- the memory has a place for each state of the grids, and jumps on them are found
-abbrev pub Serves : Both GridData → Kept → Type 0
-Serves grids (kept.Plain places) = HasRoom grids.land places
-Serves grids (kept.Jumps finder space) = HasPlaces grids.land space × IsFinderOf grids finder
+abbrev pub Serves : Layers → Kept → Type 0
+Serves ls (kept.Plain places) = HasRoom ls.land places
+Serves ls (kept.Jumps finder space) = HasPlaces ls.land space × IsFinderOf ls finder
 
 -- the grids are two layers of one map, and what is kept serves them
 pub record AreKept (parts : Parts) : Type 0 where
-  pub layers : AreLayers (as_layers parts.grids)
-  pub serves : Serves parts.grids parts.kept
+  pub layers : AreLayers parts.layers
+  pub serves : Serves parts.layers parts.kept

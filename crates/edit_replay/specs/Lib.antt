@@ -3,6 +3,7 @@ pub mod Grounds
 pub mod Session
 pub mod Kept
 pub mod Mended
+pub mod Editing
 pub mod Counting
 pub mod Replies
 pub mod Found

@@ -9,7 +9,7 @@ ghost use Rattle.edit_replay.specs.Kept.{Serves, engine_of};
 use crate::{Engine, NoMemory};
 use best_first::{Layout, Space};
 use bit_grid::BitGrid;
-use grid_moves::{Grid, Terrain};
+use grid_moves::{Grid, Layers, Terrain};
 use plain_search::Workspace;
 use plus_tables::Tables;
 use std::alloc::Global;
@@ -61,39 +61,38 @@ pub(crate) fn space_of(alloc: Global, layout: Layout, grid: &Grid) -> Result<Spa
 }
 
 // The bits of both grids, which have one rule.
-fn bits_of(alloc: Global, grids: &Both<Grid>) -> Result<Both<BitGrid>, NoMemory>
-    requires rule { grids.now.land.corner ≡ grids.now.water.corner }
-    ensures { IfOk result (λ bits. AreBitsOf bits.land grids.now.land × AreBitsOf bits.water grids.now.water) }
+fn bits_of(alloc: Global, layers: &Layers) -> Result<Both<BitGrid>, NoMemory>
+    ensures { IfOk result (λ bits. AreBitsOf bits.land layers.now.land × AreBitsOf bits.water layers.now.water) }
 {
-    let land = BitGrid::of_grid(alloc, &grids.land)?;
-    let water = BitGrid::of_grid_beside(alloc, &grids.water, &land)?;
+    let (land, water) = layers.both();
+    let land = BitGrid::of_grid(alloc, land)?;
+    let water = BitGrid::of_grid_beside(alloc, water, &land)?;
     Ok(Both { land, water })
 }
 
 // The tables of both grids.
-fn tables_of(alloc: Global, grids: &Both<Grid>) -> Result<Both<Tables>, NoMemory>
-    ensures { IfOk result (λ tables. AreTablesOf tables.land grids.now.land
-        × AreTablesOf tables.water grids.now.water) }
+fn tables_of(alloc: Global, layers: &Layers) -> Result<Both<Tables>, NoMemory>
+    ensures { IfOk result (λ tables. AreTablesOf tables.land layers.now.land
+        × AreTablesOf tables.water layers.now.water) }
 {
-    let land = Tables::build(alloc, &grids.land)?;
-    let water = Tables::build(alloc, &grids.water)?;
+    let land = Tables::build(alloc, layers.land())?;
+    let water = Tables::build(alloc, layers.water())?;
     Ok(Both { land, water })
 }
 
 impl Kept {
-    /// What this engine keeps for searches on these grids of one map.
-    pub(crate) fn new(alloc: Global, engine: Engine, grids: &Both<Grid>) -> Result<Kept, NoMemory>
-        requires rule { grids.now.land.corner ≡ grids.now.water.corner }
+    /// What this engine keeps for searches on the grids of a map.
+    pub(crate) fn new(alloc: Global, engine: Engine, layers: &Layers) -> Result<Kept, NoMemory>
         ensures engine { IfOk result (λ kept. engine_of kept ≡ engine) }
-        ensures serves { IfOk result (Serves grids.now) }
+        ensures serves { IfOk result (Serves layers.now) }
     {
         let (finder, layout) = match engine {
-            Engine::Plain => return Ok(Kept::Plain(Workspace::of_grid(alloc, &grids.land)?)),
+            Engine::Plain => return Ok(Kept::Plain(Workspace::of_grid(alloc, layers.land())?)),
             Engine::Jps(layout) => (Finder::Cells, layout),
-            Engine::Block(layout) => (Finder::Bits(bits_of(alloc, grids)?), layout),
-            Engine::Plus(layout) => (Finder::Tables(tables_of(alloc, grids)?), layout),
+            Engine::Block(layout) => (Finder::Bits(bits_of(alloc, layers)?), layout),
+            Engine::Plus(layout) => (Finder::Tables(tables_of(alloc, layers)?), layout),
         };
-        let space = space_of(alloc, layout, &grids.land)?;
+        let space = space_of(alloc, layout, layers.land())?;
         Ok(Kept::Jumps { finder, space })
     }
 }

@@ -5,7 +5,6 @@ ghost use Rattle.grid_moves.specs.Grid.{layer_of};
 ghost use Rattle.grid_moves.specs.Layers as spec;
 ghost use Rattle.grid_moves.specs.Reply.{IsRight};
 ghost use Rattle.plus_tables.specs.Tables.{AreTablesOf};
-ghost use Rattle.edit_replay.specs.Kept.{as_layers};
 ghost use Rattle.edit_replay.specs.Counting.{RoseByStates, RoseWithin, fewest_of, most_of};
 ghost use Rattle.edit_replay.specs.Edited.{edit_at, edit_reply};
 ghost use Rattle.edit_replay.specs.Mended.{IsEditCounted};
@@ -15,7 +14,7 @@ ghost use Rattle.edit_replay.specs.ReplyOf.{reply_of};
 use crate::kept::{Both, Finder, Kept, space_of};
 use crate::parts::Parts;
 use crate::{EditReply, Engine, Layout, NoMemory, Reply};
-use grid_moves::{Cell, Corner, Grid, Ground, Terrain, cell_at, ends_between, ground_at};
+use grid_moves::{Cell, Corner, Ground, Layers, Terrain};
 use map_text::MapText;
 use plus_tables::Tables;
 use std::alloc::Global;
@@ -31,33 +30,14 @@ pub struct Session {
 }
 
 impl Model for Session {
-    ghost use Rattle.edit_replay.specs.Kept.{AreKept, engine_of, as_layers};
-    ghost use Rattle.edit_replay.specs.Session.{SessionData};
+    ghost use Rattle.edit_replay.specs.Kept.{AreKept};
+    ghost use Rattle.edit_replay.specs.Session.{SessionData, stands_for};
 
     ghost Value = { SessionData };
 
-    ghost view = { λ s. record {
-      engine = engine_of s.parts.value.kept;
-      layers = as_layers s.parts.value.grids;
-    } };
+    ghost view = { λ s. stands_for s.parts.value };
 
     ghost invariant = { λ s. AreKept s.parts.value };
-}
-
-// The land grid and the water grid of a map, which get this corner rule.
-fn grids_of(alloc: Global, map: &MapText, corner: Corner) -> Result<Both<Grid>, NoMemory>
-    ensures land { IfOk result (λ grids. grids.land
-        ≡ layer_of Ground.Land corner map.now.width map.now.height map.now.cells) }
-    ensures water { IfOk result (λ grids. grids.water
-        ≡ layer_of Ground.Water corner map.now.width map.now.height map.now.cells) }
-    ensures layers { IfOk result (λ grids. spec.AreLayers (as_layers grids)) }
-{
-    let (width, height) = (map.width, map.height);
-    let cells = map.cells.as_slice();
-    Ok(Both {
-        land: Grid::of_layer(alloc, width, height, cells, corner, Ground::Land)?,
-        water: Grid::of_layer(alloc, width, height, cells, corner, Ground::Water)?,
-    })
 }
 
 impl Session {
@@ -73,9 +53,10 @@ impl Session {
           layers = spec.layers_of corner map.now.width map.now.height map.now.cells;
         }) }
     {
-        let grids = grids_of(alloc, map, corner)?;
-        let kept = Kept::new(alloc, engine, &grids)?;
-        let parts = Box::new(alloc, Parts { grids, kept })?;
+        let cells = map.cells.as_slice();
+        let layers = Layers::of_cells(alloc, map.width, map.height, cells, corner)?;
+        let kept = Kept::new(alloc, engine, &layers)?;
+        let parts = Box::new(alloc, Parts { layers, kept })?;
         Ok(Session { parts })
     }
 
@@ -99,12 +80,13 @@ impl Session {
           layers = spec.layers_of corner map.now.width map.now.height map.now.cells;
         }) }
     {
-        let grids = grids_of(alloc, map, corner)?;
-        let space = space_of(alloc, layout, &grids.land)?;
+        let cells = map.cells.as_slice();
+        let layers = Layers::of_cells(alloc, map.width, map.height, cells, corner)?;
+        let space = space_of(alloc, layout, layers.land())?;
         let tables = Both { land, water };
         let finder = Finder::Tables(tables);
         let kept = Kept::Jumps { finder, space };
-        let parts = Box::new(alloc, Parts { grids, kept })?;
+        let parts = Box::new(alloc, Parts { layers, kept })?;
         Ok(Session { parts })
     }
 
@@ -113,14 +95,14 @@ impl Session {
         ensures width { result ≡ self.now.layers.land.width }
         ensures some { 0 < result }
     {
-        self.parts.grids.land.width()
+        self.parts.layers.land().width()
     }
 
     /// The map's height, in cells.
     pub fn height(&self) -> u16
         ensures { result ≡ self.now.layers.land.height }
     {
-        self.parts.grids.land.height()
+        self.parts.layers.land().height()
     }
 
     /// The cell of this column and row, both counted from 0, where it lies on the map.
@@ -128,7 +110,7 @@ impl Session {
         ensures { MatchOption result (spec.is_on_map self.now.layers (record { x = x; y = y }) ≡ false)
             (λ c. (c ≡ record { x = x; y = y }) × (spec.is_on_map self.now.layers c ≡ true)) }
     {
-        cell_at(&self.parts.grids.land, x, y)
+        self.parts.layers.cell_at(x, y)
     }
 
     /// Makes a cell blocked, land or water.
@@ -151,15 +133,7 @@ impl Session {
         ensures unchanged { result ≢ EditReply.Done → steps.new ≡ steps.old }
         ensures later { steps.old ≤ steps.new }
     {
-        let parts = &mut *self.parts;
-        let Some(c) = cell_at(&parts.grids.land, x, y) else {
-            return EditReply::Outside;
-        };
-        if ground_at(&parts.grids.land, &parts.grids.water, c) == to {
-            return EditReply::Same;
-        }
-        parts.set(c, to, steps);
-        EditReply::Done
+        self.parts.edit(x, y, to, steps)
     }
 
     /// Answers a query from one cell to another. It has no condition: the ends may lie outside.
@@ -194,11 +168,6 @@ impl Session {
         ensures fewest { IfOk result (RoseByStates (fewest_of self.old.engine) steps.old steps.new) }
         ensures uncounted { self.old.engine ≡ Engine.Plain → steps.new ≡ steps.old }
     {
-        let parts = &mut *self.parts;
-        let ends = match ends_between(&parts.grids.land, &parts.grids.water, sx, sy, gx, gy) {
-            Ok(ends) => ends,
-            Err(why) => return Ok(Reply::unsearched(alloc, why)),
-        };
-        parts.search(alloc, ends, steps)
+        self.parts.query(alloc, sx, sy, gx, gy, steps)
     }
 }

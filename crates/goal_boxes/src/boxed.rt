@@ -25,19 +25,12 @@ use crate::source::{BoxSource, Kept, Meant};
 use crate::{Boxes, NoMemory, Taken};
 use best_first::{Found, Layout, Space, State};
 use cost_waves::CostWaves;
-use grid_moves::{Cell, Terrain};
+use grid_moves::{Cell, Ends, Terrain};
 use path_points::{Walk, turns};
 use std::alloc::Global;
 use std::marker::Brand;
 use std::sync::ledger::{Blank, Ledger};
 use steps::Steps;
-
-// The ends of a search.
-#[derive(Clone, Copy)]
-struct SearchEnds {
-    from: Cell,
-    to: Cell,
-}
 
 // The printed number of the state at a cell.
 fn state_at<T: Terrain>(t: &T, c: Cell) -> u32
@@ -50,7 +43,7 @@ fn state_at<T: Terrain>(t: &T, c: Cell) -> u32
 // Takes the start.
 fn begin<K: Meant, T: Terrain, L: Ledger>(
     t: &T,
-    ends: SearchEnds,
+    ends: Ends,
     space: &mut Space,
     taken: &mut Taken,
     steps: &mut Steps<L>,
@@ -75,7 +68,7 @@ fn begin<K: Meant, T: Terrain, L: Ledger>(
 fn advance<K: Meant, T: Terrain, L: Ledger>(
     t: &T,
     boxes: CellBoxes,
-    ends: SearchEnds,
+    ends: Ends,
     space: &mut Space,
     at: u32,
     taken: &mut Taken,
@@ -111,7 +104,7 @@ fn advance<K: Meant, T: Terrain, L: Ledger>(
 fn found<K: Meant, T: Terrain>(
     alloc: Global,
     t: &T,
-    ends: SearchEnds,
+    ends: Ends,
     space: &Space,
     at: u32,
     taken: Taken,
@@ -143,7 +136,7 @@ fn run<K: Meant, B: BoxSource, T: Terrain, L: Ledger, M: Ledger>(
     alloc: Global,
     t: &T,
     source: &mut B,
-    ends: SearchEnds,
+    ends: Ends,
     space: &mut Space,
     steps: &mut Steps<L>,
     passes: &mut Steps<M>,
@@ -178,7 +171,7 @@ fn run_alone<K: Meant, B: BoxSource, T: Terrain, L: Ledger, M: Ledger>(
     alloc: Global,
     t: &T,
     source: &mut B,
-    ends: SearchEnds,
+    ends: Ends,
     passes: &mut Steps<M>,
     blank: Blank,
 ) -> Result<Found, NoMemory>
@@ -204,7 +197,7 @@ fn run_kept<K: Meant, T: Terrain, M: Ledger>(
     alloc: Global,
     t: &T,
     b: &Boxes,
-    ends: SearchEnds,
+    ends: Ends,
     blank: Blank,
 ) -> Result<Found, NoMemory>
     requires name { blank.name ≡ M.name }
@@ -242,7 +235,7 @@ pub fn boxed_search<T: Terrain>(
     ensures on_grid { IfOk result (IsBoxedRunOn (T.grid t.now) from to) }
     ensures least { IfOk result (λ r. IsLeastOrNone (T.grid t.now) from to r.walk) }
 {
-    let ends = SearchEnds { from, to };
+    let ends = Ends { from, to };
     run_kept::<Brand, T, Brand>(alloc, t, b, ends, Blank::new(1))
 }
 
@@ -265,6 +258,6 @@ pub fn boxed_query<T: Terrain, L: Ledger>(
     ensures passes { IfOk result (λ r. passes.new ≤ passes.old + length r.taken) }
 {
     let mut waves = CostWaves::new(alloc, t.width(), t.height())?;
-    let ends = SearchEnds { from, to };
+    let ends = Ends { from, to };
     run_alone::<Brand, CostWaves, T, Brand, L>(alloc, t, &mut waves, ends, passes, Blank::new(1))
 }

@@ -1,23 +1,12 @@
--- What two cells that are asked for come to, and what one does.
-use Rattle.std.specs.Prelude.{◌≡◌, ◌&&◌, true, false}
+-- What two cells that are asked for come to.
+use Rattle.std.specs.Prelude.{◌≡◌, ◌&&◌, true, false, refl}
 use Rattle.grid_moves.specs.declared.Cell.{Cell}
 use Rattle.grid_moves.specs.declared.ends.Ends.{Ends}
-use Rattle.grid_moves.specs.declared.ends.Unplaced.{Unplaced}
-use Rattle.grid_moves.specs.declared.ends.Unplaced.TheVariants as unplaced
 use Rattle.grid_moves.specs.declared.ends.Unsearched.{Unsearched}
 use Rattle.grid_moves.specs.declared.ends.Unsearched.TheVariants.{Outside, Blocked, Apart}
-use Rattle.grid_moves.specs.Layers.{Layers, in_one_layer, is_free_ground, is_on_map}
+use Rattle.grid_moves.specs.declared.Ground.TheVariants as ground
+use Rattle.grid_moves.specs.Layers.{Layers, in_one_layer, is_on_map, layers_with, shore}
 use Rattle.grid_moves.specs.Reply.{are_free_ends}
-
--- the cell that was asked for is land or water
-pub record IsPlaced (ls : Layers) (s c : Cell) : Type 0 where
-  pub is : c ≡ s
-  pub free : is_free_ground ls s ≡ true
-
--- it is not, for this reason
-abbrev pub IsUnplaced : Layers → Cell → Unplaced → Type 0
-IsUnplaced ls s unplaced.Outside = is_on_map ls s ≡ false
-IsUnplaced ls s unplaced.Blocked = (is_on_map ls s ≡ true) × (is_free_ground ls s ≡ false)
 
 -- the cells that were asked for are the ends of a query, and both are free on its grid
 pub record AreEnds (ls : Layers) (s t : Cell) (ends : Ends) : Type 0 where
@@ -40,3 +29,21 @@ abbrev pub IsUnsearched : Layers → Cell → Cell → Unsearched → Type 0
 IsUnsearched ls s t Outside = (is_on_map ls s && is_on_map ls t) ≡ false
 IsUnsearched ls s t Blocked = ((is_on_map ls s && is_on_map ls t) ≡ true) × (are_free_ends ls s t ≡ false)
 IsUnsearched ls s t (Apart ends) = AreApart ls s t ends
+
+-- worked rows on the map `.WW/.WW`: along its land, from its land to its water, onto a block, and outside
+abbrev pub land_and_water : Ends
+land_and_water = record { from = record { x = 0; y = 0 }; to = record { x = 1; y = 1 } }
+
+pub down_the_land : AreEnds shore (record { x = 0; y = 0 }) (record { x = 0; y = 1 })
+    (record { from = record { x = 0; y = 0 }; to = record { x = 0; y = 1 } })
+down_the_land = record { from = refl; to = refl; on = refl; free = refl; one = refl }
+
+pub from_land_to_water : IsUnsearched shore land_and_water.from land_and_water.to (Apart land_and_water)
+from_land_to_water = record { from = refl; to = refl; on = refl; free = refl; two = refl }
+
+pub onto_a_block : IsUnsearched (layers_with shore (record { x = 1; y = 1 }) ground.Blocked) land_and_water.from
+    land_and_water.to Blocked
+onto_a_block = (refl, refl)
+
+pub off_the_map : IsUnsearched shore (record { x = 0; y = 2 }) (record { x = 1; y = 1 }) Outside
+off_the_map = refl

@@ -36,11 +36,6 @@ ground_at ls c = if is_free ls.water c then Water else if is_free ls.land c then
 abbrev pub is_on_map : Layers → Cell → Bool
 is_on_map ls c = is_inside ls.land c
 
--- the cell of this column and row, which lies inside
-pub record IsCellAt (g : GridData) (x y : ℕ) (c : Cell) : Type 0 where
-  pub cell : c ≡ record { x = x; y = y }
-  pub inside : is_inside g c ≡ true
-
 -- the cell is land or water
 abbrev pub is_free_ground : Layers → Cell → Bool
 is_free_ground ls c = is_free ls.land c || is_free ls.water c

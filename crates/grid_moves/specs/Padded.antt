@@ -1,8 +1,8 @@
--- How a grid lies in memory: with a border of blocked cells around it. No public clause cites it.
+-- How a grid lies in memory: with a border of blocked cells around it. What a `Grid` stands for is told by it.
 -- Columns and rows are counted from 1 here, and the border stands before the first ones and behind the last
 -- ones. What stands behind the last column is the place before the first one of the next row.
 use Rattle.std.specs.Prelude.{◌≡◌, ℕ, zero, suc, ◌+◌, ◌*◌, ◌/◌, ◌%◌, ◌≤◌, Bool, false, List, [], ◌∷◌}
-use Rattle.std.specs.Prelude.{length, slice_index_or}
+use Rattle.std.specs.Prelude.{length, slice_index_or, true, refl}
 use Rattle.grid_moves.specs.declared.Cell.{Cell}
 use Rattle.grid_moves.specs.declared.Corner.{Corner}
 use Rattle.grid_moves.specs.declared.Dir.{Dir}
@@ -68,3 +68,11 @@ pub record IsPadded (g : GridData) (cells : List Bool) : Type 0 where
   pub grid : IsGrid g
   pub long : length cells ≡ places g.width g.height
   pub stored : AreStored g.width (is_free g) cells
+
+-- a worked row: of the map `.@` only the first cell is free, at the place behind the row above and the border
+pub two_cells : inner 2 1 (false ∷ false ∷ false ∷ false ∷ true ∷ false ∷ false ∷ false ∷ false ∷ false ∷ [])
+    ≡ true ∷ false ∷ []
+two_cells = refl
+
+pub ten_places : places 2 1 ≡ 10
+ten_places = refl

@@ -1,7 +1,7 @@
 //! The two grids of a map, and which of them a query searches.
 
 ghost use Rattle.std.specs.Prelude.{◌≡◌, IfOk, MatchOption, true, false};
-ghost use Rattle.grid_moves.specs.Grid.{AreCells, IsGrid, is_inside};
+ghost use Rattle.grid_moves.specs.Grid.{AreCells};
 ghost use Rattle.grid_moves.specs.Layers as spec;
 ghost use Rattle.grid_moves.specs.Reply as replies;
 
@@ -26,42 +26,6 @@ impl Model for Layers {
     ghost invariant = { λ ls. spec.AreLayers (record { land = ls.land; water = ls.water }) };
 }
 
-/// The cell of this column and row, both counted from 0, where it lies inside.
-pub fn cell_at<T: Terrain>(t: &T, x: u32, y: u32) -> Option<Cell>
-    ensures cell { MatchOption result (is_inside (T.grid t.now) (record { x = x; y = y }) ≡ false)
-        (spec.IsCellAt (T.grid t.now) x y) }
-    ensures whole { IsGrid (T.grid t.now) }
-{
-    if x < u32::from(t.width()) && y < u32::from(t.height()) {
-        Some(Cell {
-            x: x as u16,
-            y: y as u16,
-        })
-    } else {
-        None
-    }
-}
-
-/// The ground of a cell; outside the map it is blocked.
-pub fn ground_at(land: &Grid, water: &Grid, c: Cell) -> Ground
-    ensures { result ≡ spec.ground_at (record { land = land.now; water = water.now }) c }
-{
-    if water.free(c) {
-        Ground::Water
-    } else if land.free(c) {
-        Ground::Land
-    } else {
-        Ground::Blocked
-    }
-}
-
-/// Whether a cell is land or water.
-pub fn is_free_ground(land: &Grid, water: &Grid, c: Cell) -> bool
-    ensures { result ≡ spec.is_free_ground (record { land = land.now; water = water.now }) c }
-{
-    land.free(c) || water.free(c)
-}
-
 impl Layers {
     ghost use Rattle.std.specs.Prelude.{◌≡◌, IfOk, MatchOption, false};
 
@@ -75,7 +39,8 @@ impl Layers {
         corner: Corner,
     ) -> Result<Layers, NoMemory>
         requires { AreCells width height cells.now }
-        ensures { IfOk result (λ ls. ls ≡ spec.layers_of corner width height cells.now) }
+        ensures made { IfOk result (λ ls. ls ≡ spec.layers_of corner width height cells.now) }
+        ensures layers { IfOk result spec.AreLayers }
     {
         let land = Grid::of_layer(alloc, width, height, cells, corner, Ground::Land)?;
         let water = Grid::of_layer(alloc, width, height, cells, corner, Ground::Water)?;
@@ -111,14 +76,34 @@ impl Layers {
         ensures { MatchOption result (spec.is_on_map self.now (record { x = x; y = y }) ≡ false)
             (λ c. (c ≡ record { x = x; y = y }) × (spec.is_on_map self.now c ≡ true)) }
     {
-        cell_at(&self.land, x, y)
+        if x < u32::from(self.land.width()) && y < u32::from(self.land.height()) {
+            Some(Cell {
+                x: x as u16,
+                y: y as u16,
+            })
+        } else {
+            None
+        }
+    }
+
+    /// The ground of a cell; outside the map it is blocked.
+    pub fn ground_at(&self, c: Cell) -> Ground
+        ensures { result ≡ spec.ground_at self.now c }
+    {
+        if self.water.free(c) {
+            Ground::Water
+        } else if self.land.free(c) {
+            Ground::Land
+        } else {
+            Ground::Blocked
+        }
     }
 
     /// Whether the cell is land or water.
     pub fn is_free_ground(&self, c: Cell) -> bool
         ensures { result ≡ spec.is_free_ground self.now c }
     {
-        is_free_ground(&self.land, &self.water, c)
+        self.land.free(c) || self.water.free(c)
     }
 
     /// Whether both cells are land or water.
@@ -146,5 +131,14 @@ impl Layers {
         } else {
             &self.land
         }
+    }
+
+    /// Makes a cell of the map blocked, land or water.
+    pub fn set(&mut self, c: Cell, to: Ground)
+        requires { spec.is_on_map self.old c ≡ true }
+        ensures { self.new ≡ spec.layers_with self.old c to }
+    {
+        self.land.set(c, to == Ground::Land);
+        self.water.set(c, to == Ground::Water);
     }
 }

@@ -20,9 +20,9 @@ mod terrain;
 mod word_bits;
 
 pub use around::{Around, moves_around};
-pub use ends::{Ends, Unplaced, Unsearched, ends_between};
+pub use ends::{Ends, Unsearched};
 pub use grid::{Grid, ground_of};
-pub use layers::{Layers, cell_at, ground_at, is_free_ground};
+pub use layers::Layers;
 pub use moves::{
     before, beyond, cell_ahead, cell_behind, dir_number, dir_of_number, estimate, move_cost,
     opposite,

@@ -1,12 +1,11 @@
 //! The labels of a map's two layers.
 
 ghost use Rattle.std.specs.Prelude.{◌≡◌, IfOk};
-ghost use Rattle.grid_moves.specs.Layers.{AreLayers};
 ghost use Rattle.joined_cells.specs.Both as spec;
 ghost use Rattle.joined_cells.specs.Both.{TellsBoth};
 
 use crate::{JoinedCells, NoMemory};
-use grid_moves::{Cell, Grid};
+use grid_moves::{Cell, Layers};
 use std::alloc::Global;
 use std::marker::Model;
 
@@ -29,10 +28,10 @@ impl Model for JoinedLayers {
 
 impl JoinedLayers {
     /// Which cells of a map are joined, by one pass over each of its grids.
-    pub fn of(alloc: Global, land: &Grid, water: &Grid) -> Result<JoinedLayers, NoMemory>
-        requires layers { AreLayers (record { land = land.now; water = water.now }) }
-        ensures tells { IfOk result (TellsBoth (record { land = land.now; water = water.now })) }
+    pub fn of(alloc: Global, layers: &Layers) -> Result<JoinedLayers, NoMemory>
+        ensures tells { IfOk result (TellsBoth layers.now) }
     {
+        let (land, water) = layers.both();
         let land = JoinedCells::of(alloc, land)?;
         let water = JoinedCells::of(alloc, water)?;
         Ok(JoinedLayers { land, water })

@@ -307,7 +307,7 @@ module _ (ls : Layers) (are : AreLayers ls) where
 
   -- and those of `problems`
   abbrev HasLeast : Problem → Type 0
-  HasLeast p = IsLeastCost (query_grid ls p.start) p.start p.goal p.cost
+  HasLeast p = IsLeastCost (query_grid ls p.ends.from) p.ends.from p.ends.to p.cost
 
   all_problems : (name : List ℕ) → IsName name → (problems : List Problem) → All HasLeast problems
       → HasEntries ls (flat_map (line_on ls name) problems) (length problems)

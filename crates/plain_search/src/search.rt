@@ -3,8 +3,9 @@
 //! A state is taken by the least sum of its cost and the octile distance to the goal; among equal sums
 //! the one of the lesser cell number goes first, and of equal offers to a cell the earlier one stands.
 //! The search ends where the goal is taken, or where no state waits. The start has to be free, and `least`
-//! and `least_in` ask it of the goal too. Moves that the parent has offered at no greater cost are left out
-//! (module `moves`), which changes nothing in the run.
+//! and `least_in` ask it of the goal too. Another goal may lie just beyond the map: then it is never met, and
+//! every state is taken to which moves lead. Moves that the parent has offered at no greater cost are left
+//! out (module `moves`), which changes nothing in the run.
 //!
 //! A* after Hart, Nilsson and Raphael (1968); the order of ties is this project's. The machine under it is
 //! `best_first`.
@@ -25,20 +26,12 @@ use crate::lists::{Listed, closed_cells, reached_cells};
 use crate::offers::offer_all;
 use crate::{NoMemory, Taken, Workspace};
 use best_first::{Found, Layout, Space, State};
-use grid_moves::{Cell, Corner, Ruled, Terrain};
+use grid_moves::{Cell, Corner, Ends, Ruled, Terrain};
 use path_points::{Walk, turns};
 use std::alloc::Global;
 use std::marker::Brand;
 use std::sync::ledger::{Blank, Ledger};
 use steps::Steps;
-
-/// The ends of a search. The goal may lie just beyond the map: then it is never met, and the search
-/// takes every state to which moves lead.
-#[derive(Clone, Copy)]
-pub(crate) struct SearchEnds {
-    pub(crate) from: Cell,
-    pub(crate) to: Cell,
-}
 
 // The printed number of the state at a cell.
 fn state_at<T: Terrain>(t: &T, c: Cell) -> u32
@@ -51,7 +44,7 @@ fn state_at<T: Terrain>(t: &T, c: Cell) -> u32
 // Takes the start.
 fn begin<T: Terrain, L: Ledger>(
     t: &T,
-    ends: SearchEnds,
+    ends: Ends,
     space: &mut Space,
     taken: &mut Taken,
     steps: &mut Steps<L>,
@@ -74,7 +67,7 @@ fn begin<T: Terrain, L: Ledger>(
 // Makes the offers of the last taken state, and takes the next, if a state waits.
 fn advance<T: Terrain, L: Ledger>(
     t: &T,
-    ends: SearchEnds,
+    ends: Ends,
     space: &mut Space,
     at: u32,
     taken: &mut Taken,
@@ -106,7 +99,7 @@ fn advance<T: Terrain, L: Ledger>(
 fn found<T: Terrain>(
     alloc: Global,
     t: &T,
-    ends: SearchEnds,
+    ends: Ends,
     space: &Space,
     at: u32,
     taken: Taken,
@@ -132,7 +125,7 @@ fn found<T: Terrain>(
 }
 
 // The answer where the goal was not taken.
-fn exhausted<T: Terrain>(_t: &T, ends: SearchEnds, taken: Taken) -> Found
+fn exhausted<T: Terrain>(_t: &T, ends: Ends, taken: Taken) -> Found
     requires taken { IsExhausted (T.grid _t.now) ends.from ends.to taken }
     ensures run { IsPlainRun (T.grid _t.now) ends.from ends.to result }
     ensures least { IsLeastOrNone (T.grid _t.now) ends.from ends.to result.walk }
@@ -143,7 +136,7 @@ fn exhausted<T: Terrain>(_t: &T, ends: SearchEnds, taken: Taken) -> Found
 // Takes states until the goal is taken, and gives the number of its node, or until none waits.
 fn take_all<T: Terrain, L: Ledger>(
     t: &T,
-    ends: SearchEnds,
+    ends: Ends,
     space: &mut Space,
     taken: &mut Taken,
     steps: &mut Steps<L>,
@@ -172,7 +165,7 @@ fn take_all<T: Terrain, L: Ledger>(
 // The same under a rule that the compiler knows.
 fn take_all_by<const RULE: usize, T: Terrain, L: Ledger>(
     t: &T,
-    ends: SearchEnds,
+    ends: Ends,
     space: &mut Space,
     taken: &mut Taken,
     steps: &mut Steps<L>,
@@ -196,7 +189,7 @@ fn take_all_by<const RULE: usize, T: Terrain, L: Ledger>(
 /// steps of the open list are counted by a counter of its own.
 pub(crate) fn take_counted<T: Terrain, L: Ledger>(
     t: &T,
-    ends: SearchEnds,
+    ends: Ends,
     space: &mut Space,
     taken: &mut Taken,
     blank: Blank,
@@ -240,7 +233,7 @@ pub fn least_in<T: Terrain>(
     ensures least { IfOk result (λ found. IsLeastOrNone (T.grid t.now) from to found.walk) }
     ensures room { HasRoom (T.grid t.now) space.new }
 {
-    let ends = SearchEnds { from, to };
+    let ends = Ends { from, to };
     let mut taken = Taken::new(alloc);
     let space = &mut space.space;
     match take_counted::<T, Brand>(t, ends, space, &mut taken, Blank::new(1))? {
@@ -253,7 +246,7 @@ pub fn least_in<T: Terrain>(
 fn found_listed<T: Terrain>(
     alloc: Global,
     t: &T,
-    ends: SearchEnds,
+    ends: Ends,
     space: &Space,
     at: u32,
     taken: Taken,
@@ -283,7 +276,7 @@ fn found_listed<T: Terrain>(
 fn none_listed<T: Terrain>(
     alloc: Global,
     t: &T,
-    ends: SearchEnds,
+    ends: Ends,
     taken: Taken,
 ) -> Result<Listed, NoMemory>
     requires whole { IsGrid (T.grid t.now) }
@@ -309,7 +302,7 @@ pub fn least<T: Terrain>(alloc: Global, t: &T, from: Cell, to: Cell) -> Result<L
     ensures least { IfOk result (λ found. IsLeastOrNone (T.grid t.now) from to (plain_of found).walk) }
     ensures lists { IfOk result (AreLists (T.grid t.now) from to) }
 {
-    let ends = SearchEnds { from, to };
+    let ends = Ends { from, to };
     let mut taken = Taken::new(alloc);
     let mut memory = Workspace::of_grid(alloc, t)?;
     let space = &mut memory.space;

@@ -3,7 +3,7 @@ use Rattle.std.specs.Prelude.{◌≡◌, List}
 use Rattle.rand_pcg.specs.Lcg.{Lcg}
 use Rattle.rand_pcg.specs.Pcg.{pcg32}
 use Rattle.grid_moves.specs.declared.Cell.{Cell}
-use Rattle.problem_maker.specs.declared.tries.ProblemEnds.{ProblemEnds}
+use Rattle.grid_moves.specs.declared.ends.Ends.{Ends}
 use Rattle.problem_maker.specs.Tries.{cell_at}
 
 -- the next word picked the cell
@@ -12,7 +12,7 @@ pub record DrawsCell (cells : List Cell) (old : Lcg) (cell : Cell) (new : Lcg) :
   pub left : new ≡ (pcg32 old).1
 
 -- the next two words picked the ends
-pub record Draws (cells : List Cell) (old : Lcg) (ends : ProblemEnds) (new : Lcg) : Type 0 where
-  pub start : ends.start ≡ cell_at cells (pcg32 old).0
-  pub goal : ends.goal ≡ cell_at cells (pcg32 (pcg32 old).1).0
+pub record Draws (cells : List Cell) (old : Lcg) (ends : Ends) (new : Lcg) : Type 0 where
+  pub from : ends.from ≡ cell_at cells (pcg32 old).0
+  pub to : ends.to ≡ cell_at cells (pcg32 (pcg32 old).1).0
   pub left : new ≡ (pcg32 (pcg32 old).1).1

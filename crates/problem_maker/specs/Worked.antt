@@ -21,10 +21,10 @@ row = record { x = 0; y = 0 } ∷ record { x = 1; y = 0 } ∷ record { x = 2; y 
 
 -- the first four tries among them of seed 1, whose words a program of its own made, after PCG's paper
 pub tried_of_one : tries row 1 4 ≡
-    record { start = record { x = 3; y = 0 }; goal = record { x = 3; y = 0 } } ∷
-    record { start = record { x = 1; y = 0 }; goal = record { x = 2; y = 0 } } ∷
-    record { start = record { x = 1; y = 0 }; goal = record { x = 1; y = 0 } } ∷
-    record { start = record { x = 2; y = 0 }; goal = record { x = 3; y = 0 } } ∷ []
+    record { from = record { x = 3; y = 0 }; to = record { x = 3; y = 0 } } ∷
+    record { from = record { x = 1; y = 0 }; to = record { x = 2; y = 0 } } ∷
+    record { from = record { x = 1; y = 0 }; to = record { x = 1; y = 0 } } ∷
+    record { from = record { x = 2; y = 0 }; to = record { x = 3; y = 0 } } ∷ []
 unfolding words_from pcg32_seed u32_at word_bytes tries_by
 tried_of_one = refl
 
@@ -34,7 +34,7 @@ abbrev walled : Layers
 walled = layers_of Never 5 1 (codes "...@.")
 
 pub first_of_one : kept_of walled 1 1 ≡
-    record { start = record { x = 1; y = 0 }; goal = record { x = 2; y = 0 } } ∷ []
+    record { from = record { x = 1; y = 0 }; to = record { x = 2; y = 0 } } ∷ []
 unfolding words_from pcg32_seed u32_at word_bytes tries_by least_cost plain_found found_of run_of states_at
     states_in_row states_on_map
 first_of_one = refl
@@ -51,8 +51,7 @@ none_of_none = refl
 -- a problem of so many straight moves, from this column on
 abbrev straight : ℕ → ℕ → Problem
 straight x moves = record {
-  start = record { x = x; y = 0 };
-  goal = record { x = x + moves; y = 0 };
+  ends = record { from = record { x = x; y = 0 }; to = record { x = x + moves; y = 0 } };
   cost = record { a = moves; b = 0 };
 }
 

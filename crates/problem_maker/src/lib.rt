@@ -18,4 +18,4 @@ mod tries;
 
 pub use sorting::{Problem, order};
 pub use std::alloc::AllocError as NoMemory;
-pub use tries::{ProblemEnds, make_ends};
+pub use tries::make_ends;

@@ -4,14 +4,13 @@ ghost use Rattle.std.specs.Prelude.{◌≡◌, OnErr, OnOk};
 ghost use Rattle.problem_maker.specs.Ordered.{in_order};
 
 use crate::NoMemory;
-use grid_moves::Cell;
+use grid_moves::Ends;
 use root2_cost::{Cost, cmp};
 
-/// A problem: where it begins and ends, and what a least walk between them costs.
+/// A problem: its ends, and what a least walk between them costs.
 #[derive(Clone, Copy, Debug, PartialEq, Eq)]
 pub struct Problem {
-    pub start: Cell,
-    pub goal: Cell,
+    pub ends: Ends,
     pub cost: Cost,
 }
 

@@ -2,7 +2,6 @@
 
 ghost use Rattle.std.specs.Prelude.{◌≡◌, ◌+◌, ◌*◌, ◌<◌, ◌≤◌, IfOk, length, take};
 ghost use Rattle.std.specs.List.{All, filter};
-ghost use Rattle.grid_moves.specs.Layers.{AreLayers};
 ghost use Rattle.joined_cells.specs.Both.{HasWalk, are_joined_in};
 ghost use Rattle.map_maker.specs.Words.{words_from};
 ghost use Rattle.problem_maker.specs.Drawing.{Draws, DrawsCell};
@@ -11,41 +10,30 @@ ghost use Rattle.problem_maker.specs.Tries.{kept_of, most_tries, tries_by};
 
 use crate::NoMemory;
 use crate::free::free_cells;
-use grid_moves::{Cell, Grid};
+use grid_moves::{Cell, Ends, Layers};
 use joined_cells::JoinedLayers;
 use rand_core::SeedableRng;
 use rand_core::utils::NextWord;
 use rand_pcg::Lcg64Xsh32;
 use std::alloc::Global;
 
-/// Where a problem begins and ends.
-#[derive(Clone, Copy, Debug, PartialEq, Eq)]
-pub struct ProblemEnds {
-    pub start: Cell,
-    pub goal: Cell,
-}
-
-/// The ends of `count` problems on a map with this land and this water, from a seed, in the order of their
-/// tries; fewer where so many are not found among ten times as many tries and a hundred.
+/// The ends of `count` problems on a map, from a seed, in the order of their tries; fewer where so many are not
+/// found among ten times as many tries and a hundred.
 ///
 /// Two passes over the map tell first which cells are joined. Up to twelve bytes for each cell are taken, and
 /// given back, and eight for each problem.
 pub fn make_ends(
     alloc: Global,
-    land: &Grid,
-    water: &Grid,
+    layers: &Layers,
     seed: u64,
     count: u32,
-) -> Result<Vec<ProblemEnds>, NoMemory>
-    requires layers { AreLayers (record { land = land.now; water = water.now }) }
-    ensures kept { IfOk result (λ kept. kept.items
-        ≡ kept_of (record { land = land.now; water = water.now }) seed count) }
-    ensures walks { IfOk result (λ kept. All (λ ends. HasWalk (record { land = land.now; water = water.now })
-        ends.start ends.goal) kept.items) }
+) -> Result<Vec<Ends>, NoMemory>
+    ensures kept { IfOk result (λ kept. kept.items ≡ kept_of layers.now seed count) }
+    ensures walks { IfOk result (λ kept. All (λ ends. HasWalk layers.now ends.from ends.to) kept.items) }
     ensures few { IfOk result (λ kept. length kept.items ≤ count) }
 {
-    let joined = JoinedLayers::of(alloc, land, water)?;
-    let cells = free_cells(alloc, land, water)?;
+    let joined = JoinedLayers::of(alloc, layers)?;
+    let cells = free_cells(alloc, layers)?;
     kept_ends(alloc, seed, count, &cells, &joined)
 }
 
@@ -56,7 +44,7 @@ fn kept_ends(
     count: u32,
     cells: &[Cell],
     joined: &JoinedLayers,
-) -> Result<Vec<ProblemEnds>, NoMemory>
+) -> Result<Vec<Ends>, NoMemory>
     ensures { IfOk result (λ kept. kept.items
         ≡ spec.kept_ends (are_joined_in joined.now) cells.now seed count) }
 {
@@ -74,7 +62,7 @@ fn draw_kept(
     count: u32,
     cells: &[Cell],
     joined: &JoinedLayers,
-) -> Result<Vec<ProblemEnds>, NoMemory>
+) -> Result<Vec<Ends>, NoMemory>
     requires { 0 < length cells.now }
     ensures { let words = words_from (2 * most_tries count) generator.old in
         IfOk result (λ kept. kept.items
@@ -94,20 +82,20 @@ fn draw_kept(
 }
 
 // Whether the try is kept.
-fn is_kept(ends: ProblemEnds, joined: &JoinedLayers) -> bool
+fn is_kept(ends: Ends, joined: &JoinedLayers) -> bool
     ensures { result ≡ spec.is_kept (are_joined_in joined.now) ends }
 {
-    ends.start != ends.goal && joined.joined(ends.start, ends.goal)
+    ends.from != ends.to && joined.joined(ends.from, ends.to)
 }
 
 // The ends that the next two words tell.
-fn draw_ends(generator: &mut Lcg64Xsh32, cells: &[Cell]) -> ProblemEnds
+fn draw_ends(generator: &mut Lcg64Xsh32, cells: &[Cell]) -> Ends
     requires { 0 < length cells.now }
     ensures { Draws cells.now generator.old result generator.new }
 {
-    let start = draw_cell(generator, cells);
-    let goal = draw_cell(generator, cells);
-    ProblemEnds { start, goal }
+    let from = draw_cell(generator, cells);
+    let to = draw_cell(generator, cells);
+    Ends { from, to }
 }
 
 // The cell that the next word tells.

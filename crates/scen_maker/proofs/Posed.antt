@@ -19,7 +19,7 @@ use Rattle.joined_cells.proofs.Layering.{joined_free, joined_in_one_layer}
 use Rattle.plain_search.specs.Costs.{IsCostTo}
 use Rattle.plain_search.proofs.LeastCosts.{cost_is}
 use Rattle.problem_maker.specs.declared.sorting.Problem.{Problem}
-use Rattle.problem_maker.specs.declared.tries.ProblemEnds.{ProblemEnds}
+use Rattle.grid_moves.specs.declared.ends.Ends.{Ends}
 use Rattle.problem_maker.specs.Tries.{kept_of}
 use Rattle.problem_maker.proofs.Drawn.{kept_walks}
 use Rattle.problem_maker.proofs.Insertion.{order_is}
@@ -82,21 +82,21 @@ module _ (ls : Layers) (s t : Cell) (walk : HasWalk ls s t) where
 -- so has each problem that a seed makes
 pub problems_least : ProblemsCostLeast
 problems_least ls seed count =
-    All-permutation (λ p. IsLeastCost (query_grid ls p.start) p.start p.goal p.cost) _ _
+    All-permutation (λ p. IsLeastCost (query_grid ls p.ends.from) p.ends.from p.ends.to p.cost) _ _
     (order_is (map (priced ls) (kept_of ls seed count))).is.same
-    (All-map (λ p. IsLeastCost (query_grid ls p.start) p.start p.goal p.cost) (priced ls)
+    (All-map (λ p. IsLeastCost (query_grid ls p.ends.from) p.ends.from p.ends.to p.cost) (priced ls)
     (kept_of ls seed count)
-    (All-weaker (λ e. HasWalk ls e.start e.goal)
-    (λ e. IsLeastCost (query_grid ls e.start) e.start e.goal (priced ls e).cost)
-    (λ e walk. has_least ls e.start e.goal walk) (kept_of ls seed count) (kept_walks ls seed count)))
+    (All-weaker (λ e. HasWalk ls e.from e.to)
+    (λ e. IsLeastCost (query_grid ls e.from) e.from e.to (priced ls e).cost)
+    (λ e walk. has_least ls e.from e.to walk) (kept_of ls seed count) (kept_walks ls seed count)))
 
 -- one more of the ends has its problem
-pub priced-more : (at ls : Layers) (kept : List ProblemEnds) (place : ℕ) (d : ProblemEnds)
+pub priced-more : (at ls : Layers) (kept : List Ends) (place : ℕ) (d : Ends)
     (problems now : List Problem) (p : Problem) → at ≡ ls → place < length kept
     → problems ≡ map (priced ls) (take place kept) → p ≡ priced at (get_or kept place d)
     → now ≡ problems ++ p ∷ [] → now ≡ map (priced ls) (take (place + 1) kept)
 priced-more at ls kept place d problems now p same below are is grown =
-    let ends : ProblemEnds = get_or kept place d in
+    let ends : Ends = get_or kept place d in
     grown ∙ ap (λ (l : List Problem). l ++ p ∷ []) are
     ∙ ap (λ (q : Problem). map (priced ls) (take place kept) ++ q ∷ [])
     (is ∙ ap (λ (l : Layers). priced l ends) same)

@@ -10,7 +10,7 @@ use Rattle.grid_moves.specs.Layers.{Layers, layers_of, query_grid}
 use Rattle.problem_maker.specs.Ordered.{in_order}
 use Rattle.problem_maker.specs.Tries.{kept_of}
 use Rattle.problem_maker.specs.declared.sorting.Problem.{Problem}
-use Rattle.problem_maker.specs.declared.tries.ProblemEnds.{ProblemEnds}
+use Rattle.grid_moves.specs.declared.ends.Ends.{Ends}
 use Rattle.scen_lines.specs.Line.{root, version_line}
 use Rattle.scen_lines.specs.Naming.{name_of}
 use Rattle.scen_lines.specs.declared.line.Problem as lines
@@ -19,11 +19,10 @@ use Rattle.scen_maker.specs.Settling.{least_between}
 
 -- the problem with these ends, and with the cost of a least walk between them; each kept try has one, and where
 -- there were none the cost would be 0
-abbrev pub priced : Layers → ProblemEnds → Problem
+abbrev pub priced : Layers → Ends → Problem
 priced ls ends = record {
-  start = ends.start;
-  goal = ends.goal;
-  cost = unwrap_or (least_between ls ends.start ends.goal) no_cost;
+  ends = ends;
+  cost = unwrap_or (least_between ls ends.from ends.to) no_cost;
 }
 
 -- the problems that a seed makes on a map: the kept tries with their costs, in the order of these, those of
@@ -36,10 +35,10 @@ abbrev pub query_of : Layers → Problem → lines.Problem
 query_of ls p = record {
   w = ls.land.width;
   h = ls.land.height;
-  sx = p.start.x;
-  sy = p.start.y;
-  gx = p.goal.x;
-  gy = p.goal.y;
+  sx = p.ends.from.x;
+  sy = p.ends.from.y;
+  gx = p.ends.to.x;
+  gy = p.ends.to.y;
 }
 
 -- the line of a problem on a map of this name
@@ -61,11 +60,14 @@ problems_status ls seed count = if nat_eq (length (kept_of ls seed count)) count
 -- each problem costs what a least walk between its ends does, on the grid of its query
 abbrev pub ProblemsCostLeast : Type 0
 ProblemsCostLeast = (ls : Layers) (seed count : ℕ)
-    → All (λ p. IsLeastCost (query_grid ls p.start) p.start p.goal p.cost) (problems_of ls seed count)
+    → All (λ p. IsLeastCost (query_grid ls p.ends.from) p.ends.from p.ends.to p.cost) (problems_of ls seed count)
 
 -- a worked row: one move from left to right on the map `...@.`
 abbrev rightward : Problem
-rightward = record { start = record { x = 1; y = 0 }; goal = record { x = 2; y = 0 }; cost = record { a = 1; b = 0 } }
+rightward = record {
+  ends = record { from = record { x = 1; y = 0 }; to = record { x = 2; y = 0 } };
+  cost = record { a = 1; b = 0 };
+}
 
 pub one_move : scenario_on (layers_of Never 5 1 (codes "...@.")) (codes "a.map") (rightward ∷ [])
     ≡ codes "version 1\n0\ta.map\t5\t1\t1\t0\t2\t0\t1.00000000\n"

@@ -1,7 +1,7 @@
 //! The least costs of queries on a map.
 
 ghost use Rattle.std.specs.Prelude.{◌≡◌, ◌&&◌, nat_eq, true, IfOk};
-ghost use Rattle.grid_moves.specs.Layers.{is_on_map, query_grid};
+ghost use Rattle.grid_moves.specs.Layers.{AreLayers, is_on_map, query_grid};
 ghost use Rattle.grid_moves.specs.Reply.{are_free_ends};
 ghost use Rattle.scen_maker.specs.Settling as spec;
 
@@ -107,8 +107,11 @@ fn cost_in(reply: &Reply) -> Option<Cost>
 impl LeastCosts {
     /// The map's two grids.
     pub fn layers(&self) -> &Layers
-        ensures { result.now ≡ self.now }
+        ensures is { result.now ≡ self.now }
+        ensures layers { AreLayers self.now }
     {
+        // (by its clause they are those of one map)
+        let _both = self.layers.both();
         &self.layers
     }
 

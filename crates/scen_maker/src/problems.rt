@@ -8,9 +8,9 @@ ghost use Rattle.scen_maker.specs.Problems as spec;
 
 use crate::NoMemory;
 use crate::costs::LeastCosts;
-use grid_moves::{Layers, Terrain};
+use grid_moves::{Ends, Layers, Terrain};
 use line_work::Printed;
-use problem_maker::{Problem, ProblemEnds, make_ends, order};
+use problem_maker::{Problem, make_ends, order};
 use scen_lines::{problem_name, put_entry, put_version};
 use std::alloc::Global;
 use std::marker::Brand;
@@ -21,17 +21,16 @@ use steps::Steps;
 fn price<L: Ledger>(
     alloc: Global,
     costs: &mut LeastCosts,
-    ends: ProblemEnds,
+    ends: Ends,
     steps: &mut Steps<L>,
 ) -> Result<Problem, NoMemory>
     requires layers { AreLayers costs.old }
-    requires walk { HasWalk costs.old ends.start ends.goal }
+    requires walk { HasWalk costs.old ends.from ends.to }
     ensures priced { IfOk result (λ problem. problem ≡ spec.priced costs.old ends) }
     ensures unchanged { costs.new ≡ costs.old }
 {
-    let ProblemEnds { start, goal } = ends;
-    match costs.between(alloc, start, goal, steps)? {
-        Some(cost) => Ok(Problem { start, goal, cost }),
+    match costs.between(alloc, ends.from, ends.to, steps)? {
+        Some(cost) => Ok(Problem { ends, cost }),
         None => unreachable!(),
     }
 }
@@ -40,11 +39,11 @@ fn price<L: Ledger>(
 fn price_all<L: Ledger>(
     alloc: Global,
     costs: &mut LeastCosts,
-    kept: &[ProblemEnds],
+    kept: &[Ends],
     steps: &mut Steps<L>,
 ) -> Result<Vec<Problem>, NoMemory>
     requires layers { AreLayers costs.old }
-    requires walks { All (λ ends. HasWalk costs.old ends.start ends.goal) kept.now }
+    requires walks { All (λ ends. HasWalk costs.old ends.from ends.to) kept.now }
     ensures priced { IfOk result (λ problems. problems.items ≡ map (spec.priced costs.old) kept.now) }
     ensures unchanged { costs.new ≡ costs.old }
 {
@@ -60,14 +59,14 @@ fn price_all<L: Ledger>(
 fn price_alone<L: Ledger>(
     alloc: Global,
     costs: &mut LeastCosts,
-    kept: &[ProblemEnds],
+    kept: &[Ends],
     blank: Blank,
 ) -> Result<Vec<Problem>, NoMemory>
     requires name { blank.name ≡ L.name }
     requires parts { blank.parts ≡ L.parts }
     requires some { 0 < L.parts }
     requires layers { AreLayers costs.old }
-    requires walks { All (λ ends. HasWalk costs.old ends.start ends.goal) kept.now }
+    requires walks { All (λ ends. HasWalk costs.old ends.from ends.to) kept.now }
     ensures priced { IfOk result (λ problems. problems.items ≡ map (spec.priced costs.old) kept.now) }
     ensures unchanged { costs.new ≡ costs.old }
 {
@@ -82,10 +81,10 @@ fn query_of(layers: &Layers, problem: Problem) -> scen_lines::Problem
     scen_lines::Problem {
         w: u32::from(layers.land().width()),
         h: u32::from(layers.land().height()),
-        sx: u32::from(problem.start.x),
-        sy: u32::from(problem.start.y),
-        gx: u32::from(problem.goal.x),
-        gy: u32::from(problem.goal.y),
+        sx: u32::from(problem.ends.from.x),
+        sy: u32::from(problem.ends.from.y),
+        gx: u32::from(problem.ends.to.x),
+        gy: u32::from(problem.ends.to.y),
     }
 }
 
@@ -132,8 +131,7 @@ pub fn problems_text(
     ensures text { IfOk result (λ p. p.text.items ≡ spec.problems_text costs.old word.now seed count) }
     ensures status { IfOk result (λ p. p.status ≡ spec.problems_status costs.old seed count) }
 {
-    let (land, water) = costs.layers().both();
-    let kept = make_ends(alloc, land, water, seed, count)?;
+    let kept = make_ends(alloc, costs.layers(), seed, count)?;
     let status = if kept.len() == count as usize { 0 } else { 1 };
     let mut problems = price_alone::<Brand>(alloc, costs, kept.as_slice(), Blank::new(1))?;
     order(&mut problems)?;

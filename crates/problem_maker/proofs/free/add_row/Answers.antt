@@ -2,6 +2,7 @@ use Rattle.std.proofs.Common.{◌≡◌, ℕ, ◌+◌, ◌*◌, ◌<◌, ◌∙�
 use Rattle.std.proofs.Common.{◌∷◌, ◌++◌}
 use Rattle.std.proofs.lemmas.List.{append-nil}
 use Rattle.grid_moves.specs.declared.Cell.{Cell}
+use Rattle.grid_moves.specs.Grid.{GridData}
 use Rattle.grid_moves.specs.Layers.{Layers, is_free_ground}
 use Rattle.problem_maker.specs.Free.{free_below}
 use Rattle.problem_maker.proofs.Drawn.{free_more}
@@ -21,10 +22,11 @@ appended ls x y h before after b a =
 
 pub loop-x-preserved : goal.loop-x-preserved
 loop-x-preserved c =
-    let ls : Layers = record { land = c.args.land.now; water = c.args.water.now } in
+    let ls = c.args.layers.now in
     let v : Cell = record { x = c.loop-x.x; y = c.args.y } in
     let on : c.loop-x.x < ls.land.width =
-    subst (λ (n : ℕ). c.loop-x.x < n) c.width-x-end.ensures.is c.loop-x-test.true in
+    subst (λ (n : ℕ). c.loop-x.x < n)
+    (c.width-x-end.ensures.is ∙ ap (λ (g : GridData). g.width) c.land.ensures) c.loop-x-test.true in
     appended ls c.loop-x.x c.args.y on c.loop-x.cells.items c.if-is_free_ground.cells.items c.loop-x.invariant
     (elim c.if-is_free_ground.branch [
       | then-is_free_ground+in_ok-push w ↦

@@ -3,11 +3,11 @@ use Rattle.scen_maker.proofs.problems.price.Goals as goal
 
 pub between-requires : goal.between-requires
 between-requires g c = record {
-  inside = ends_inside c.args.costs.now c.requires.layers c.args.ends.start c.args.ends.goal c.requires.walk;
-  free = ends_free c.args.costs.now c.requires.layers c.args.ends.start c.args.ends.goal c.requires.walk;
+  inside = ends_inside c.args.costs.now c.requires.layers c.args.ends.from c.args.ends.to c.requires.walk;
+  free = ends_free c.args.costs.now c.requires.layers c.args.ends.from c.args.ends.to c.requires.walk;
 }
 
 pub unreachable-requires : goal.unreachable-requires
 unreachable-requires g c =
-    never_none c.args.costs.now c.args.ends.start c.args.ends.goal c.requires.walk c.in_ok-cost.field-0
+    never_none c.args.costs.now c.args.ends.from c.args.ends.to c.requires.walk c.in_ok-cost.field-0
     c.in_ok-cost.ensures.least c.in-None.is
