@@ -83,7 +83,13 @@ impl Parts {
     }
 
     /// Makes the cell of this column and row blocked, land or water, where it lies on the map and is not so.
-    pub(crate) fn edit<L: Ledger>(&mut self, x: u32, y: u32, to: Ground, steps: &mut Steps<L>) -> EditReply
+    pub(crate) fn edit<L: Ledger>(
+        &mut self,
+        x: u32,
+        y: u32,
+        to: Ground,
+        steps: &mut Steps<L>,
+    ) -> EditReply
         requires { AreKept self.old }
         ensures edited { HasEdited (stands_for self.old) (edit_at x y to) result (stands_for self.new)
             steps.old steps.new }

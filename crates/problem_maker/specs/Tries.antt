@@ -47,6 +47,6 @@ leads_on g s t = is_free g s && is_some (least_cost g s t)
 abbrev pub leads : Layers → Cell → Cell → Bool
 leads ls s t = leads_on (query_grid ls s) s t
 
--- the kept ones on a map: their ends are free cells between which a walk leads
+-- the kept ones of a map, as many as are wanted: a walk leads from one end to the other
 abbrev pub kept_of : Layers → ℕ → ℕ → List Ends
 kept_of ls seed count = kept_ends (leads ls) (free_cells ls) seed count

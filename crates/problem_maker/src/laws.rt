@@ -4,7 +4,7 @@ ghost use Rattle.problem_maker.specs.Laws.{LeadsIs, OrderIs};
 ghost use Rattle.problem_maker.specs.Ordered.{in_order};
 ghost use Rattle.problem_maker.specs.Tries.{leads};
 
-/// Whether a walk leads from one cell of a map to another is a function of its grids and the two cells.
+/// `leads` tells exactly whether a query from one cell of a map to another has a walk.
 pub fn leads_is_found()
     ensures { LeadsIs leads }
 {}

@@ -92,7 +92,7 @@ NamesAreRead = (entries : List Named) (k : ℕ) (written : Named) (read : Entry)
 abbrev pub WordsNameMaps : Type 0
 WordsNameMaps = (word : List ℕ) → IsName (name_of word)
 
--- a query has the bucket and the length of its cost in one way
+-- a line has the bucket and the length of a cost exactly where it is the one that is listed of that cost
 abbrev pub CostsTellLines : Type 0
 CostsTellLines = (cost : Cost) (listed : Listed) → IsOfCost cost listed ↔ (listed ≡ listed_of listed.problem cost)
 
