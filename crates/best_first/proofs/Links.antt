@@ -10,7 +10,7 @@ use Rattle.grid_moves.specs.Points.{estimate}
 use Rattle.grid_moves.proofs.Legal.{is_same-cell}
 use Rattle.grid_moves.proofs.Consistent.{estimate_nothing}
 use Rattle.search_run.specs.Chain.{IsConsistent}
-use Rattle.best_first.specs.Rule.{Links, search_rule, AreLinks, LiesOn, LiesNear}
+use Rattle.best_first.specs.Rule.{Links, search_rule, AreLinks, LiesOn}
 use Rattle.best_first.proofs.States.{is_same_state-state, is_same_state-itself}
 
 -- the octile distance obeys the triangle inequality
@@ -27,13 +27,9 @@ consistent width height goal link a = record {
   itself = is_same_state-itself;
 }
 
--- a cell on the map lies near it
-pub on_near : (width height : ℕ) (c : Cell) → LiesOn width height c → LiesNear width height c
-on_near width height c on = (omega (arith, on.0), omega (arith, on.1))
-
 -- the sum of a cost of few moves and an estimate is short
 pub short_sum : (width height : ℕ) (c goal : Cell) (cost : Cost) → width ≤ 4096 → height ≤ 4096
-    → LiesOn width height c → LiesNear width height goal → cost.a + cost.b ≤ 2 ^ 29
+    → LiesOn width height c → LiesOn width height goal → cost.a + cost.b ≤ 2 ^ 29
     → HasShortParts (add_costs cost (estimate c goal))
 short_sum width height c goal cost n l a b few = grind (arith, a.0, a.1, b.0, b.1)
 

@@ -95,7 +95,7 @@ module _ {width height : ℕ} {start goal : Cell} {link : Links}
   sum_short : (v : Cell) (c : Cost) → LiesOn width height v → c.a + c.b ≤ 2 ^ 29
       → HasShortParts (add_costs c (estimate v goal))
   sum_short v c on few =
-      short_sum width height v goal c fit.posed.narrow fit.posed.low on fit.posed.goal_near few
+      short_sum width height v goal c fit.posed.narrow fit.posed.low on fit.posed.goal_on few
 
   -- sums of taken states are short
   pub taken_short : (run : List (Taken State)) → IsRun rule (start_at start) run → (u : Taken State)

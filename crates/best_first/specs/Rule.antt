@@ -47,17 +47,12 @@ HasFewMoves r start =
 abbrev pub LiesOn : ℕ → ℕ → Cell → Type 0
 LiesOn width height c = (c.x < width) × (c.y < height)
 
--- the cell lies on such a map, or just beyond its last column or row
-abbrev pub LiesNear : ℕ → ℕ → Cell → Type 0
-LiesNear width height c = (c.x ≤ width) × (c.y ≤ height)
-
--- a search for a goal is posed on a map: sides of at most 4096, the start on the map, the goal on it or just
--- beyond, where it is never met, and links as above
+-- a search for a goal is posed on a map: sides of at most 4096, start and goal on the map, and links as above
 pub record IsPosed (width height : ℕ) (start goal : Cell) (link : Links) : Type 0 where
   pub narrow : width ≤ 4096
   pub low : height ≤ 4096
   pub start_on : LiesOn width height start
-  pub goal_near : LiesNear width height goal
+  pub goal_on : LiesOn width height goal
   pub links : AreLinks width height link
 
 -- and takes few moves

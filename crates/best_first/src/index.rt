@@ -7,7 +7,7 @@
 //! cell, so none is set back. Briggs and Torczon, "An efficient representation for sparse sets", ACM Letters on
 //! Programming Languages and Systems 2, 1993; there the heads of a new set are memory that was not written.
 
-ghost use Rattle.std.specs.Prelude.{◌≡◌, ℕ, suc, [], ◌∷◌, ◌++◌, ◌<◌, ◌≤◌, ◌+◌, ◌-◌, ◌*◌, ◌/◌, length, IfOk, vec_len, vec_capacity, slice_set, slice_index_or};
+ghost use Rattle.std.specs.Prelude.{◌≡◌, suc, [], ◌<◌, ◌≤◌, ◌+◌, ◌-◌, ◌*◌, ◌/◌, length, IfOk, vec_len, vec_capacity};
 ghost use Rattle.best_first.specs.Index.{entry_in, entry_of, tag_of, latest_of, records_for, AreLinked, IsHead, AreRecords, AreHeads, AreBlank, IsPut};
 ghost use Rattle.best_first.specs.Space.{HasRoomFor};
 ghost use Rattle.best_first.specs.State.{state_in, arrival_number};

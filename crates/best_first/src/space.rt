@@ -1,14 +1,12 @@
 //! The memory of a search: its nodes, and an index from states to nodes.
 
-ghost use Rattle.std.specs.Prelude.{◌≡◌, ℕ, suc, ◌+◌, ◌-◌, ◌*◌, ◌<◌, ◌≤◌, ◌^◌, [], ◌∷◌, ◌++◌, length, true, false, Some, None, OnOk, OnErr, IsOk, IfOk, IfNone, IfSome, vec_len, vec_capacity, slice_get, slice_set};
+ghost use Rattle.std.specs.Prelude.{◌≡◌, ℕ, ◌+◌, ◌-◌, ◌*◌, ◌<◌, ◌≤◌, ◌^◌, [], ◌∷◌, length, true, false, Some, None, OnOk, IsOk, IfOk, IfNone, IfSome, vec_len, vec_capacity, slice_get};
 ghost use Rattle.best_first.specs.Index.{entry_for, cell_of_node, AreBlank, AreReset, AreLed, IsExact};
-ghost use Rattle.best_first.specs.Node.{state_of, ranks_before};
+ghost use Rattle.best_first.specs.Node.{state_of};
 ghost use Rattle.best_first.specs.Space.{SpaceData, IsPlaced, KeepsShape, HasRoomFor, HasRoom, layout_by};
-ghost use Rattle.best_first.specs.State.{state_in, state_of_place, place_of, start_at};
-ghost use Rattle.best_first.specs.Table.{Table, lookup, node_for, added, replaced, is_bettered, offered, begun, closed_at, IsFirstNode, NoneOpen, ClosedBelow};
+ghost use Rattle.best_first.specs.State.{state_in, state_of_place, place_of};
+ghost use Rattle.best_first.specs.Table.{lookup, node_for, added, replaced, is_bettered, offered, begun, closed_at, IsFirstNode, NoneOpen, ClosedBelow};
 ghost use Rattle.grid_moves.specs.Grid.{cell_number};
-ghost use Rattle.grid_moves.specs.Points.{estimate};
-ghost use Rattle.root2_cost.specs.Rank.{rank_of};
 
 use crate::index::Index;
 use crate::node::estimate_rank;

@@ -1,6 +1,6 @@
 //! The way that a search found, back along the parents.
 
-ghost use Rattle.std.specs.Prelude.{◌≡◌, ◌<◌, ◌+◌, ◌^◌, [], IfOk, Some, slice_get, length};
+ghost use Rattle.std.specs.Prelude.{◌≡◌, ◌<◌, [], IfOk};
 ghost use Rattle.best_first.specs.Trace.{HasBack, IsWayTo};
 
 use crate::{NoMemory, Space};

@@ -3,7 +3,7 @@
 ghost use Rattle.std.specs.Prelude.{◌≡◌, ℕ, suc, ◌+◌, ◌*◌, ◌<◌, ◌≤◌, Bool, IfOk, OnOk, length, slice_index_or, nat_eq};
 ghost use Rattle.std.specs.Int.Bits.{bit_and};
 ghost use Rattle.grid_moves.specs.Bits.{is_set};
-ghost use Rattle.bit_grid.specs.Pack.{is_free_in, AreFlags, IsBordered, ArePacked};
+ghost use Rattle.bit_grid.specs.Pack.{AreFlags, IsBordered, ArePacked};
 ghost use Rattle.bit_grid.specs.Turn.{ArePackedSoFar};
 
 use crate::NoMemory;

@@ -4,7 +4,7 @@
 //! for eight columns, so that the bits of a column lie side by side. So the rows, which are far apart in
 //! memory, are gone through once for 64 columns.
 
-ghost use Rattle.std.specs.Prelude.{◌≡◌, ℕ, ◌+◌, ◌*◌, ◌/◌, ◌%◌, ◌<◌, ◌≤◌, Bool, IfOk, List, length, slice_index_or};
+ghost use Rattle.std.specs.Prelude.{◌≡◌, ℕ, ◌+◌, ◌*◌, ◌/◌, ◌%◌, ◌<◌, ◌≤◌, Bool, IfOk, List, length};
 ghost use Rattle.grid_moves.specs.Bits.{is_set};
 ghost use Rattle.bit_grid.specs.Turn.{AreWordsTo, AreBytesTo, IsStrip, IsWhole, ArePackedSoFar};
 

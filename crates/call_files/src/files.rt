@@ -1,6 +1,6 @@
 //! The texts that files hold, and what is made of maps.
 
-ghost use Rattle.std.specs.Prelude.{true, false, ◌≡◌, ◌≤◌, ℕ, List, [], ◌∷◌, Ok, IfOk, length};
+ghost use Rattle.std.specs.Prelude.{true, ◌≡◌, ◌≤◌, ℕ, List, [], ◌∷◌, Ok, IfOk, length};
 ghost use Rattle.io_edge.specs.Causes.{NoneFell};
 ghost use Rattle.io_edge.specs.Whole.{IsWhole, IsLonger};
 ghost use Rattle.call_files.specs.FaultLines.{long_line as line_of_long};

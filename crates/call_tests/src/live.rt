@@ -1,8 +1,6 @@
 //! The command `live`: each failing read in turn, inputs in pieces, and the order of reads and writes.
 
-ghost use Rattle.std.specs.Prelude.{◌≤◌, length, None};
-ghost use Rattle.std.specs.Io.KnownBytes.{ReadConsumes, WriteAppends};
-ghost use Rattle.io_edge.specs.Causes.{HasCause};
+ghost use Rattle.std.specs.Prelude.{◌≤◌, None};
 
 use crate::calls::{
     CROSSING, Call, ENGINES, RULES, check, check_with, compare, numbers, on_map, status_of, stream,

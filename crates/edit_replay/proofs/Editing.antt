@@ -1,11 +1,10 @@
 -- What an edit does to a session: outside the map, where the cell is already as asked, and where it changes.
-use Rattle.std.proofs.Common.{◌≡◌, ℕ, Bool, arith, true, false, refl, ap, sym, ◌∙◌, subst}
+use Rattle.std.proofs.Common.{◌≡◌, ℕ, Bool, arith, true, false, refl, ap, sym, ◌∙◌}
 use Rattle.std.specs.Prelude.{if◌then◌else◌}
 use Rattle.grid_moves.specs.Grid.{is_ground}
 use Rattle.grid_moves.specs.Layers.{AreLayers, Layers, is_on_map, ground_at, layers_with}
 use Rattle.edit_replay.specs.declared.engine.Engine.{Engine}
 use Rattle.edit_replay.specs.declared.engine.Engine.TheVariants.{Plain, Jps, Block, Plus}
-use Rattle.edit_replay.specs.declared.reply.EditReply.{EditReply}
 use Rattle.edit_replay.specs.declared.reply.EditReply.TheVariants.{Outside, Same, Done}
 use Rattle.edit_replay.specs.Edited.{Edit, edit_reply}
 use Rattle.edit_replay.specs.Editing.{HasEdited}
@@ -37,22 +36,22 @@ module _ (d : SessionData) (e : Edit) (are : AreLayers d.layers) where
   pub edits_outside : (n : ℕ) → is_on_map d.layers e.cell ≡ false → HasEdited d e Outside d n n
   edits_outside n off = record {
     reply = sym (reply_by false _ off refl);
-    adds = adds_outside d.layers e are off;
-    so = (off, refl);
+    edited = adds_outside d.layers e are off;
+    cell = (off, refl);
     engine = refl;
     counted = none_counted d.engine d.layers n;
-    uncounted = λ differs. refl;
+    unchanged = λ differs. refl;
   }
 
   module _ (on : is_on_map d.layers e.cell ≡ true) where
     pub edits_same : (n : ℕ) → is_ground (ground_at d.layers e.cell) e.to ≡ true → HasEdited d e Same d n n
     edits_same n asked = record {
       reply = sym (reply_by true true on asked);
-      adds = adds_same d.layers e are on asked;
-      so = (on, asked, refl);
+      edited = adds_same d.layers e are on asked;
+      cell = (on, asked, refl);
       engine = refl;
       counted = none_counted d.engine d.layers n;
-      uncounted = λ differs. refl;
+      unchanged = λ differs. refl;
     }
 
     pub edits_done : (new : SessionData) (n m : ℕ) → is_ground (ground_at d.layers e.cell) e.to ≡ false
@@ -60,9 +59,9 @@ module _ (d : SessionData) (e : Edit) (are : AreLayers d.layers) where
         → IsEditCounted d.engine d.layers new.layers n m → HasEdited d e Done new n m
     edits_done new n m asked changed engine counted = record {
       reply = sym (reply_by true false on asked);
-      adds = adds_done d.layers new.layers e are on changed;
-      so = (on, asked, changed);
+      edited = adds_done d.layers new.layers e are on changed;
+      cell = (on, asked, changed);
       engine = engine;
       counted = counted;
-      uncounted = λ differs. absurd (differs refl);
+      unchanged = λ differs. absurd (differs refl);
     }

@@ -1,14 +1,13 @@
 -- What is kept beside the grids follows an edit.
-use Rattle.std.proofs.Common.{◌≡◌, ◌≢◌, refl, true, false, ℕ, ◌+◌, ◌*◌, ◌≤◌, Bool, arith, ap, sym, ◌∙◌, subst}
+use Rattle.std.proofs.Common.{◌≡◌, ◌≢◌, refl, true, false, ℕ, ◌+◌, ◌*◌, ◌≤◌, Bool, arith, ap, sym, ◌∙◌}
 use Rattle.std.specs.Prelude.{if◌then◌else◌}
 use Rattle.best_first.specs.Space.{SpaceData}
 use Rattle.bit_grid.specs.Bits.{AreBitsOf, BitData}
 use Rattle.grid_moves.specs.declared.Cell.{Cell}
 use Rattle.grid_moves.specs.Grid.{GridData, grid_with, is_free, is_inside}
-use Rattle.grid_moves.specs.Layers.{AreLayers, Layers, is_on_map}
+use Rattle.grid_moves.specs.Layers.{Layers}
 use Rattle.plus_tables.specs.Tables.{TablesData, AreTablesOf, IsWhole}
 use Rattle.table_repair.specs.Counted.{places_differing}
-use Rattle.search_core.specs.Jumping.{HasPlaces}
 use Rattle.edit_replay.specs.Kept.{IsFinderOf, IsFinderOn, Serves, engine_of}
 use Rattle.edit_replay.proofs.Edits.{set_back}
 use Rattle.edit_replay.specs.Mended.{AreMended, IsEditCounted, MendsWithin, repaired}
@@ -17,10 +16,6 @@ use Rattle.edit_replay.specs.declared.kept.Finder.{Finder}
 use Rattle.edit_replay.specs.declared.kept.Finder.TheVariants.{Cells, Bits, Tables}
 use Rattle.edit_replay.specs.declared.kept.Kept.{Kept}
 use Rattle.edit_replay.specs.declared.kept.Kept.TheVariants.{Jumps}
-
--- a cell of the map lies inside both grids
-pub on_water : (ls : Layers) (c : Cell) → AreLayers ls → is_on_map ls c ≡ true → is_inside ls.water c ≡ true
-on_water ls c layers inside = rw (layers.width, layers.height) inside
 
 -- where jumps are found by bits, these are the grids'
 pub found_by_bits : (ls : Layers) (kept : Kept) (finder : Finder) (bits : Both BitData)
@@ -65,15 +60,3 @@ pub before_edit : (g : GridData) {h : GridData} (c : Cell) (free was : Bool) →
     → was ≡ is_free g c → h ≡ grid_with g c free → grid_with h c was ≡ g
 before_edit g c free was inside e f =
     ap (λ (k : GridData). grid_with k c was) f ∙ set_back g c free was inside (sym e)
-
--- there are places for it still
-pub places_stay : (g : GridData) {h : GridData} (c : Cell) (b : Bool) {space : SpaceData}
-    → h ≡ grid_with g c b → HasPlaces g space → HasPlaces h space
-places_stay g c b {space = space} e p =
-    subst (λ (h : GridData). HasPlaces h space) (sym e) (record { enough = p.enough })
-
-pub no_less : (n : ℕ) → n ≤ n
-no_less n = omega arith
-
-pub later_on : (a b c : ℕ) → a ≤ b → b ≤ c → a ≤ c
-later_on a b c e f = omega arith

@@ -11,8 +11,8 @@ use Rattle.edit_replay.specs.Session.{SessionData}
 pub record HasEdited (old : SessionData) (edit : Edit) (answer : EditReply) (new : SessionData)
     (before after : ℕ) : Type 0 where
   pub reply : answer ≡ edit_reply old.layers edit
-  pub adds : AddsEdit old.layers edit new.layers
-  pub so : EditsSo old.layers edit.cell edit.to new.layers answer
+  pub edited : AddsEdit old.layers edit new.layers
+  pub cell : EditsSo old.layers edit.cell edit.to new.layers answer
   pub engine : new.engine ≡ old.engine
   pub counted : IsEditCounted old.engine old.layers new.layers before after
-  pub uncounted : answer ≢ Done → after ≡ before
+  pub unchanged : answer ≢ Done → after ≡ before

@@ -1,4 +1,4 @@
--- What a session keeps for its searches.
+-- What a session keeps for its searches. No public clause cites this module.
 use Rattle.std.specs.Prelude.{⊤, Bool, if◌then◌else◌}
 use Rattle.best_first.specs.declared.state.Layout.{Layout}
 use Rattle.grid_moves.specs.Grid.{GridData}
@@ -14,6 +14,7 @@ use Rattle.edit_replay.specs.declared.kept.Kept.TheVariants as kept
 use Rattle.edit_replay.specs.declared.engine.Engine.{Engine}
 use Rattle.edit_replay.specs.declared.engine.Engine.TheVariants.{Plain, Jps, Block, Plus}
 use Rattle.edit_replay.specs.declared.parts.Parts.{Parts}
+use Rattle.edit_replay.specs.Session.{SessionData}
 
 -- the engine that finds its jumps so, with these states
 abbrev pub engine_with : Finder → Layout → Engine
@@ -47,3 +48,7 @@ Serves ls (kept.Jumps finder space) = HasPlaces ls.land space × IsFinderOf ls f
 pub record AreKept (parts : Parts) : Type 0 where
   pub layers : AreLayers parts.layers
   pub serves : Serves parts.layers parts.kept
+
+-- the parts of a session stand for this
+abbrev pub stands_for : Parts → SessionData
+stands_for parts = record { engine = engine_of parts.kept; layers = parts.layers }

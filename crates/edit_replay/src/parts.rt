@@ -8,11 +8,10 @@ ghost use Rattle.plus_tables.specs.Tables.{AreTablesOf};
 ghost use Rattle.edit_replay.specs.Counting.{RoseByStates, RoseWithin, fewest_of, most_of};
 ghost use Rattle.edit_replay.specs.Edited.{edit_at};
 ghost use Rattle.edit_replay.specs.Editing.{HasEdited};
-ghost use Rattle.edit_replay.specs.Kept.{AreKept, engine_of};
+ghost use Rattle.edit_replay.specs.Kept.{AreKept, engine_of, stands_for};
 ghost use Rattle.edit_replay.specs.Mended.{IsEditCounted, MendsWithin};
 ghost use Rattle.edit_replay.specs.ReplyOf.{reply_of};
 ghost use Rattle.edit_replay.specs.Replies.{IsRightOn, IsRunOn, IsRunReply, IsShort, answer_of};
-ghost use Rattle.edit_replay.specs.Session.{stands_for};
 
 use crate::kept::{Finder, Kept};
 use crate::search::{jump, search_plainly};
@@ -31,8 +30,8 @@ pub(crate) struct Parts {
     pub kept: Kept,
 }
 
-// Makes the tables those of a grid of which one cell was free, or not, when they were right. Where it is so
-// still, nothing is done.
+// Makes tables those of the grid, which were right when this cell was free, or was not (`was`). Where it is as it
+// was, nothing is done.
 fn mend<L: Ledger>(tables: &mut Tables, grid: &Grid, c: Cell, was: bool, steps: &mut Steps<L>)
     requires whole { IsGrid grid.now }
     requires inside { is_inside grid.now c ≡ true }
@@ -82,7 +81,7 @@ impl Parts {
         }
     }
 
-    /// Makes the cell of this column and row blocked, land or water, where it lies on the map and is not so.
+    /// Makes the cell of this column and row blocked, land or water, where it lies on the map and is not so already.
     pub(crate) fn edit<L: Ledger>(
         &mut self,
         x: u32,

@@ -30,8 +30,8 @@ pub struct Session {
 }
 
 impl Model for Session {
-    ghost use Rattle.edit_replay.specs.Kept.{AreKept};
-    ghost use Rattle.edit_replay.specs.Session.{SessionData, stands_for};
+    ghost use Rattle.edit_replay.specs.Kept.{AreKept, stands_for};
+    ghost use Rattle.edit_replay.specs.Session.{SessionData};
 
     ghost Value = { SessionData };
 

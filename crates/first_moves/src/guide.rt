@@ -3,11 +3,9 @@
 //! Moves are symmetric, so a pass from the goal tells what the goal costs from each cell. A legal move begins
 //! a least walk exactly where the goal costs less from the cell ahead, by what the move costs.
 
-ghost use Rattle.std.specs.Prelude.{◌≡◌, ◌+◌, ◌<◌, ◌^◌, [], ◌∷◌, ℕ, true, IfSome};
-ghost use Rattle.cost_waves.specs.Stored.{cost_at};
+ghost use Rattle.std.specs.Prelude.{◌≡◌, ◌+◌, ◌<◌, true, IfSome};
 ghost use Rattle.grid_moves.specs.declared.Cell.{Cell};
 ghost use Rattle.grid_moves.specs.Grid.{GridData, is_inside};
-ghost use Rattle.grid_moves.specs.Move.{all_dirs};
 ghost use Rattle.std.specs.List.{find};
 ghost use Rattle.first_moves.specs.Follow.{IsNext};
 ghost use Rattle.first_moves.specs.Inward as spec;

@@ -1,11 +1,11 @@
 //! The first moves between all cells of a map.
 
-ghost use Rattle.std.specs.Prelude.{◌≡◌, ◌+◌, ◌*◌, ◌<◌, ◌≤◌, ℕ, true, List, length, slice_get, Some, IfOk};
+ghost use Rattle.std.specs.Prelude.{◌≡◌, ◌+◌, ◌*◌, ◌<◌, ◌≤◌, length, slice_get, Some, IfOk};
 ghost use Rattle.grid_moves.specs.declared.Cell.{Cell};
-ghost use Rattle.grid_moves.specs.Grid.{AreSides, GridData, is_inside};
+ghost use Rattle.grid_moves.specs.Grid.{AreSides, GridData};
 ghost use Rattle.first_moves.specs.First.{IsFirstMove};
 ghost use Rattle.first_moves.specs.Follow.{IsNext};
-ghost use Rattle.first_moves.specs.Row.{IsRow, AreMoves, row_at};
+ghost use Rattle.first_moves.specs.Row.{AreMoves, row_at};
 ghost use Rattle.first_moves.specs.Kept.{AreRows};
 
 use crate::NoMemory;

@@ -18,7 +18,7 @@ use Rattle.plain_search.specs.Rule.{plain_step, is_led}
 use Rattle.plain_search.proofs.Dropping.{LeadsTo, leads}
 use Rattle.plain_search.proofs.Moving.{IsLinked}
 use Rattle.plain_search.proofs.Offering.{open_linked, led_ahead}
-use Rattle.plain_search.proofs.Posed.{IsAsked, free_near}
+use Rattle.plain_search.proofs.Posed.{IsAsked}
 use Rattle.plain_search.proofs.Walks.{AreMoves, IsMove, link_move, plain_are_links}
 use Rattle.grid_moves.proofs.Dirs.{In, first, later, in_all}
 use Rattle.goal_boxes.specs.Box.{BoxTeller}
@@ -121,6 +121,6 @@ boxed_asked g b s t whole from to =
       are = boxed_are_moves g b t;
       whole = whole;
       from = from;
-      to = free_near g t to;
+      to = to;
       printed = λ p u. refl;
     }

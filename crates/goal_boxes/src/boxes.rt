@@ -1,7 +1,7 @@
 //! The boxes of all cells of a grid.
 
-ghost use Rattle.std.specs.Prelude.{◌≡◌, ◌+◌, ◌*◌, ◌<◌, true, length, IfOk, OnOk};
-ghost use Rattle.grid_moves.specs.Grid.{AreSides, IsGrid, is_free};
+ghost use Rattle.std.specs.Prelude.{◌≡◌, ◌+◌, ◌*◌, ◌<◌, length, IfOk, OnOk};
+ghost use Rattle.grid_moves.specs.Grid.{AreSides, IsGrid};
 ghost use Rattle.goal_boxes.specs.Box.{AreBoxes};
 ghost use Rattle.goal_boxes.specs.Stored.{box_at, boxes_at, HoldsBoxes, AreBefore};
 

@@ -1,10 +1,9 @@
 //! The offers of a taken state: its legal moves whose boxes hold the goal.
 
-ghost use Rattle.std.specs.Prelude.{◌≡◌, ◌+◌, ◌<◌, ◌≤◌, ◌^◌, ◌∷◌, [], true, length, slice_get, Some};
+ghost use Rattle.std.specs.Prelude.{◌≡◌, ◌+◌, ◌<◌, ◌≤◌, ◌^◌, length, slice_get, Some};
 ghost use Rattle.best_first.specs.Space.{IsPlaced, KeepsShape};
 ghost use Rattle.best_first.specs.Table.{node_for, ClosedBelow};
 ghost use Rattle.best_first.specs.Trace.{node_cell};
-ghost use Rattle.grid_moves.specs.Move.{all_dirs};
 ghost use Rattle.plain_search.specs.Offers.{offer_to};
 ghost use Rattle.goal_boxes.specs.Box.{box_in};
 ghost use Rattle.goal_boxes.specs.Offers.{Agree, toward, offered_over, all_offered, MayOffer, MayExpand, HasExpanded};

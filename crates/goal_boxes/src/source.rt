@@ -1,6 +1,6 @@
 //! Where the boxes of a taken cell come from: they are kept, or a pass from the cell finds them.
 
-ghost use Rattle.std.specs.Prelude.{◌≡◌, ◌+◌, ◌≤◌, Option, None, true, IfOk};
+ghost use Rattle.std.specs.Prelude.{◌≡◌, ◌+◌, ◌≤◌, None, true, IfOk};
 ghost use Rattle.goal_boxes.specs.Box.{BoxTeller, AreBoxes};
 ghost use Rattle.goal_boxes.specs.Stored.{HoldsBoxes};
 ghost use Rattle.grid_moves.specs.Grid.{GridData, is_free};

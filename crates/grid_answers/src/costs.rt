@@ -2,7 +2,7 @@
 
 ghost use Rattle.std.specs.Prelude.{◌≡◌, ◌++◌, ◌-◌, true, IfOk, OnOk, None};
 ghost use Rattle.std.specs.List.{range_with_len};
-ghost use Rattle.grid_moves.specs.Layers.{is_free_ground, is_on_map};
+ghost use Rattle.grid_moves.specs.Layers.{is_free_ground};
 ghost use Rattle.grid_answers.specs.Distances as spec;
 ghost use Rattle.grid_answers.specs.OfCell.{why_untold};
 ghost use Rattle.line_work.specs.Sending.{SendsWhole};

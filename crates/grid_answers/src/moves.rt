@@ -1,7 +1,7 @@
 //! The lines of the first moves from one cell, in runs.
 
 ghost use Rattle.std.specs.Prelude.{◌≡◌, ◌≤◌, ◌*◌, ◌<◌, ◌++◌, true, IfOk, OnOk, None};
-ghost use Rattle.grid_moves.specs.Layers.{is_free_ground, query_grid};
+ghost use Rattle.grid_moves.specs.Layers.{is_free_ground};
 ghost use Rattle.grid_answers.specs.OfCell.{why_untold};
 ghost use Rattle.grid_answers.specs.RunLines as spec;
 

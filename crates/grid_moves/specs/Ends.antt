@@ -30,7 +30,8 @@ IsUnsearched ls s t Outside = (is_on_map ls s && is_on_map ls t) ≡ false
 IsUnsearched ls s t Blocked = ((is_on_map ls s && is_on_map ls t) ≡ true) × (are_free_ends ls s t ≡ false)
 IsUnsearched ls s t (Apart ends) = AreApart ls s t ends
 
--- worked rows on the map `.WW/.WW`: along its land, from its land to its water, onto a block, and outside
+-- worked rows on the map `.WW/.WW`: along its land, from its land to its water, onto a block, outside, and from
+-- outside onto a block
 abbrev pub land_and_water : Ends
 land_and_water = record { from = record { x = 0; y = 0 }; to = record { x = 1; y = 1 } }
 
@@ -47,3 +48,7 @@ onto_a_block = (refl, refl)
 
 pub off_the_map : IsUnsearched shore (record { x = 0; y = 2 }) (record { x = 1; y = 1 }) Outside
 off_the_map = refl
+
+pub off_the_map_onto_a_block : IsUnsearched (layers_with shore (record { x = 1; y = 1 }) ground.Blocked)
+    (record { x = 0; y = 2 }) (record { x = 1; y = 1 }) Outside
+off_the_map_onto_a_block = refl

@@ -1,6 +1,6 @@
 //! A grid in memory.
 
-ghost use Rattle.std.specs.Prelude.{◌≡◌, ◌≢◌, ℕ, suc, ◌+◌, ◌*◌, ◌<◌, ◌≤◌, IfOk, IsTrue, false, length, replicate, slice_index_or};
+ghost use Rattle.std.specs.Prelude.{◌≡◌, ◌≢◌, ℕ, suc, ◌+◌, ◌*◌, ◌<◌, IfOk, IsTrue, false, length, replicate, slice_index_or};
 ghost use Rattle.grid_moves.specs.Grid as spec;
 ghost use Rattle.grid_moves.specs.Padded as padded;
 

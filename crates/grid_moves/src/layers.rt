@@ -133,7 +133,7 @@ impl Layers {
         }
     }
 
-    /// Makes a cell of the map blocked, land or water.
+    /// Makes a cell of the map blocked, land or water, in both grids. All other cells stay.
     pub fn set(&mut self, c: Cell, to: Ground)
         requires { spec.is_on_map self.old c ≡ true }
         ensures { self.new ≡ spec.layers_with self.old c to }

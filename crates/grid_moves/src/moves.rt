@@ -1,6 +1,6 @@
 //! Directions, what lies ahead of a cell and behind it, and costs of moves.
 
-ghost use Rattle.std.specs.Prelude.{◌≡◌, ◌<◌, ◌≤◌, unwrap_or};
+ghost use Rattle.std.specs.Prelude.{◌≡◌, ◌<◌, unwrap_or};
 ghost use Rattle.grid_moves.specs.Move as spec;
 ghost use Rattle.grid_moves.specs.Points as points;
 ghost use Rattle.grid_moves.specs.Around.{IsBefore};

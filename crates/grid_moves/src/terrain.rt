@@ -1,6 +1,6 @@
 //! What a search asks of a grid, and the legal moves on it.
 
-ghost use Rattle.std.specs.Prelude.{◌≡◌, ℕ, ◌+◌, ◌*◌, ◌<◌, ◌≤◌, Some, IfSome, false, true, length, slice_index_or};
+ghost use Rattle.std.specs.Prelude.{◌≡◌, ℕ, ◌+◌, ◌*◌, ◌<◌, Some, IfSome, false, true, length, slice_index_or};
 ghost use Rattle.grid_moves.specs.Bits.{is_set};
 ghost use Rattle.grid_moves.specs.Grid as grids;
 ghost use Rattle.grid_moves.specs.Grid.{GridData, IsGrid, is_free, cell_number};

@@ -1,6 +1,6 @@
 //! Blocks of 512 places, searched word by word, or passed whole.
 
-ghost use Rattle.std.specs.Prelude.{◌≡◌, ℕ, ◌+◌, ◌*◌, ◌-◌, ◌/◌, ◌<◌, ◌≤◌, Bool, false, true, is_some, IfSome, length};
+ghost use Rattle.std.specs.Prelude.{◌≡◌, ℕ, ◌+◌, ◌*◌, ◌-◌, ◌/◌, ◌<◌, ◌≤◌, Bool, false, true, is_some, IfSome};
 ghost use Rattle.bit_grid.specs.Bits.{Shows};
 ghost use Rattle.jump_block.specs.Trail as trails;
 ghost use Rattle.jump_block.specs.Trail.{Trail, IsClear, begun, trail_on};

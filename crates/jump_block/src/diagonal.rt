@@ -1,6 +1,6 @@
 //! Diagonal jumps: cell by cell, with a scan in each component from each cell.
 
-ghost use Rattle.std.specs.Prelude.{◌≡◌, ℕ, ◌+◌, ◌<◌, ◌≤◌, ◌&&◌, ◌||◌, Bool, false, true, nat_eq};
+ghost use Rattle.std.specs.Prelude.{◌≡◌, ◌+◌, ◌<◌, ◌≤◌, ◌&&◌, ◌||◌, false, true, nat_eq};
 ghost use Rattle.grid_moves.specs.Grid.{GridData};
 ghost use Rattle.grid_moves.specs.Move as moves;
 ghost use Rattle.pruning.specs.Turns.{is_diagonal};

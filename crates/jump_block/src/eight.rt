@@ -5,7 +5,7 @@
 //! asked of all words together, with no exit between them: a few vector instructions for each two words. Any
 //! other block is searched word by word.
 
-ghost use Rattle.std.specs.Prelude.{◌≡◌, ℕ, ◌<◌, Bool, true, length, not, slice_index_or};
+ghost use Rattle.std.specs.Prelude.{◌≡◌, true, length};
 ghost use Rattle.grid_moves.specs.Bits.{is_set};
 ghost use Rattle.jump_block.specs.Eight.{HasNone, IsAllAs, last_bit};
 

@@ -1,6 +1,6 @@
 //! The words around a cell: what a scan from it asks that is short, and what a move on from it asks.
 
-ghost use Rattle.std.specs.Prelude.{◌≡◌, ℕ, ◌+◌, ◌*◌, ◌/◌, ◌<◌, ◌≤◌, ◌&&◌, Bool, true, IfSome};
+ghost use Rattle.std.specs.Prelude.{◌≡◌, ℕ, ◌+◌, ◌*◌, ◌/◌, ◌<◌, ◌&&◌, Bool, true};
 ghost use Rattle.grid_moves.specs.Move as moves;
 ghost use Rattle.grid_moves.specs.Bits.{is_set};
 ghost use Rattle.bit_grid.specs.Bits.{Shows};

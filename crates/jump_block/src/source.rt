@@ -1,6 +1,6 @@
 //! Bits of a grid as a source of jumps.
 
-ghost use Rattle.std.specs.Prelude.{◌≡◌, ℕ, ◌+◌, ◌≤◌, false, true, IsTrue, None};
+ghost use Rattle.std.specs.Prelude.{◌≡◌, ◌+◌, ◌≤◌, false, true, IsTrue, None};
 ghost use Rattle.grid_moves.specs.Grid.{GridData, is_free};
 ghost use Rattle.pruning.specs.Allowed.{allowed_dirs};
 ghost use Rattle.pruning.specs.First as first;

@@ -1,6 +1,6 @@
 //! Straight jumps: a scan along a row or a column, and the first stop that follows from where it halts.
 
-ghost use Rattle.std.specs.Prelude.{◌≡◌, ℕ, ◌+◌, ◌≤◌, Bool, false, true};
+ghost use Rattle.std.specs.Prelude.{◌≡◌, ℕ, ◌+◌, ◌≤◌, Bool, false};
 ghost use Rattle.pruning.specs.Turns.{is_diagonal};
 ghost use Rattle.grid_moves.specs.Ruled as ruled;
 ghost use Rattle.jump_block.specs.Scan.{IsStart};

@@ -13,11 +13,10 @@
 //!
 //! Both sides are kept in one byte, so that one test tells whether any of them opens.
 
-ghost use Rattle.std.specs.Prelude.{◌≡◌, ◌+◌, ◌-◌, ◌≤◌, ◌&&◌, false, true};
+ghost use Rattle.std.specs.Prelude.{◌≡◌, ◌+◌, ◌-◌, ◌&&◌, false, true};
 ghost use Rattle.grid_moves.specs.Grid.{IsGrid, is_free};
 ghost use Rattle.grid_moves.specs.Move.{may_slip};
 ghost use Rattle.pruning.specs.Turns.{is_diagonal};
-ghost use Rattle.pruning.specs.First.{run_length};
 ghost use Rattle.jump_plain.specs.Beside as besides;
 ghost use Rattle.jump_plain.specs.Reach as spec;
 

@@ -1,6 +1,6 @@
 //! The heap of all open nodes: nodes enter it, are lowered in it and leave it.
 
-ghost use Rattle.std.specs.Prelude.{◌≡◌, ◌≢◌, ℕ, ◌<◌, ◌≤◌, ◌+◌, length, map, slice_get, slice_set, false, Some};
+ghost use Rattle.std.specs.Prelude.{◌≡◌, ◌<◌, ◌≤◌, ◌+◌, length, map, slice_get, slice_set, false};
 ghost use Rattle.std.specs.Option.{ForSome};
 ghost use Rattle.open_list.specs.Entry.{is_open, nodes_of, KeepsNodes};
 ghost use Rattle.open_list.specs.Heaps.{HaveOpen, IsHeap, AreBeside, open_count};

@@ -1,7 +1,7 @@
 //! Moves of one heap among the lists of heaps that the links make.
 
-ghost use Rattle.std.specs.Prelude.{◌≡◌, ◌≢◌, ℕ, ◌<◌, ◌≤◌, ◌+◌, length, map, slice_get};
-ghost use Rattle.open_list.specs.Entry.{changed, next_of, prev_of, adopted, detached, is_open, list_len, KeepsNodes};
+ghost use Rattle.std.specs.Prelude.{◌≡◌, ◌≢◌, ◌<◌, ◌+◌, length, map, slice_get};
+ghost use Rattle.open_list.specs.Entry.{next_of, prev_of, adopted, is_open};
 ghost use Rattle.open_list.specs.Heaps.{HaveOpen, IsHeap, IsJoined, IsShifted, IsDetached, open_count};
 
 use crate::Ranked;

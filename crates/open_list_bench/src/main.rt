@@ -8,7 +8,7 @@
 //! Words: how many rounds (1), and how many offers a turn makes (8).
 #![tactic(auto)]
 
-ghost use Rattle.std.specs.Prelude.{◌≡◌, ◌^◌, ◌+◌, ◌<◌, ◌≤◌, Bool, length, OnOk};
+ghost use Rattle.std.specs.Prelude.{◌≡◌, ◌+◌, ◌<◌, ◌≤◌};
 ghost use Rattle.open_list_bench.specs.Before.{is_before, is_before-order};
 
 use open_list::{NoMemory, Pool, Ranked, Steps};

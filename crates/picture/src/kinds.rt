@@ -1,7 +1,6 @@
 //! The grounds that are drawn in strokes.
 
 ghost use Rattle.std.specs.Prelude.{◌≡◌, ◌||◌, ◌==◌, ℕ};
-ghost use Rattle.std.specs.List.{list_any};
 ghost use Rattle.picture.specs.Grounds as spec;
 
 /// A ground that is drawn in strokes. What is left, `.` and `G`, is the background.

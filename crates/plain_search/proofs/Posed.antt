@@ -17,24 +17,18 @@ use Rattle.best_first.specs.Space.{SpaceData, IsPlaced}
 use Rattle.best_first.specs.State.{start_at}
 use Rattle.best_first.specs.Rule.{IsPosed, IsSearch, Links, search_rule}
 use Rattle.best_first.proofs.Bounds.{few_taken}
-use Rattle.best_first.proofs.Links.{on_near}
-use Rattle.plain_search.specs.Room.{IsNear}
 use Rattle.plain_search.specs.Rule.{plain_links}
 use Rattle.plain_search.proofs.Walks.{AreMoves, plain_are_moves}
 
--- a free cell lies near the map
-pub free_near : (g : GridData) (c : Cell) → is_free g c ≡ true → IsNear g c
-free_near g c f = on_near g.width g.height c (free_inside g c f)
-
--- a search over links that are moves is asked for on a grid, from a free cell to one on it or just beyond
+-- a search over links that are moves is asked for on a grid, from one free cell to another
 pub record IsAsked (g : GridData) (s t : Cell) (link : Links) : Type 0 where
   pub are : AreMoves g link
   pub whole : IsGrid g
   pub from : is_free g s ≡ true
-  pub to : IsNear g t
+  pub to : is_free g t ≡ true
   pub printed : (p u : State) → link.arrived p u ≡ u
 
-pub plain_asked : (g : GridData) (s t : Cell) → IsGrid g → is_free g s ≡ true → IsNear g t
+pub plain_asked : (g : GridData) (s t : Cell) → IsGrid g → is_free g s ≡ true → is_free g t ≡ true
     → IsAsked g s t (plain_links g)
 plain_asked g s t whole from to =
     record { are = plain_are_moves g; whole = whole; from = from; to = to; printed = λ p u. refl }

@@ -4,7 +4,7 @@
 //! whose least cost and estimate are together below the least cost: each of them was taken. A node
 //! has the rank of its cost alone, and the rank tells the cost.
 
-ghost use Rattle.std.specs.Prelude.{◌≡◌, ◌<◌, ◌≤◌, ◌*◌, IfOk, length, map};
+ghost use Rattle.std.specs.Prelude.{◌≡◌, ◌<◌, ◌≤◌, ◌*◌, IfOk, map};
 ghost use Rattle.root2_cost.specs.Rank.{cost_of_rank};
 ghost use Rattle.best_first.specs.State.{cell_of_number};
 ghost use Rattle.best_first.specs.Trace.{rank_left};

@@ -2,15 +2,13 @@
 //!
 //! A state is taken by the least sum of its cost and the octile distance to the goal; among equal sums
 //! the one of the lesser cell number goes first, and of equal offers to a cell the earlier one stands.
-//! The search ends where the goal is taken, or where no state waits. The start has to be free, and `least`
-//! and `least_in` ask it of the goal too. Another goal may lie just beyond the map: then it is never met, and
-//! every state is taken to which moves lead. Moves that the parent has offered at no greater cost are left
-//! out (module `moves`), which changes nothing in the run.
+//! The search ends where the goal is taken, or where no state waits. Both have to be free. Moves that the parent
+//! has offered at no greater cost are left out (module `moves`), which changes nothing in the run.
 //!
 //! A* after Hart, Nilsson and Raphael (1968); the order of ties is this project's. The machine under it is
 //! `best_first`.
 
-ghost use Rattle.std.specs.Prelude.{◌≡◌, ◌+◌, ◌*◌, ◌<◌, ◌++◌, ◌∷◌, [], true, false, length, IfOk, OnOk, OnErr, IfSome, slice_get, Some};
+ghost use Rattle.std.specs.Prelude.{◌≡◌, ◌+◌, ◌<◌, [], true, false, length, IfOk, OnOk, IfSome, slice_get, Some};
 ghost use Rattle.grid_moves.specs.Grid.{IsGrid, is_free};
 ghost use Rattle.grid_moves.specs.Move.{is_same};
 ghost use Rattle.grid_moves.specs.Ruled.{rule_of_number};
@@ -20,7 +18,7 @@ ghost use Rattle.best_first.specs.State.{state_number, start_at};
 ghost use Rattle.best_first.specs.Trace.{node_cell};
 ghost use Rattle.plain_search.specs.Lists.{AreLists, plain_of};
 ghost use Rattle.plain_search.specs.Progress.{HasTaken, GoesOn, HasEnded};
-ghost use Rattle.plain_search.specs.Room.{HasRoom, IsNear, IsReady};
+ghost use Rattle.plain_search.specs.Room.{HasRoom, IsReady};
 
 use crate::lists::{Listed, closed_cells, reached_cells};
 use crate::offers::offer_all;
@@ -50,7 +48,7 @@ fn begin<T: Terrain, L: Ledger>(
     steps: &mut Steps<L>,
 ) -> Result<(), NoMemory>
     requires from { is_free (T.grid t.now) ends.from ≡ true }
-    requires to { IsNear (T.grid t.now) ends.to }
+    requires to { is_free (T.grid t.now) ends.to ≡ true }
     requires layout { space.old.layout ≡ Layout.ByCell }
     requires room { HasRoom (T.grid t.now) space.old.places }
     requires none { taken.old ≡ [] }
@@ -74,7 +72,7 @@ fn advance<T: Terrain, L: Ledger>(
     steps: &mut Steps<L>,
 ) -> Result<Option<u32>, NoMemory>
     requires free { is_free (T.grid t.now) ends.from ≡ true }
-    requires to { IsNear (T.grid t.now) ends.to }
+    requires to { is_free (T.grid t.now) ends.to ≡ true }
     requires whole { IsGrid (T.grid t.now) }
     requires ready { IsReady (T.grid t.now) space.old }
     requires taken { HasTaken (T.grid t.now) ends.from ends.to at space.old.table taken.old }
@@ -106,7 +104,7 @@ fn found<T: Terrain>(
 ) -> Result<Found, NoMemory>
     requires whole { IsGrid (T.grid t.now) }
     requires from { is_free (T.grid t.now) ends.from ≡ true }
-    requires to { IsNear (T.grid t.now) ends.to }
+    requires to { is_free (T.grid t.now) ends.to ≡ true }
     requires taken { HasTaken (T.grid t.now) ends.from ends.to at space.now.table taken }
     requires goal { (n : _) → slice_get space.now.table.nodes at ≡ Some n → node_cell n ≡ ends.to }
     ensures run { IfOk result (IsPlainRun (T.grid t.now) ends.from ends.to) }
@@ -142,7 +140,7 @@ fn take_all<T: Terrain, L: Ledger>(
     steps: &mut Steps<L>,
 ) -> Result<Option<u32>, NoMemory>
     requires from { is_free (T.grid t.now) ends.from ≡ true }
-    requires to { IsNear (T.grid t.now) ends.to }
+    requires to { is_free (T.grid t.now) ends.to ≡ true }
     requires layout { space.old.layout ≡ Layout.ByCell }
     requires room { HasRoom (T.grid t.now) space.old.places }
     requires none { taken.old ≡ [] }
@@ -172,7 +170,7 @@ fn take_all_by<const RULE: usize, T: Terrain, L: Ledger>(
 ) -> Result<Option<u32>, NoMemory>
     requires rule { (T.grid t.now).corner ≡ rule_of_number RULE }
     requires from { is_free (T.grid t.now) ends.from ≡ true }
-    requires to { IsNear (T.grid t.now) ends.to }
+    requires to { is_free (T.grid t.now) ends.to ≡ true }
     requires layout { space.old.layout ≡ Layout.ByCell }
     requires room { HasRoom (T.grid t.now) space.old.places }
     requires none { taken.old ≡ [] }
@@ -198,7 +196,7 @@ pub(crate) fn take_counted<T: Terrain, L: Ledger>(
     requires parts { blank.parts ≡ L.parts }
     requires some { 0 < L.parts }
     requires from { is_free (T.grid t.now) ends.from ≡ true }
-    requires to { IsNear (T.grid t.now) ends.to }
+    requires to { is_free (T.grid t.now) ends.to ≡ true }
     requires layout { space.old.layout ≡ Layout.ByCell }
     requires room { HasRoom (T.grid t.now) space.old.places }
     requires none { taken.old ≡ [] }
@@ -253,7 +251,7 @@ fn found_listed<T: Terrain>(
 ) -> Result<Listed, NoMemory>
     requires whole { IsGrid (T.grid t.now) }
     requires from { is_free (T.grid t.now) ends.from ≡ true }
-    requires to { IsNear (T.grid t.now) ends.to }
+    requires to { is_free (T.grid t.now) ends.to ≡ true }
     requires taken { HasTaken (T.grid t.now) ends.from ends.to at space.now.table taken }
     requires goal { (n : _) → slice_get space.now.table.nodes at ≡ Some n → node_cell n ≡ ends.to }
     ensures run { IfOk result (λ found. IsPlainRun (T.grid t.now) ends.from ends.to (plain_of found)) }
@@ -281,7 +279,7 @@ fn none_listed<T: Terrain>(
 ) -> Result<Listed, NoMemory>
     requires whole { IsGrid (T.grid t.now) }
     requires from { is_free (T.grid t.now) ends.from ≡ true }
-    requires to { IsNear (T.grid t.now) ends.to }
+    requires to { is_free (T.grid t.now) ends.to ≡ true }
     requires taken { IsExhausted (T.grid t.now) ends.from ends.to taken }
     ensures run { IfOk result (λ found. IsPlainRun (T.grid t.now) ends.from ends.to (plain_of found)) }
     ensures least { IfOk result (λ found. IsLeastOrNone (T.grid t.now) ends.from ends.to (plain_of found).walk) }

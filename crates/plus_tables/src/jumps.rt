@@ -5,7 +5,7 @@
 //! column first; if that comes before its own mark, the entry of the component there tells whether the run
 //! leads on to the goal. So only a jump that leads to where the goal lies asks for it.
 
-ghost use Rattle.std.specs.Prelude.{◌≡◌, ◌+◌, ◌<◌, ◌≤◌, false, true, min, Some, if◌then◌else◌};
+ghost use Rattle.std.specs.Prelude.{◌≡◌, ◌+◌, ◌<◌, ◌≤◌, false, true, Some, if◌then◌else◌};
 ghost use Rattle.grid_moves.specs.Move.{cell_after, column_after, row_after};
 ghost use Rattle.jump_plain.specs.Reach as reach;
 ghost use Rattle.plus_tables.specs.Reading as spec;

@@ -1,7 +1,7 @@
 //! The tables of a grid: eight entries for each cell, each made from those at the next cell.
 
 ghost use Rattle.std.specs.Prelude.{◌≡◌, true, IfOk, replicate, pos};
-ghost use Rattle.grid_moves.specs.Grid.{IsGrid, is_free};
+ghost use Rattle.grid_moves.specs.Grid.{IsGrid};
 ghost use Rattle.plus_tables.specs.Tables as spec;
 ghost use Rattle.plus_tables.specs.Local as local;
 
@@ -72,8 +72,8 @@ pub fn tells_mark(entry: i16) -> bool
 }
 
 impl Tables {
-    ghost use Rattle.std.specs.Prelude.{◌≡◌, ◌≢◌, ℕ, ◌+◌, ◌<◌, true, false, IfOk, Some, pos, length};
-    ghost use Rattle.grid_moves.specs.Grid.{IsGrid, is_free};
+    ghost use Rattle.std.specs.Prelude.{◌≡◌, ◌≢◌, ◌+◌, ◌<◌, true, false, IfOk, Some, pos};
+    ghost use Rattle.grid_moves.specs.Grid.{IsGrid};
     ghost use Rattle.plus_tables.specs.Entry.{table_entry};
     ghost use Rattle.grid_moves.specs.Move.{legal_ahead};
     ghost use Rattle.plus_tables.specs.Local.{is_mark_by};

@@ -4,15 +4,15 @@
 //! in the row itself, and one in the row above and below. So no cell is looked up, and no memory is
 //! taken.
 
-ghost use Rattle.std.specs.Prelude.{◌≡◌, ◌+◌, ◌<◌, ◌≤◌, true, false, Some, None, IfNone, if◌then◌else◌};
+ghost use Rattle.std.specs.Prelude.{◌≡◌, ◌+◌, ◌<◌, true, false, Some, None, IfNone};
 ghost use Rattle.root2_cost.specs.Rank.{rank_of};
 ghost use Rattle.grid_moves.specs.Grid.{GridData, IsGrid, is_free};
 ghost use Rattle.grid_moves.specs.Move.{all_dirs, move_cost};
 ghost use Rattle.grid_moves.specs.Around.{IsBefore, if_open};
-ghost use Rattle.potential_check.specs.Heights.{entries, floor, are_low};
+ghost use Rattle.potential_check.specs.Heights.{are_low};
 ghost use Rattle.potential_check.specs.Moves.{first_in_row, first_failing};
 ghost use Rattle.potential_check.specs.Rising as spec;
-ghost use Rattle.potential_check.specs.Rising.{AreHills, IsColumn, Reach, RowsReach, Takes, climbs, first_steep, height_at, towards};
+ghost use Rattle.potential_check.specs.Rising.{AreHills, RowsReach, Takes, climbs, first_steep, height_at, towards};
 
 use crate::heights::Heights;
 use grid_moves::{Cell, Grid, Terrain, before, move_cost, moves_around};

@@ -1,6 +1,6 @@
 //! The free cells of a map.
 
-ghost use Rattle.std.specs.Prelude.{◌≡◌, ◌+◌, ◌*◌, ◌<◌, ◌≤◌, IfOk, OnOk};
+ghost use Rattle.std.specs.Prelude.{◌≡◌, ◌+◌, ◌*◌, ◌<◌, IfOk, OnOk};
 ghost use Rattle.problem_maker.specs.Free as spec;
 
 use crate::NoMemory;

@@ -1,6 +1,6 @@
 //! Lists of directions in one word, which stays in a register.
 
-ghost use Rattle.std.specs.Prelude.{◌≡◌, ℕ, ◌+◌, ◌*◌, ◌<◌, ◌≤◌, ◌^◌, [], ◌∷◌, List, length, IfNone, IfSome};
+ghost use Rattle.std.specs.Prelude.{◌≡◌, ◌+◌, ◌*◌, ◌<◌, ◌≤◌, ◌^◌, [], ◌∷◌, List, length, IfNone, IfSome};
 ghost use Rattle.pruning.specs.Packed.{word_of};
 
 use arrayvec::ArrayVec;

@@ -1,6 +1,6 @@
 //! The words of an entry.
 
-ghost use Rattle.std.specs.Prelude.{◌≡◌, ◌<◌, ◌∷◌, [], MatchOption, length};
+ghost use Rattle.std.specs.Prelude.{◌≡◌, ◌<◌, ◌∷◌, MatchOption, length};
 ghost use Rattle.text_line.specs.Places.{placed};
 ghost use Rattle.scen_text.specs.Spelling.{HasWords};
 ghost use Rattle.scen_text.specs.Progress.{plain_words, widened, HasWordsBefore};

@@ -33,7 +33,6 @@ use Rattle.best_first.specs.Rule.{IsSearch}
 use Rattle.best_first.specs.Space.{SpaceData, IsPlaced}
 use Rattle.best_first.specs.Table.{Table, node_for, offered, ClosedBelow}
 use Rattle.best_first.specs.Ways.{Onward, IsAmong, first, later, with_onward, with_all}
-use Rattle.best_first.proofs.Links.{on_near}
 use Rattle.best_first.proofs.Searching.{IsOver, closed_below, key_rises, one_more}
 use Rattle.best_first.specs.State.{state_in, arrived_in, is_same_state}
 use Rattle.best_first.proofs.States.{same_state, is_same_state-itself}
@@ -83,7 +82,7 @@ module _ (layout : Layout) (g : GridData) (s t : Cell) where
       narrow = whole.sides.narrow;
       low = whole.sides.low;
       start_on = free_inside g s from;
-      goal_near = on_near g.width g.height t (free_inside g t to);
+      goal_on = free_inside g t to;
       links = jumps_are_links layout g t;
     };
     few = λ run u is m. let few = passing.costs_fit layout g t whole s run u is m in omega arith;

@@ -9,17 +9,15 @@
 //! A* after Hart, Nilsson and Raphael (1968) over the jump points of Harabor and Grastien (AAAI 2011);
 //! the order of ties is this project's. The machine under it is `best_first`.
 
-ghost use Rattle.std.specs.Prelude.{◌≡◌, ℕ, ◌+◌, ◌*◌, ◌<◌, ◌≤◌, ◌++◌, ◌∷◌, [], false, length, IfOk, IfSome, IfNone, IsSome, OnOk, slice_get, Some};
-ghost use Rattle.grid_moves.specs.Grid.{GridData, IsGrid, is_free};
+ghost use Rattle.std.specs.Prelude.{◌≡◌, ◌+◌, ◌*◌, ◌<◌, [], false, length, IfOk, IfSome, IfNone, IsSome, OnOk, slice_get, Some};
+ghost use Rattle.grid_moves.specs.Grid.{GridData};
 ghost use Rattle.grid_moves.specs.Move.{is_same};
-ghost use Rattle.pruning.specs.Source.{IsWithin};
-ghost use Rattle.best_first.specs.Space.{KeepsShape};
 ghost use Rattle.best_first.specs.State.{state_number, state_of_place};
 ghost use Rattle.best_first.specs.Trace.{node_cell};
 ghost use Rattle.path_points.specs.Least.{IsLeastOrNone};
 ghost use Rattle.search_core.specs.Answer.{IsJumpRun};
-ghost use Rattle.search_core.specs.Counting.{IsCounted, IsCountedSoFar, IsWithinTaken, RoseByTaken};
-ghost use Rattle.search_core.specs.Jumping.{IsSpaceOf, HasReached, GoesOnFrom};
+ghost use Rattle.search_core.specs.Counting.{IsCounted, IsWithinTaken, RoseByTaken};
+ghost use Rattle.search_core.specs.Jumping.{HasReached, GoesOnFrom};
 ghost use Rattle.search_core.specs.Room.{HasPlaces};
 ghost use Rattle.search_core.specs.Serving.{OnSome, OnEach};
 

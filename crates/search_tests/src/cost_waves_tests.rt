@@ -1,7 +1,5 @@
 //! Passes over small maps, and lists of least costs, with values by hand.
 
-ghost use Rattle.std.specs.Prelude.{◌≡◌, true};
-ghost use Rattle.grid_moves.specs.Grid.{AreCells};
 
 use crate::paper::{RULES, cell};
 use cost_waves::{CostWaves, NoMemory};

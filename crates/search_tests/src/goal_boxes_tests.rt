@@ -1,7 +1,6 @@
 //! Boxes and runs on small maps, by hand.
 
-ghost use Rattle.std.specs.Prelude.{◌≡◌, ◌<◌, true};
-ghost use Rattle.grid_moves.specs.Grid.{AreCells};
+ghost use Rattle.std.specs.Prelude.{◌≡◌, ◌<◌};
 
 use crate::paper::{RULES, cell};
 use goal_boxes::{Area, Boxes, CellBoxes, Found, NoMemory, boxed_query, boxed_search, boxes_of};

@@ -1,7 +1,5 @@
 //! The worked rows: maps of three by three and two by two cells, by hand.
 
-ghost use Rattle.std.specs.Prelude.{◌≡◌, true};
-ghost use Rattle.grid_moves.specs.Grid.{AreCells};
 
 use crate::paper::{RULES, cell};
 use grid_moves::{Cell, Corner, Grid, Terrain};

@@ -1,6 +1,6 @@
 //! Reading table files.
 
-ghost use Rattle.std.specs.Prelude.{◌≡◌, ◌≢◌, ◌+◌, ◌*◌, ◌<◌, ◌≤◌, IfErr, IfOk, MatchResult, None, OnOk, Some, [], ◌∷◌, bytes_eq, drop, length, option_map, slice_index, take, if◌then◌else◌};
+ghost use Rattle.std.specs.Prelude.{◌≡◌, ◌≢◌, ◌+◌, ◌*◌, ◌<◌, ◌≤◌, IfErr, IfOk, None, OnOk, Some, [], ◌∷◌, bytes_eq, drop, length, option_map, slice_index, take, if◌then◌else◌};
 ghost use Rattle.grid_moves.specs.Grid.{AreSides, GridData, is_ground};
 ghost use Rattle.grid_moves.specs.declared.Ground.TheVariants.{Water};
 ghost use Rattle.plus_tables.specs.Tables.{AreTablesOf};

@@ -1,8 +1,8 @@
 //! Edits of small maps.
 
 ghost use Rattle.std.specs.Prelude.{◌≡◌, ◌*◌, ◌<◌, ◌≤◌, IfOk, length, true};
-ghost use Rattle.grid_moves.specs.Grid.{AreSides, is_inside};
-ghost use Rattle.plus_tables.specs.Tables.{AreSized, AreTablesOf};
+ghost use Rattle.grid_moves.specs.Grid.{is_inside};
+ghost use Rattle.plus_tables.specs.Tables.{AreTablesOf};
 
 use grid_moves::{Cell, Corner, Grid, NoMemory, Terrain};
 use plus_tables::Tables;

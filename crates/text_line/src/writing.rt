@@ -1,6 +1,6 @@
 //! Bytes and numbers at the end of a text.
 
-ghost use Rattle.std.specs.Prelude.{◌≡◌, ◌++◌, ◌≤◌, OnOk, OnErr, decimal, length, take};
+ghost use Rattle.std.specs.Prelude.{◌≡◌, ◌++◌, OnOk, OnErr, decimal, take};
 
 use crate::NoMemory;
 use itoa::Buffer;

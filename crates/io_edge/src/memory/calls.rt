@@ -1,6 +1,6 @@
 //! The calls of an object in memory: how many were made, which are to fail and how many did.
 
-ghost use Rattle.std.specs.Prelude.{◌≡◌, ◌<◌, length, min};
+ghost use Rattle.std.specs.Prelude.{◌≡◌, ◌<◌};
 ghost use Rattle.io_edge.specs.Causes.{raised};
 ghost use Rattle.io_edge.specs.Memory.{first_pace, fails_next, amount};
 ghost use Rattle.io_edge.specs.Calls.{pace_of};

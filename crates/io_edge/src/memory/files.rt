@@ -2,7 +2,7 @@
 
 ghost use Rattle.std.specs.Prelude.{◌≡◌, ◌^◌, ◌<◌, ◌≤◌, length, IfOk, is_err};
 ghost use Rattle.std.specs.Result.{result_ok};
-ghost use Rattle.io_edge.specs.Causes.{HasCause, NoneFell};
+ghost use Rattle.io_edge.specs.Causes.{HasCause};
 ghost use Rattle.io_edge.specs.Known.{ReadsAt};
 ghost use Rattle.io_edge.specs.Memory.{held_under, amount_read, after_call, first_pace};
 ghost use Rattle.io_edge.specs.Named.{named_bytes};
@@ -22,7 +22,7 @@ pub struct MemFiles {
 }
 
 impl Model for MemFiles {
-    ghost use Rattle.std.specs.Prelude.{ℕ, ◌<◌};
+    ghost use Rattle.std.specs.Prelude.{◌<◌};
     ghost use Rattle.io_edge.specs.Memory.{NamedBytes};
     ghost use Rattle.io_edge.specs.Named.{named_bytes};
     ghost use Rattle.io_edge.specs.Calls.{pace_of};

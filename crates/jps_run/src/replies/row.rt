@@ -1,6 +1,6 @@
 //! The rows that judge a scenario, and the line that sums them up.
 
-ghost use Rattle.std.specs.Prelude.{◌≡◌, ℕ, ◌<◌, ◌+◌, ◌^◌, ◌++◌, ◌∷◌, [], List, OnOk, length};
+ghost use Rattle.std.specs.Prelude.{◌≡◌, ◌<◌, ◌+◌, ◌^◌, ◌++◌, ◌∷◌, [], List, OnOk};
 ghost use Rattle.root2_cost.specs.declared.lengths.Verdict.TheVariants as verdict;
 ghost use Rattle.jps_run.specs.Rows as spec;
 ghost use Rattle.jps_run.specs.Tally.{tally_of, sum_end, sum_text, IsSmall, IsTally};

@@ -1,6 +1,6 @@
 //! The rows that judge claimed walks, and the line that sums them up.
 
-ghost use Rattle.std.specs.Prelude.{◌≡◌, ℕ, ◌<◌, ◌+◌, ◌^◌, ◌++◌, ◌∷◌, [], List, OnOk};
+ghost use Rattle.std.specs.Prelude.{◌≡◌, ◌<◌, ◌+◌, ◌^◌, ◌++◌, ◌∷◌, [], List, OnOk};
 ghost use Rattle.jps_run.specs.Judging.{IsCounts, counts_of, sum_text};
 ghost use Rattle.jps_run.specs.Rulings as spec;
 

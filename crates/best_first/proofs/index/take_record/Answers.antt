@@ -1,7 +1,7 @@
 use Rattle.std.proofs.Common.{◌≡◌, ◌∙◌, ap, List}
 use Rattle.std.specs.Prelude.{slice_index_or}
 use Rattle.best_first.specs.declared.index.Record.{Record}
-use Rattle.best_first.specs.Index.{tag_of, latest_of}
+use Rattle.best_first.specs.Index.{latest_of}
 use Rattle.best_first.proofs.Records.{put_record}
 use Rattle.best_first.proofs.index.take_record.Goals as goal
 

@@ -2,7 +2,6 @@ use Rattle.std.proofs.Common.{ℕ, subst}
 use Rattle.std.specs.Prelude.{Option}
 use Rattle.std.proofs.lemmas.Result.{IfOk-from_err}
 use Rattle.plain_search.specs.Progress.{HasEnded}
-use Rattle.plain_search.proofs.Posed.{free_near}
 use Rattle.plain_search.proofs.search.least.Goals as goal
 
 pub returns-in_err-memory-clause-run : goal.returns-in_err-memory-clause-run
@@ -13,9 +12,6 @@ returns-in_err-memory-clause-least g c = IfOk-from_err c.from_residual.result _ 
 
 pub returns-in_err-memory-clause-lists : goal.returns-in_err-memory-clause-lists
 returns-in_err-memory-clause-lists g c = IfOk-from_err c.from_residual.result _ c.from_residual.ensures.0
-
-pub take_counted-requires-clause-to : goal.take_counted-requires-clause-to
-take_counted-requires-clause-to g c = free_near (g.T.Terrain.grid c.args.t.now) c.args.to c.requires.to
 
 pub take_counted-requires-clause-layout : goal.take_counted-requires-clause-layout
 take_counted-requires-clause-layout g c = c.memory.invariant
@@ -31,9 +27,6 @@ returns-in_err-at-clause-least g c =
 pub returns-in_err-at-clause-lists : goal.returns-in_err-at-clause-lists
 returns-in_err-at-clause-lists g c =
     IfOk-from_err c.from_residual-in_err-at.result _ c.from_residual-in_err-at.ensures.0
-
-pub found_listed-requires-clause-to : goal.found_listed-requires-clause-to
-found_listed-requires-clause-to g c = free_near (g.T.Terrain.grid c.args.t.now) c.args.to c.requires.to
 
 pub found_listed-requires-clause-taken : goal.found_listed-requires-clause-taken
 found_listed-requires-clause-taken g c =
@@ -53,9 +46,6 @@ returns-in-Some-clause-least g c = c.found_listed.ensures.least
 
 pub returns-in-Some-clause-lists : goal.returns-in-Some-clause-lists
 returns-in-Some-clause-lists g c = c.found_listed.ensures.lists
-
-pub none_listed-requires-clause-to : goal.none_listed-requires-clause-to
-none_listed-requires-clause-to g c = free_near (g.T.Terrain.grid c.args.t.now) c.args.to c.requires.to
 
 pub none_listed-requires-clause-taken : goal.none_listed-requires-clause-taken
 none_listed-requires-clause-taken g c =

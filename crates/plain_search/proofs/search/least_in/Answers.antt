@@ -2,20 +2,13 @@ use Rattle.std.proofs.Common.{ℕ, subst}
 use Rattle.std.specs.Prelude.{Option}
 use Rattle.std.proofs.lemmas.Result.{IfOk-from_err}
 use Rattle.plain_search.specs.Progress.{HasEnded}
-use Rattle.plain_search.proofs.Posed.{free_near}
 use Rattle.plain_search.proofs.search.least_in.Goals as goal
-
-pub take_counted-requires-clause-to : goal.take_counted-requires-clause-to
-take_counted-requires-clause-to g c = free_near (g.T.Terrain.grid c.args.t.now) c.args.to c.requires.to
 
 pub returns-in_err-at-clause-run : goal.returns-in_err-at-clause-run
 returns-in_err-at-clause-run g c = IfOk-from_err c.from_residual.result _ c.from_residual.ensures.0
 
 pub returns-in_err-at-clause-least : goal.returns-in_err-at-clause-least
 returns-in_err-at-clause-least g c = IfOk-from_err c.from_residual.result _ c.from_residual.ensures.0
-
-pub found-requires-clause-to : goal.found-requires-clause-to
-found-requires-clause-to g c = free_near (g.T.Terrain.grid c.args.t.now) c.args.to c.requires.to
 
 pub found-requires-clause-taken : goal.found-requires-clause-taken
 found-requires-clause-taken g c =

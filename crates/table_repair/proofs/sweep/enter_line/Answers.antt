@@ -1,5 +1,5 @@
 -- Each place adds a walk.
-use Rattle.std.proofs.Common.{true, inl, inr, arith}
+use Rattle.std.proofs.Common.{inl, inr, arith}
 use Rattle.std.proofs.lemmas.Bool.{or_right}
 use Rattle.table_repair.specs.Lines.{is_on_line}
 use Rattle.table_repair.specs.Abreast.{is_at_one}

@@ -1,11 +1,12 @@
-use Rattle.std.proofs.Common.{◌≡◌, true, ap, ◌∙◌, sym, subst}
+use Rattle.std.proofs.Common.{ap, ◌∙◌, sym}
 use Rattle.grid_moves.specs.declared.Cell.{Cell}
 use Rattle.grid_moves.specs.declared.Ground.{Ground}
 use Rattle.grid_moves.specs.Grid.{is_ground}
 use Rattle.grid_moves.specs.Layers.{ground_at, is_on_map, layers_with}
 use Rattle.grid_moves.proofs.Layering.{same_ground}
 use Rattle.edit_replay.proofs.Editing.{edits_done, edits_outside, edits_same}
-use Rattle.edit_replay.specs.Session.{SessionData, stands_for}
+use Rattle.edit_replay.specs.Kept.{stands_for}
+use Rattle.edit_replay.specs.Session.{SessionData}
 use Rattle.edit_replay.specs.Edited.{Edit, edit_at}
 use Rattle.edit_replay.proofs.parts.Parts.edit.Goals as goal
 

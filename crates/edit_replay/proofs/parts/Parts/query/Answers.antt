@@ -3,7 +3,7 @@ use Rattle.std.specs.Prelude.{IfOk}
 use Rattle.grid_moves.specs.declared.Cell.{Cell}
 use Rattle.grid_moves.specs.Layers.{query_grid}
 use Rattle.edit_replay.specs.Replies.{IsRightOn, IsRunOn}
-use Rattle.edit_replay.specs.Session.{stands_for}
+use Rattle.edit_replay.specs.Kept.{stands_for}
 use Rattle.edit_replay.proofs.Answering.{result_on_grid}
 use Rattle.edit_replay.proofs.Oneness.{only, result_known}
 use Rattle.edit_replay.proofs.Simple.{reply_is_short}

@@ -1,11 +1,11 @@
 use Rattle.std.proofs.Common.{◌*◌, ◌≤◌, Bool, rules, ap, sym, ◌∙◌, subst, arith}
 use Rattle.grid_moves.specs.declared.Ground.TheVariants.{Land, Water}
 use Rattle.grid_moves.specs.Grid.{GridData, grid_with, is_free, is_ground}
-use Rattle.grid_moves.specs.Layers.{AreLayers, Layers}
-use Rattle.grid_moves.proofs.Layering.{are_layers-with, same_ground}
+use Rattle.grid_moves.specs.Layers.{Layers}
+use Rattle.grid_moves.proofs.Layering.{is_inside-water, same_ground}
 use Rattle.bit_grid.specs.Bits.{AreBitsOf}
 use Rattle.plus_tables.specs.Tables.{AreTablesOf}
-use Rattle.edit_replay.proofs.Following.{before_edit, found_by_bits, mended_both, on_water}
+use Rattle.edit_replay.proofs.Following.{before_edit, found_by_bits, mended_both}
 use Rattle.edit_replay.specs.Mended.{AreMended, MendsWithin}
 use Rattle.edit_replay.proofs.parts.Parts.set.Goals as goal
 
@@ -29,7 +29,7 @@ mend-requires-in-Jumps-Tables-default-clause-before g c =
     let was = c.free-was_water.ensures ∙ ap (λ (g : GridData). is_free g c.args.c) c.water.ensures in
     subst (λ (h : GridData). AreTablesOf arm.tables.water h)
     (sym (before_edit ls.water c.args.c (is_ground Water c.args.to) c.free-was_water.result
-    (on_water ls c.args.c c.requires.kept.layers c.requires.inside) was water))
+    (is_inside-water ls c.requires.kept.layers c.args.c ∙ c.requires.inside) was water))
     kept.1.1
 
 pub returns-in-Jumps-Tables-default-clause-counted : goal.returns-in-Jumps-Tables-default-clause-counted
@@ -53,7 +53,7 @@ returns-in-Jumps-Tables-default-clause-counted g c =
           of_land.1);
       mends_water = subst (λ (h : GridData). MendsWithin h new.water of_water.0)
           (before_edit old.water c.args.c (is_ground Water c.args.to) c.free-was_water.result
-          (on_water old c.args.c c.requires.kept.layers c.requires.inside)
+          (is_inside-water old c.requires.kept.layers c.args.c ∙ c.requires.inside)
           was_water (ap (λ (ls : Layers). ls.water) c.set.ensures))
           (subst (λ (h : GridData). MendsWithin (grid_with h c.args.c c.free-was_water.result) h of_water.0) water
           of_water.1);
@@ -68,10 +68,9 @@ returns-in-Jumps-Bits-default-clause-kept g c =
     let old = c.args.self.now.layers in
     let found = found_by_bits old _ _ _ _ arm.is arm.finder-is c.requires.kept.serves in
     let kept = rw arm.is at c.requires.kept.serves in
-    let water = on_water old c.args.c c.requires.kept.layers c.requires.inside in
+    let water = is_inside-water old c.requires.kept.layers c.args.c ∙ c.requires.inside in
     record {
-      layers = subst (λ (ls : Layers). AreLayers ls) (sym c.set.ensures)
-          (are_layers-with old c.args.c c.args.to c.requires.kept.layers c.requires.inside);
+      layers = c.both.ensures.layers;
       serves = (
         record {
           enough = subst (λ (ls : Layers). ls.land.height * ls.land.width ≤ arm.space.places) (sym c.set.ensures)
