@@ -12,9 +12,10 @@ use Rattle.edit_replay.specs.declared.reply.Reply.{Reply}
 use Rattle.first_moves.proofs.Led.{led_is}
 use Rattle.first_moves.specs.Follow.{led_walk}
 use Rattle.goal_boxes.proofs.Answering as boxed
+use Rattle.word_list.specs.declared.request.SmallEngine.TheVariants.{Boxes, Moves}
 use Rattle.call_files.specs.Reading.{AreSmall}
 use Rattle.jps_run.specs.Lines.{Unfolds}
-use Rattle.jps_run.specs.Replies.{AreRight, By, by_boxes, by_moves, by_session}
+use Rattle.jps_run.specs.Replies.{AreRight, By, by_session, by_small}
 use Rattle.jps_run.specs.Who.{found_by, replies_by}
 use Rattle.jps_run.proofs.Replying.{followed_least, small-short}
 use Rattle.jps_run.proofs.Unfolding.{replied_unfolds}
@@ -23,8 +24,8 @@ use Rattle.jps_run.proofs.Unfolding.{replied_unfolds}
 pub found_least : (by : By) (g : GridData) (s t : Cell) → is_free g s ≡ true → is_free g t ≡ true
     → IsLeastOrNone g s t (found_by by g s t).walk
 found_least (by_session engine) g s t from to = (founds_are engine).least g s t from
-found_least by_boxes g s t from to = boxed.answers_are.least g s t from
-found_least by_moves g s t from to = followed_least g s t (led_walk g s t) (led_is g s t from)
+found_least (by_small Boxes) g s t from to = boxed.answers_are.least g s t from
+found_least (by_small Moves) g s t from to = followed_least g s t (led_walk g s t) (led_is g s t from)
 
 -- so each reply is right
 pub replies_right : AreRight replies_by

@@ -1,5 +1,5 @@
 -- The work on one query.
-use Rattle.std.proofs.Common.{◌≡◌, ◌*◌, ◌∙◌, ℕ, refl, sym, ap, subst, List, [], ◌∷◌, arith}
+use Rattle.std.proofs.Common.{◌≡◌, ◌*◌, ◌∙◌, ℕ, sym, ap, subst, List, [], ◌∷◌, arith}
 use Rattle.std.specs.Global.{Vec}
 use Rattle.std.specs.Prelude.{None}
 use Rattle.grid_moves.specs.declared.Cell.{Cell}
@@ -16,9 +16,6 @@ use Rattle.jps_run.specs.Session.{session_replies}
 use Rattle.jps_run.specs.Rising.{RoseForQuery, RoseForCommands}
 use Rattle.jps_run.specs.Lines.{reply_line}
 use Rattle.jps_run.specs.Querying.{IsQueryWork}
-use Rattle.jps_run.specs.Who.{by_small}
-use Rattle.word_list.specs.declared.request.SmallEngine.{SmallEngine}
-use Rattle.word_list.specs.declared.request.SmallEngine.TheVariants.{Boxes, Moves}
 use Rattle.jps_run.specs.declared.work.Work.TheVariants as work
 use Rattle.jps_run.specs.Who.{Who, fewest_by, most_by, reply_to, who_is}
 use Rattle.jps_run.proofs.Solving.{nothing_edited}
@@ -46,15 +43,6 @@ module _ (d : SessionData) (show : Show) (sx sy gx gy : ℕ) where
       let rose : RoseForQuery (who_is d) start goal old r.0 =
       subst (λ (k : SessionData). RoseForQuery (who_is k) start goal old r.0) (sym (nothing_edited d)) r.1 in
       subst (λ (n : ℕ). RoseForQuery (who_is d) start goal old n) (sym r.2) rose
-
--- an engine for small maps tells neither a fewest nor a most
-pub small_fewest : (engine : SmallEngine) → fewest_by (by_small engine) ≡ 0
-small_fewest Boxes = refl
-small_fewest Moves = refl
-
-pub small_most : (engine : SmallEngine) → most_by (by_small engine) ≡ None
-small_most Boxes = refl
-small_most Moves = refl
 
 -- the line of one reply that was made at once, where no most is known and nothing is counted
 pub replied-work : (who : Who) (show : Show) (s t : Cell) (reply : Reply) (width : ℕ) (text : Vec ℕ)

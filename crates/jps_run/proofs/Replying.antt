@@ -29,7 +29,8 @@ use Rattle.first_moves.specs.Follow.{IsLedOrNone}
 use Rattle.first_moves.proofs.Following.{stands}
 use Rattle.first_moves.proofs.Led.{walks_are}
 use Rattle.call_files.specs.Reading.{AreSmall}
-use Rattle.jps_run.specs.Who.{By, IsFoundReply, Who, by_boxes, by_moves, found_by, replies_by, reply_to}
+use Rattle.word_list.specs.declared.request.SmallEngine.TheVariants.{Boxes, Moves}
+use Rattle.jps_run.specs.Who.{By, IsFoundReply, Who, by_small, found_by, replies_by, reply_to}
 
 -- between free cells of one grid the reply is that of what is found there
 searched : (ls : Layers) (by : By) (s t : Cell) → (is_on_map ls s && is_on_map ls t) ≡ true
@@ -72,12 +73,13 @@ unsearched_is who s t (why.Apart ends) is = rw (is.on, is.free, is.two) refl
 
 -- what was found between free cells by the boxed run, or by first moves, is the function's
 module _ (g : GridData) (s t : Cell) where
-  pub found_boxed : (f : Found) → IsBoxedRunOn g s t f → IsFoundReply by_boxes g s t (reply_with f.walk f.taken)
+  pub found_boxed : (f : Found) → IsBoxedRunOn g s t f → IsFoundReply (by_small Boxes) g s t
+      (reply_with f.walk f.taken)
   found_boxed f run =
       record { is = ap (λ (h : Found). reply_with h.walk h.taken) (boxed.answers_are.only g s t f run) }
 
   pub found_led : (walk : Option points.Walk) (taken : List ℕ) → is_free g s ≡ true → IsLedOrNone g s t walk
-      → taken ≡ [] → IsFoundReply by_moves g s t (reply_with walk taken)
+      → taken ≡ [] → IsFoundReply (by_small Moves) g s t (reply_with walk taken)
   found_led walk taken from is none = record {
     is = ap (λ (ms : List ℕ). reply_with walk ms) none
         ∙ ap (λ (o : Option points.Walk). reply_with o []) ((walks_are g s t from).only walk is);

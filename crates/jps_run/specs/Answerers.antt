@@ -4,9 +4,10 @@ use Rattle.map_text.specs.Map.{Map}
 use Rattle.goal_boxes.specs.Stored.{HoldsBoxes}
 use Rattle.first_moves.specs.Row.{AreMoves}
 use Rattle.word_list.specs.declared.request.Settings.{Settings}
+use Rattle.word_list.specs.declared.request.SmallEngine.TheVariants.{Boxes, Moves}
 use Rattle.call_files.specs.Reading.{AreSmall}
 use Rattle.jps_run.specs.Session.{who_on}
-use Rattle.jps_run.specs.Who.{Who, by_boxes, by_moves, by_small, who_is}
+use Rattle.jps_run.specs.Who.{Who, by_small, who_is}
 use Rattle.jps_run.specs.declared.replies.answerer.Answerer.{Answerer}
 use Rattle.jps_run.specs.declared.replies.answerer.Answerer.TheVariants as answerer
 use Rattle.jps_run.specs.declared.replies.answerer.Basis.{Basis}
@@ -29,8 +30,8 @@ IsBasisOn set m made = (who_from made ≡ who_on set m) × IsFit made
 -- who answers by a session, or by what is kept of all cells of a small map
 abbrev pub who_of : Answerer → Who
 who_of (answerer.Session session) = who_is session
-who_of (answerer.Boxes library) = record { layers = library.layers; by = by_boxes }
-who_of (answerer.Moves library) = record { layers = library.layers; by = by_moves }
+who_of (answerer.Boxes library) = record { layers = library.layers; by = by_small Boxes }
+who_of (answerer.Moves library) = record { layers = library.layers; by = by_small Moves }
 
 -- queries can be answered: what is kept are the boxes, or the first moves, of both grids
 abbrev pub CanAnswer : Answerer → Type 0

@@ -6,19 +6,11 @@ use Rattle.edit_replay.specs.Replies.{answer_of}
 use Rattle.edit_replay.specs.declared.engine.Engine.{Engine}
 use Rattle.edit_replay.specs.declared.reply.Reply.{Reply}
 use Rattle.word_list.specs.declared.request.SmallEngine.{SmallEngine}
-use Rattle.word_list.specs.declared.request.SmallEngine.TheVariants as small
 
--- how a query is answered: by the search of a session's engine, by the search that goes by goal boxes, or by
--- the walk of first moves
+-- how a query is answered: by a session's engine, or by one for small maps
 pub data By : Type 0 where
   by_session : Engine → By
-  by_boxes : By
-  by_moves : By
-
--- how an engine for small maps answers
-abbrev pub by_small : SmallEngine → By
-by_small small.Boxes = by_boxes
-by_small small.Moves = by_moves
+  by_small : SmallEngine → By
 
 -- a reply to each query from one cell to another on each pair of grids
 abbrev pub Replies : Type 0

@@ -12,7 +12,8 @@ use Rattle.edit_replay.specs.Session.{SessionData}
 use Rattle.edit_replay.specs.declared.reply.Reply.{Reply}
 use Rattle.goal_boxes.specs.Made.{boxed_found}
 use Rattle.first_moves.specs.Follow.{led_walk}
-pub use Rattle.jps_run.specs.Replies.{By, by_boxes, by_moves, by_session, by_small}
+use Rattle.word_list.specs.declared.request.SmallEngine.TheVariants.{Boxes, Moves}
+pub use Rattle.jps_run.specs.Replies.{By, by_session, by_small}
 use Rattle.jps_run.specs.Replies.{Replies}
 
 -- who answers: the grids of a map, and how
@@ -28,8 +29,8 @@ who_is d = record { layers = d.layers; by = by_session d.engine }
 -- following its first moves, where nothing is searched and no state is taken
 abbrev pub found_by : By → GridData → Cell → Cell → Found
 found_by (by_session engine) g s t = found_with (states_of engine) g s t
-found_by by_boxes g s t = boxed_found g s t
-found_by by_moves g s t = record { walk = led_walk g s t; taken = [] }
+found_by (by_small Boxes) g s t = boxed_found g s t
+found_by (by_small Moves) g s t = record { walk = led_walk g s t; taken = [] }
 
 -- the replies of who answers so
 abbrev pub replies_by : By → Replies
@@ -47,12 +48,10 @@ pub record IsFoundReply (by : By) (g : GridData) (s t : Cell) (reply : Reply) : 
 -- promise none
 abbrev pub fewest_by : By → ℕ
 fewest_by (by_session engine) = fewest_of engine
-fewest_by by_boxes = 0
-fewest_by by_moves = 0
+fewest_by (by_small engine) = 0
 
 -- the most steps that are counted for a state that is taken, where this is known; of boxes and first moves it
 -- is not
 abbrev pub most_by : By → Option ℕ
 most_by (by_session engine) = most_of engine
-most_by by_boxes = None
-most_by by_moves = None
+most_by (by_small engine) = None

@@ -16,7 +16,7 @@ use Rattle.edit_replay.specs.Found.{reply_with}
 use Rattle.edit_replay.specs.ReplyOf.{reply_of_ends, reply_finding}
 use Rattle.edit_replay.specs.declared.engine.Engine.TheVariants as engine
 use Rattle.jps_run.specs.Drill.{finding_of}
-use Rattle.jps_run.specs.Replies.{By, by_session, by_boxes, by_moves}
+use Rattle.jps_run.specs.Replies.{By, by_session, by_small}
 use Rattle.jps_run.specs.Who.{found_by, replies_by}
 use Rattle.jps_run.specs.declared.replies.findings.Finding.TheVariants as finding
 use Rattle.jps_run.proofs.Existing.{found_least}
@@ -28,8 +28,7 @@ found-way (by_session engine.Plain) g s t = refl
 found-way (by_session (engine.Jps layout)) g s t = refl
 found-way (by_session (engine.Block layout)) g s t = refl
 found-way (by_session (engine.Plus layout)) g s t = refl
-found-way by_boxes g s t = refl
-found-way by_moves g s t = refl
+found-way (by_small engine) g s t = refl
 
 pub reply_alike : (by other : By) (ls : Layers) (s t : Cell) → way_of by ≡ way_of other
     → replies_by by ls s t ≡ replies_by other ls s t

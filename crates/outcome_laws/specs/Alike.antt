@@ -2,7 +2,7 @@
 use Rattle.std.specs.Prelude.{◌≡◌, refl, ℕ, List, ◌++◌}
 use Rattle.best_first.specs.declared.state.Layout.{Layout}
 use Rattle.edit_replay.specs.declared.engine.Engine.TheVariants as engine
-use Rattle.jps_run.specs.Replies.{By, by_session, by_boxes, by_moves}
+use Rattle.jps_run.specs.Replies.{By, by_session, by_small}
 
 -- the way in which replies are come to, where all engines that jump by the same rule of states have one
 abbrev pub way_of : By → By
@@ -10,8 +10,7 @@ way_of (by_session engine.Plain) = by_session engine.Plain
 way_of (by_session (engine.Jps layout)) = by_session (engine.Jps layout)
 way_of (by_session (engine.Block layout)) = by_session (engine.Jps layout)
 way_of (by_session (engine.Plus layout)) = by_session (engine.Jps layout)
-way_of by_boxes = by_boxes
-way_of by_moves = by_moves
+way_of (by_small engine) = by_small engine
 
 -- all these lines begin with the first ones
 abbrev pub BeginWith : List (List ℕ) → List (List ℕ) → Type 0

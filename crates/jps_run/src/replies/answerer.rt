@@ -11,7 +11,7 @@ ghost use Rattle.goal_boxes.specs.Stored.{HoldsBoxes};
 ghost use Rattle.grid_moves.specs.Layers.{in_one_layer, query_grid};
 ghost use Rattle.jps_run.specs.Answerers.{IsBasisOn, IsFit, CanAnswer, who_from, who_of};
 ghost use Rattle.call_files.specs.Reading.{AreSmall};
-ghost use Rattle.jps_run.specs.Who.{IsFoundReply, by_boxes, by_moves, fewest_by, most_by, reply_to};
+ghost use Rattle.jps_run.specs.Who.{IsFoundReply, by_small, fewest_by, most_by, reply_to};
 
 use crate::NoMemory;
 use crate::replies::session_on;
@@ -102,7 +102,7 @@ impl BoxLibrary {
         requires land { HoldsBoxes self.now.layers.land self.now.land }
         requires water { HoldsBoxes self.now.layers.water self.now.water }
         requires one { in_one_layer self.now.layers from to ≡ true }
-        ensures found { IfOk result (IsFoundReply by_boxes (query_grid self.now.layers from) from to) }
+        ensures found { IfOk result (IsFoundReply (by_small SmallEngine.Boxes) (query_grid self.now.layers from) from to) }
     {
         if self.layers.water().free(from) {
             search_boxed(alloc, self.layers.water(), &self.water, from, to)
@@ -143,7 +143,7 @@ impl MoveLibrary {
         requires land { AreMoves self.now.layers.land self.now.land }
         requires water { AreMoves self.now.layers.water self.now.water }
         requires one { in_one_layer self.now.layers from to ≡ true }
-        ensures found { IfOk result (IsFoundReply by_moves (query_grid self.now.layers from) from to) }
+        ensures found { IfOk result (IsFoundReply (by_small SmallEngine.Moves) (query_grid self.now.layers from) from to) }
         ensures later { OnOk result (steps.old ≤ steps.new) }
     {
         if self.layers.water().free(from) {

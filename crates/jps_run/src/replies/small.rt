@@ -4,7 +4,7 @@ ghost use Rattle.std.specs.Prelude.{◌≡◌, ◌≤◌, ◌*◌, ◌<◌, true
 ghost use Rattle.first_moves.specs.Row.{AreMoves};
 ghost use Rattle.goal_boxes.specs.Stored.{HoldsBoxes};
 ghost use Rattle.grid_moves.specs.Grid.{is_free};
-ghost use Rattle.jps_run.specs.Who.{IsFoundReply, by_boxes, by_moves, by_small, replies_by};
+ghost use Rattle.jps_run.specs.Who.{IsFoundReply, by_small, replies_by};
 
 use crate::NoMemory;
 use cell_lines::AskedEnds;
@@ -31,7 +31,7 @@ pub fn search_boxed(
     requires boxes { HoldsBoxes grid.now boxes.now }
     requires from { is_free grid.now from ≡ true }
     requires to { is_free grid.now to ≡ true }
-    ensures found { IfOk result (IsFoundReply by_boxes grid.now from to) }
+    ensures found { IfOk result (IsFoundReply (by_small SmallEngine.Boxes) grid.now from to) }
 {
     let found = boxed_search(alloc, grid, boxes, from, to)?;
     Ok(Reply::found(found.walk, found.taken))
@@ -51,7 +51,7 @@ pub fn follow_moves<L: Ledger>(
     requires few { grid.now.height * grid.now.width ≤ 16384 }
     requires from { is_free grid.now from ≡ true }
     requires to { is_free grid.now to ≡ true }
-    ensures found { IfOk result (IsFoundReply by_moves grid.now from to) }
+    ensures found { IfOk result (IsFoundReply (by_small SmallEngine.Moves) grid.now from to) }
     ensures later { OnOk result (steps.old ≤ steps.new) }
 {
     let taken = Taken::new(alloc);

@@ -1,7 +1,7 @@
-use Rattle.std.proofs.Common.{ap, ◌∙◌}
+use Rattle.std.proofs.Common.{ap, refl, ◌∙◌}
 use Rattle.grid_moves.specs.Grid.{GridData}
 use Rattle.jps_run.specs.Who.{by_small}
-use Rattle.jps_run.proofs.Querying.{small_fewest, small_most, replied-work}
+use Rattle.jps_run.proofs.Querying.{replied-work}
 use Rattle.jps_run.proofs.Existing.{reply_unfolds}
 use Rattle.jps_run.proofs.commands.query_work.by_small.Goals as goal
 
@@ -12,6 +12,6 @@ line_of-requires-clause-unfolds c =
 pub returns : goal.returns
 returns c =
     replied-work (record { layers = c.args.layers.now; by = by_small c.args.engine }) c.args.show _ _
-    c.in_ok-reply.reply c.width.result c.in_ok-text.text c.in_ok-reply.ensures (small_fewest c.args.engine)
-    (small_most c.args.engine) (c.width.ensures.is ∙ ap (λ (g : GridData). g.width) c.land.ensures)
+    c.in_ok-reply.reply c.width.result c.in_ok-text.text c.in_ok-reply.ensures refl refl
+    (c.width.ensures.is ∙ ap (λ (g : GridData). g.width) c.land.ensures)
     c.in_ok-text.ensures

@@ -2,7 +2,8 @@ use Rattle.std.proofs.Common.{ap, le_refl, ◌∙◌, subst, sym}
 use Rattle.edit_replay.specs.Session.{SessionData}
 use Rattle.line_work.proofs.Stopping.{if_ok}
 use Rattle.jps_run.specs.Answerers.{CanAnswer}
-use Rattle.jps_run.specs.Who.{by_boxes, by_moves}
+use Rattle.word_list.specs.declared.request.SmallEngine.TheVariants.{Boxes, Moves}
+use Rattle.jps_run.specs.Who.{by_small}
 use Rattle.jps_run.specs.declared.replies.answerer.Answerer.{Answerer}
 use Rattle.jps_run.specs.declared.replies.answerer.Answerer.TheVariants as answerer
 use Rattle.jps_run.proofs.Answerers.{counts-none, fewest-as, most-as, reply-as, tells-none}
@@ -43,7 +44,7 @@ returns-in-Boxes g c =
     let r = c.query-in-Boxes.result in
     record {
       reply = reply-as r a b c.in-Boxes.is _ _ c.query-in-Boxes.ensures.reply;
-      short = result-short r by_boxes c.in-Boxes.library.layers _ _
+      short = result-short r (by_small Boxes) c.in-Boxes.library.layers _ _
           (subst (λ (a : Answerer). CanAnswer a) c.in-Boxes.is c.requires.ready).0
           c.query-in-Boxes.ensures.reply;
       unchanged = sym c.in-Boxes.is;
@@ -60,7 +61,7 @@ returns-in-Moves g c =
     let r = c.query-in-Moves.result in
     record {
       reply = reply-as r a b c.in-Moves.is _ _ c.query-in-Moves.ensures.reply;
-      short = result-short r by_moves c.in-Moves.library.layers _ _
+      short = result-short r (by_small Moves) c.in-Moves.library.layers _ _
           (subst (λ (a : Answerer). CanAnswer a) c.in-Moves.is c.requires.ready).0
           c.query-in-Moves.ensures.reply;
       unchanged = sym c.in-Moves.is;

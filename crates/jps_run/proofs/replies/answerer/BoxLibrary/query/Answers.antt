@@ -1,6 +1,7 @@
 use Rattle.std.proofs.Common.{refl}
 use Rattle.grid_moves.specs.Layers.{query_grid}
-use Rattle.jps_run.specs.Who.{by_boxes}
+use Rattle.word_list.specs.declared.request.SmallEngine.TheVariants.{Boxes}
+use Rattle.jps_run.specs.Who.{by_small}
 use Rattle.jps_run.proofs.Answerers.{one-between}
 use Rattle.jps_run.proofs.Replying.{result-on-map, unsearched_is}
 use Rattle.jps_run.proofs.replies.answerer.BoxLibrary.query.Goals as goal
@@ -15,7 +16,7 @@ search-requires c = record {
 
 pub returns-in-Ok : goal.returns-in-Ok
 returns-in-Ok c = record {
-  reply = result-on-map c.search.result c.args.self.now.layers by_boxes
+  reply = result-on-map c.search.result c.args.self.now.layers (by_small Boxes)
       (query_grid c.args.self.now.layers c.in-Ok.both.from) _ _ c.in-Ok.both c.in-Ok.ensures refl
       c.search.ensures.found;
 }
@@ -23,5 +24,5 @@ returns-in-Ok c = record {
 pub returns-in-Err : goal.returns-in-Err
 returns-in-Err c = record {
   reply = rw c.unsearched.ensures (unsearched_is
-      (record { layers = c.args.self.now.layers; by = by_boxes }) _ _ c.in-Err.why c.in-Err.ensures);
+      (record { layers = c.args.self.now.layers; by = by_small Boxes }) _ _ c.in-Err.why c.in-Err.ensures);
 }

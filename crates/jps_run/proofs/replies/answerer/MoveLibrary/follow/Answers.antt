@@ -2,7 +2,8 @@ use Rattle.std.proofs.Common.{◌*◌, ◌≤◌, ◌∙◌, subst, sym}
 use Rattle.std.specs.Prelude.{IfOk}
 use Rattle.first_moves.specs.Row.{AreMoves}
 use Rattle.grid_moves.specs.Grid.{GridData}
-use Rattle.jps_run.specs.Who.{IsFoundReply, by_moves}
+use Rattle.word_list.specs.declared.request.SmallEngine.TheVariants.{Moves}
+use Rattle.jps_run.specs.Who.{IsFoundReply, by_small}
 use Rattle.jps_run.proofs.Answerers.{end-free, on-land, on-water, start-free}
 use Rattle.jps_run.proofs.replies.answerer.MoveLibrary.follow.Goals as goal
 
@@ -40,7 +41,7 @@ returns-then-free g c =
     c.water.ensures c.water-then-free.ensures (sym c.free.ensures ∙ c.if-free.true) in
     let r = c.follow_moves.result in
     record {
-      found = subst (λ (k : GridData). IfOk r (IsFoundReply by_moves k c.args.from c.args.to)) here
+      found = subst (λ (k : GridData). IfOk r (IsFoundReply (by_small Moves) k c.args.from c.args.to)) here
           c.follow_moves.ensures.found;
       later = c.follow_moves.ensures.later;
     }
@@ -51,7 +52,7 @@ returns-else-free g c =
     c.water.ensures c.land.ensures (sym c.free.ensures ∙ c.if-free.false) in
     let r = c.follow_moves-else-free.result in
     record {
-      found = subst (λ (k : GridData). IfOk r (IsFoundReply by_moves k c.args.from c.args.to)) here
+      found = subst (λ (k : GridData). IfOk r (IsFoundReply (by_small Moves) k c.args.from c.args.to)) here
           c.follow_moves-else-free.ensures.found;
       later = c.follow_moves-else-free.ensures.later;
     }
