@@ -1,6 +1,5 @@
 //! Passes over small maps, and lists of least costs, with values by hand.
 
-
 use crate::paper::{RULES, cell};
 use cost_waves::{CostWaves, NoMemory};
 use grid_moves::{Cell, Corner, Grid, Terrain};

@@ -1,6 +1,5 @@
 //! The worked rows: maps of three by three and two by two cells, by hand.
 
-
 use crate::paper::{RULES, cell};
 use grid_moves::{Cell, Corner, Grid, Terrain};
 use plain_search::{Listed, NoMemory, least};
