@@ -44,7 +44,7 @@ abbrev pub TakenAreFew : Type 0
 TakenAreFew = (p : Search) (taken : List Taken) → IsSound p → IsRun p taken
     → length taken ≤ p.grid.height * p.grid.width
 
--- the octile distance, and no estimate, are consistent
+-- the octile distance is consistent, and so is 0
 abbrev pub OctileIsConsistent : Type 0
 OctileIsConsistent = (g : GridData) (goal : Cell) → IsConsistent g goal (octile_to goal)
 

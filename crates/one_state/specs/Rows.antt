@@ -13,7 +13,7 @@ use Rattle.grid_moves.specs.Examples.{pillar}
 use Rattle.pruning.specs.declared.Arrival.TheVariants.{Start, By}
 use Rattle.pruning.specs.Explored.{Reached, Stops, PassesNoStop}
 use Rattle.one_state.specs.Estimate.{Estimate, IsConsistent, no_estimate, octile_to}
-use Rattle.one_state.specs.Instances.{at_first, at_first_plus, besides}
+use Rattle.one_state.specs.Instances.{at_first, at_first_plus, besides, bounded}
 use Rattle.one_state.specs.Search.{Search, Taken}
 use Rattle.one_state.specs.Tested.{is_run}
 
@@ -110,6 +110,30 @@ to_the_corner-one = refl
 
 pub to_the_corner-both : is_run (everywhere Both no_estimate) to_the_corner ≡ true
 to_the_corner-both = refl
+
+-- step by step, with no jump at all
+abbrev steps : Corner → Search
+steps corner = record {
+  grid = pillar corner;
+  start = cell 0 0;
+  goal = end;
+  estimate = octile_to end;
+  stops = bounded 1 (pillar corner) end;
+}
+
+pub step_by_step : is_run (steps Never)
+    (taken 2 2 S 4 0 (cell 2 1) ∷ taken 2 1 S 3 0 (cell 2 0) ∷ taken 2 0 E 2 0 (cell 1 0)
+    ∷ taken 0 1 S 1 0 (cell 0 0) ∷ taken 1 0 E 1 0 (cell 0 0) ∷ start ∷ []) ≡ true
+step_by_step = refl
+
+abbrev past_it : List Taken
+past_it = taken 2 2 S 2 1 (cell 2 1) ∷ taken 2 1 SE 1 1 (cell 1 0) ∷ taken 1 0 E 1 0 (cell 0 0) ∷ start ∷ []
+
+pub step_by_step-one : is_run (steps One) past_it ≡ true
+step_by_step-one = refl
+
+pub step_by_step-both : is_run (steps Both) past_it ≡ true
+step_by_step-both = refl
 
 -- on `..../..@.` the goal's row is met at (1,1), but the run to the right of it is closed: published JPS+ stops
 -- there all the same

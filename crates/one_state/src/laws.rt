@@ -37,7 +37,7 @@ pub fn octile_is_consistent()
     ensures { OctileIsConsistent }
 {}
 
-/// No estimate at all is consistent.
+/// And so is 0, which is no estimate.
 pub fn nothing_is_consistent()
     ensures { NothingIsConsistent }
 {}
