@@ -1,5 +1,5 @@
 -- The lists of a plain search: what it takes to see that its answer is right.
-use Rattle.std.specs.Prelude.{◌≡◌, ℕ, ◌*◌, if◌then◌else◌, refl, List, [], ◌∷◌, Option, Some, None, map}
+use Rattle.std.specs.Prelude.{◌≡◌, ◌*◌, if◌then◌else◌, refl, List, [], ◌∷◌, Option, Some, None, map}
 use Rattle.std.specs.List.{Contains, filter_map, range_with_len}
 use Rattle.std.specs.List.Sorted.{IsStrictlyIncreasing}
 use Rattle.std.specs.Option.{option_and_then, option_map}

@@ -82,12 +82,7 @@ fn closed_at<T: Terrain>(
 }
 
 // The cell of this number, if it is reached.
-fn reached_at<T: Terrain>(
-    t: &T,
-    from: Cell,
-    costs: &[Option<Cost>],
-    number: usize,
-) -> Option<Cell>
+fn reached_at<T: Terrain>(t: &T, from: Cell, costs: &[Option<Cost>], number: usize) -> Option<Cell>
     requires from { is_free (T.grid t.now) from ≡ true }
     requires costs { AreCostsToAll (T.grid t.now) from costs.now }
     requires known { number < length costs.now }

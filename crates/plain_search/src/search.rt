@@ -2,8 +2,9 @@
 //!
 //! A state is taken by the least sum of its cost and the octile distance to the goal; among equal sums
 //! the one of the lesser cell number goes first, and of equal offers to a cell the earlier one stands.
-//! The search ends where the goal is taken, or where no state waits. Both have to be free. Moves that the parent
-//! has offered at no greater cost are left out (module `moves`), which changes nothing in the run.
+//! The search ends where the goal is taken, or where no state waits. Both ends have to be free. Moves that
+//! the parent has offered at no greater cost are left out (module `moves`), which changes nothing in the
+//! run.
 //!
 //! A* after Hart, Nilsson and Raphael (1968); the order of ties is this project's. The machine under it is
 //! `best_first`.

@@ -1,6 +1,5 @@
 -- The lists of a certificate are those of the plain engine.
 use Rattle.std.proofs.Common.{◌≡◌, ap, ◌∙◌, List}
-use Rattle.std.specs.Prelude.{Some, None}
 use Rattle.root2_cost.specs.declared.Cost.{Cost}
 use Rattle.grid_moves.specs.declared.Cell.{Cell}
 use Rattle.grid_moves.specs.Grid.{GridData}
