@@ -1,5 +1,5 @@
 # Which program ./jps runs, and how it is proved and built. Read by ./jps and tools/ship, with `top`, the checkout's
-# folder, and `looked`, where a look is kept.
+# folder.
 # shellcheck shell=bash
 out=$top/crates/jps/out
 built=$out/jps
@@ -81,8 +81,8 @@ is_handed() {
 begin_look() {
     began=""
     mkdir -p "$out" 2>/dev/null || return 0
-    find "$out" -maxdepth 1 -name 'looked.??????*' -mmin +1 -delete 2>/dev/null || true
-    began=$(mktemp "$out/looked.XXXXXX" 2>/dev/null) || return 0
+    find "$out" -maxdepth 1 -name 'look.??????*' -mmin +1 -delete 2>/dev/null || true
+    began=$(mktemp "$out/look.XXXXXX" 2>/dev/null) || return 0
     # (What is changed from now on has a later time than that file, if the clock ticks once.)
     sleep 0.02
 }
@@ -92,14 +92,16 @@ begin_look() {
 write_look() {
     local names=("${program#"$top"/}" "${made#"$top"/}")
     if [ "$program" = "$handed" ]; then names=("${handed#"$top"/}" dist/MANIFEST dist "dist/${told[program]%/*}"); fi
-    printf '%s\0' "${names[@]}" "$looked" && "$top/tools/sources" --list
+    printf '%s\0' "${names[@]}" && "$top/tools/sources" --list
 }
 
-# Keeps what was found, so that the next call need not look. Where that cannot be kept, as on a full disk, nothing is.
+# Keeps what was found, so that the next call need not look. Where that cannot be kept, as on a full disk, nothing is;
+# nor where files have times of whole seconds alone, as a change in the same second would not be seen.
 keep_look() {
     (
         trap '' XFSZ
-        write_look >"$began.kept" && touch -r "$began" "$began.kept" && mv -f "$began.kept" "$top/$looked"
+        at=$(find "$began" -printf '%T@') && [[ $at != *.0000000000 ]] && write_look >"$began.kept" &&
+            rm -f "$out"/looked* && mv -f "$began.kept" "$out/looked.$at"
     ) 2>/dev/null || true
 }
 
@@ -189,7 +191,7 @@ build() {
     fi
     tell "proving and building the program$first (log: $log)"
     # (without the program's own sum, so that the program is linked again, whatever became of it)
-    rm -rf "${top:?}/$looked" "$out"/looked.??????* "$out"/*.tmp-* "$out"/libs/*.tmp-* "$out/libs/jps.sum"
+    rm -rf "$out"/looked* "$out"/look.??????* "$out"/*.tmp-* "$out"/libs/*.tmp-* "$out/libs/jps.sum"
     while true; do
         before=$sources status=0
         : >"$log"
