@@ -19,6 +19,7 @@ MEANT = {
 }
 QUERY = ("map", "bucket", "entry", "program", "turn", "status", "straight", "diagonal", "listed", "ratio", "moves", "ns",
          "taken", "point")
+LEAST_SECONDS = 0.01                     # less than that processor time does not tell of two processes
 PREPARATION = ("made_seconds", "made_bytes", "ready", "whole", "peak")
 
 
@@ -48,8 +49,8 @@ class Results:
         if kept["fault"] or not kept["rows"]:
             return None
         if form == "walks":
-            count = len(kept["rows"]) - 1
-            return (kept["whole"] - kept["ready"]) / count if count and kept["ready"] is not None else None
+            count, rest = len(kept["rows"]) - 1, (kept["whole"] or 0) - (kept["ready"] or 0)
+            return rest / count if count and rest > LEAST_SECONDS else None
         times = [row["ns"] for row in kept["rows"]]
         return None if None in times else sum(times) / len(times) / 1e9
 
@@ -207,7 +208,8 @@ TABLES = {
         "Times",
         "Of each entry the median over the turns; from these the shares. The mean is the median of the turns' means, and the "
         "ratio that of the turns' ratios, with its quarters; `~` says that they do not tell it from 1. A program of the form "
-        "`walks` has a mean alone: the process with all entries less that with the first, over the others.",
+        "`walks` has a mean alone: the process with all entries less that with the first, over the others; none "
+        "where that is below 10 ms.",
         time_table,
     ),
     "lengths": ("By length", "The mean time of the entries of all maps, by listed length.", length_table),

@@ -6,12 +6,12 @@ import math
 import inputs
 import numbers_of as told
 
-# Colours that people who see few colours tell apart (Okabe and Ito).
-COLOURS = {"plain": "#0072B2", "jps": "#E69F00", "block": "#009E73", "plus": "#CC79A7"}
+# The colours of the page (page/style.css), which people who see few colours tell apart (after Okabe and Ito).
+COLOURS = {"plain": "#d55e00", "jps": "#0072b2", "block": "#007a5a", "plus": "#b3508c"}
 INK, PALE = "#333", "#ddd"
 
 # In the picture of taken states one state for each cell has a colour of its own: its dots are too small to be rings.
-TAKEN_COLOURS = {("plain", "arrival"): "#0072B2", ("block", "arrival"): "#009E73", ("block", "cell"): "#D55E00"}
+TAKEN_COLOURS = {("plain", "arrival"): "#d55e00", ("block", "arrival"): "#007a5a", ("block", "cell"): "#56b4e9"}
 MOST_DOTS = 150
 
 

@@ -13,8 +13,9 @@
 // as the program has them (docs/RULES.md, docs/FORMATS.md); open=heap|pairing: which open list the jump engines use;
 // and by=textbook: the searches of textbook.hpp. It trusts its inputs: what breaks a form ends it with a line, not with the program's own fault.
 //
-// It is there to be compared with. So it chooses freely what is fastest in C++: a heap with four children for each
-// place, in which a state may stand more than once, sums as doubles, an index by cell. `open=pairing` is the kind
+// It is there to be compared with. So it chooses freely what is fast in C++: a heap with four children for each place, in
+// which a state may stand more than once, sums as doubles, an index by cell. (For `plain` buckets are faster, which
+// `by=textbook` has, but take equal sums in another order.) `open=pairing` is the kind
 // of open list that the program has (a pairing heap, in which a state stands once and is moved), so that the price
 // of that list can be told from the price of the language.
 //
