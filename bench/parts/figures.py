@@ -574,13 +574,10 @@ def readme_text(results):
     lines = [reference_row(rows), library_row(results) if "libraries" in results else None]
     names = sorted(maps_of(rows), key=lambda name: results["maps"][name]["width"] * results["maps"][name]["height"])
     sizes = [cells_of(results, name).replace("x", "×") for name in (names[0], names[-1])]
-    head = f"On {len(names)} maps, from {sizes[0]} to {sizes[1]} cells"
+    head = f"On {len(names)} maps, from {sizes[0]} to {sizes[1]} cells, with `states=cell`"
     mine = main_rows(rows)
     quick, slow = (choose(mine, key=lambda row: told.median(row["per_query"])) for choose in (min, max))
     last = f"A mean query takes from {mean_words(quick)} to {mean_words(slow)}"
-    campus = find(mine, map="campus", engine="block")
-    if campus:
-        last += f"; on the campus `block` takes {told.seconds(told.median(campus['per_query']))}"
     last = f"{last}.".replace(" us", " µs")
     return [told.table(["Beside", head], [line for line in lines if line]), last]
 
@@ -591,7 +588,7 @@ REAL_WORDS = {"campus": "campus", "windfury": "game map", "underworld": "game ma
 
 def mean_words(row):
     where = REAL_WORDS.get(row["map"]) or short(row["map"]).split(",")[0]
-    return f"{told.seconds(told.median(row['per_query']))} (`{engine_words(row)}`, {where})"
+    return f"{told.seconds(told.median(row['per_query']))} (`{row['engine']}`, {where})"
 
 
 def in_unit(seconds, unit):
@@ -632,20 +629,19 @@ def engines_text(results):
     open_side, side = (f"{results[part]['side']} × {results[part]['side']}" for part in ("open_land", "processes"))
     first = [of.process(f"first answer, {engine}", "s") for engine in ("plain", "block", "plus")]
     rooms = [of.query("rooms32", *it) for it in ROOMS]
-    walls = [of.query("random25", *it) for it in WALLS]
     far_side = find(results["dearest"]["rows"], map="scattered")["side"]
-    far_walls = [far_side, far_side, *(of.dearest("scattered", *it) for it in FAR_WALLS)]
+    walls = [far_side, far_side, *(of.dearest("scattered", *it) for it in WALLS)]
     short = [of.open_land("short", engine, "µs") for engine in ("plain", "plus", "block", "jps")]
     far = [of.open_land("walled in", engine, "ms") for engine in ("plus", "block", "jps", "plain")]
     edits = [of.process("edit, scattered, block", "µs"), of.process("edit, scattered, plus", "µs")]
     edits.append(of.process("edit, open, plus", "ms"))
     told_of = [
         f"start on {side}: {first[0]}, {first[1]} s; `plus` makes tables, {first[2]} s",
-        "rooms, 512 × 512: {}, {} µs, by arrival {}, {}; `plain` {}".format(*rooms),
+        "rooms, 512 × 512: {}, {} µs, `plain` {}".format(*rooms),
         f"open, {open_side}, through `live`: {{}}, {{}} µs; `block` {{}}, `jps` {{}}".format(*short),
         "there: {}, {} ms; `jps` {}, `plain` {}".format(*far),
         f"{{}} µs; `plus` {{}} µs, amid open land {{}} ms ({side})".format(*edits),
-        "{}, {} µs, `plain` {}; by arrival {}, {}; across {} × {}: {}, {} s, `plain` {}; by arrival {}, {}".format(*walls, *far_walls),
+        "across {} × {}: {}, {} s, `plain` {}; by arrival {}, {}".format(*walls),
     ]
     lines = [[*row, figures] for row, figures in zip(SUITED, told_of)]
     return [told.table(["Your queries", "Engine", "Figures, with `states=cell`"], lines)]
@@ -660,9 +656,8 @@ SUITED = (
     ("edits", "`block`"),
     ("scattered walls, a quarter blocked", "`plus`, `block`"),
 )
-ROOMS = (("plus", "µs", "cell"), ("block", "µs", "cell"), ("plus",), ("block",), ("plain",))
-FAR_WALLS = (("plus", "cell"), ("block", "cell"), ("plain", "arrival"), ("plus", "arrival"), ("block", "arrival"))
-WALLS = (("plus", "µs", "cell"), ("block", "µs", "cell"), ("plain",), ("plus",), ("block",))
+ROOMS = (("plus", "µs", "cell"), ("block", "µs", "cell"), ("plain",))
+WALLS = (("plus", "cell"), ("block", "cell"), ("plain", "arrival"), ("plus", "arrival"), ("block", "arrival"))
 
 
 # ---------------------------------------------------------------- pages
