@@ -146,7 +146,7 @@ def time_table(results):
 
 def group_of(length):
     """Lengths go by doubling: the group n has those from 2^n to below 2^(n + 1), the group 0 all below 2."""
-    return max(0, int(math.log2(length))) if length >= 1 else 0
+    return int(math.log2(length)) if 1 <= length < math.inf else 0
 
 
 def groups(results, number):
