@@ -8,17 +8,18 @@ import plots
 
 # More colours that people who see few colours tell apart, for programs that are not named as an engine is.
 OTHERS = ("#333333", "#e69f00", "#56b4e9", "#8a6d3b", "#6a5acd", "#999999")
+DASHES = ("", "6 3", "2 3", "9 3 2 3")   # of programs of one colour
 RANKS = 200                              # points of a curve
 
 
 def colours(results):
-    """The colour of each program, and whether its line is dashed: an engine's name in it gives the engine's colour."""
-    others, found, used = itertools.cycle(OTHERS), {}, set()
+    """The colour of each program, and the dashes of its line: an engine's name in it gives the engine's colour."""
+    others, found, used = itertools.cycle(OTHERS), {}, []
     for number, program in enumerate(results.programs):
         engine = next((it for it in plots.COLOURS if it in program.name.replace("-", " ").replace("_", " ").split()), None)
         colour = plots.COLOURS[engine] if engine else next(others)
-        found[number] = (colour, colour in used)
-        used.add(colour)
+        found[number] = (colour, DASHES[used.count(colour) % len(DASHES)])
+        used.append(colour)
     return found
 
 
@@ -26,9 +27,9 @@ def legend(panel, results, shown, left):
     """A line for each program, below one another."""
     kinds = colours(results)
     for place, number in enumerate(shown):
-        colour, dashed = kinds[number]
+        colour, dashes = kinds[number]
         y = 50 + 17 * place
-        dash = ' stroke-dasharray="5 3"' if dashed else ""
+        dash = f' stroke-dasharray="{dashes}"' if dashes else ""
         panel.parts.append(f'<path d="M{left} {y - 4}h20" stroke="{colour}" stroke-width="2"{dash}/>')
         panel.text(left + 26, y, results.programs[number].name)
 
