@@ -86,7 +86,7 @@ int main(int, char **words) {
     auto length = [](const Edge &edge) { return edge.direction & 1 ? SQRT2 : 1.0; };
     auto weight = boost::make_function_property_map<Edge>(length);
     auto by_cell = [&](auto &values) { return boost::make_iterator_property_map(values.begin(), index); };
-    measure(began, queries, [&](const Query &it) -> double {
+    auto length_of = [&](const Query &it) -> double {
         uint32_t start = uint32_t(map.number(it.start_x, it.start_y));
         uint32_t goal = uint32_t(map.number(it.goal_x, it.goal_y));
         try {
@@ -98,5 +98,12 @@ int main(int, char **words) {
             return costs[goal];
         }
         return -1;
+    };
+    measure(began, words, map, queries, length_of, [&](const Query &it, std::vector<uint32_t> &cells) {
+        uint32_t start = uint32_t(map.number(it.start_x, it.start_y));
+        uint32_t cell = uint32_t(map.number(it.goal_x, it.goal_y));
+        for (; cell != start; cell = parents[cell]) cells.push_back(cell);
+        cells.push_back(start);
+        std::reverse(cells.begin(), cells.end());
     });
 }

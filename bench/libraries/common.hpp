@@ -79,15 +79,28 @@ static double octile(int columns, int rows) {
     return std::max(one, other) - less + less * SQRT2;
 }
 
-// Asks `length_of` for each query (the length found, below 0 where there is none) and prints a line of JSON.
-template <class F> static void measure(double began, const std::vector<Query> &queries, F length_of) {
+// Asks `length_of` for each query (the length found, below 0 where there is none). Prints a line of JSON; or, where
+// `timed` stands behind the names of the files, the walks as bench/contest reads them, each with its nanoseconds, in which
+// `path_of`, which puts the cells from start to goal, is counted too.
+template <class F, class G>
+static void measure(double began, char **words, const Map &map, const std::vector<Query> &queries, F length_of, G path_of) {
     double prepared = now() - began, sum = 0;
+    bool is_timed = words[3] && std::string(words[3]) == "timed";
     size_t wrong = 0;
+    std::vector<uint32_t> cells;
+    if (is_timed) printf("prepared %.0f\n", prepared * 1e9);
     for (const Query &it : queries) {
+        cells.clear();
         double before = now(), length = length_of(it);
-        sum += now() - before;
+        if (is_timed && length >= 0) path_of(it, cells);
+        double spent = now() - before;
+        sum += spent;
         wrong += std::fabs(length - it.length) > 1e-6 * (1 + it.length);
+        if (!is_timed) continue;
+        for (uint32_t cell : cells) printf("%d,%d ", int(cell) % map.width, int(cell) / map.width);
+        printf("%s%.0f\n", length < 0 ? "none " : "", spent * 1e9);
     }
+    if (is_timed) return;
     printf("{\"queries\": %zu, \"prepared\": %.6f, \"mean\": %.9f, \"wrong\": %zu}\n", queries.size(), prepared,
            queries.empty() ? 0 : sum / double(queries.size()), wrong);
 }

@@ -58,6 +58,8 @@ func _init():
 	var file = File.new()
 	file.open(words["--scen"], File.READ)
 	file.get_line()
+	if "--timed" in words:
+		print("prepared " + str(prepared * 1000))
 	var count = 0
 	var sum = 0
 	var wrong = 0
@@ -67,9 +69,17 @@ func _init():
 			continue
 		var before = OS.get_ticks_usec()
 		var path = graph.get_id_path(int(fields[5]) * width + int(fields[4]), int(fields[7]) * width + int(fields[6]))
-		sum += OS.get_ticks_usec() - before
+		var spent = OS.get_ticks_usec() - before
+		sum += spent
 		count += 1
+		if "--timed" in words:
+			var line = ""
+			for cell in path:
+				line += "%d,%d " % [int(cell) % width, int(cell) / width]
+			print((line if path.size() else "none ") + str(spent * 1000))
+			continue
 		if abs(length_of(path, width) - float(fields[8])) > 1e-6 * (1.0 + float(fields[8])):
 			wrong += 1
-	print('{"queries": %d, "prepared": %.6f, "mean": %.9f, "wrong": %d}' % [count, prepared / 1e6, sum / 1e6 / count, wrong])
+	if not "--timed" in words:
+		print('{"queries": %d, "prepared": %.6f, "mean": %.9f, "wrong": %d}' % [count, prepared / 1e6, sum / 1e6 / count, wrong])
 	quit()

@@ -22,8 +22,13 @@ int main(int, char **words) {
     lemon::StaticDigraph::ArcMap<double> weights(graph);
     for (size_t arc = 0; arc < lengths.size(); arc++) weights[graph.arc(int(arc))] = lengths[arc];
     lemon::Dijkstra<lemon::StaticDigraph, lemon::StaticDigraph::ArcMap<double>> search(graph, weights);
-    measure(began, queries, [&](const Query &it) -> double {
+    auto length_of = [&](const Query &it) -> double {
         auto goal = graph.node(int(map.number(it.goal_x, it.goal_y)));
         return search.run(graph.node(int(map.number(it.start_x, it.start_y))), goal) ? search.dist(goal) : -1;
+    };
+    measure(began, words, map, queries, length_of, [&](const Query &it, std::vector<uint32_t> &cells) {
+        auto node = graph.node(int(map.number(it.goal_x, it.goal_y)));
+        for (; node != lemon::INVALID; node = search.predNode(node)) cells.push_back(uint32_t(graph.id(node)));
+        std::reverse(cells.begin(), cells.end());
     });
 }

@@ -14,7 +14,7 @@ int main(int, char **words) {
     Map map(words[1]);
     auto queries = read_scenario(words[2]);
     TCOD_path_t path = TCOD_path_new_using_function(map.width, map.height, is_walkable, &map, float(SQRT2));
-    measure(began, queries, [&](const Query &it) -> double {
+    auto length_of = [&](const Query &it) -> double {
         if (!TCOD_path_compute(path, it.start_x, it.start_y, it.goal_x, it.goal_y)) return -1;
         int count = TCOD_path_size(path), x = it.start_x, y = it.start_y;
         double length = 0;
@@ -26,5 +26,13 @@ int main(int, char **words) {
             y = next_y;
         }
         return length;
+    };
+    measure(began, words, map, queries, length_of, [&](const Query &it, std::vector<uint32_t> &cells) {
+        cells.push_back(uint32_t(map.number(it.start_x, it.start_y)));
+        for (int place = 0, count = TCOD_path_size(path); place < count; place++) {
+            int x, y;
+            TCOD_path_get(path, place, &x, &y);
+            cells.push_back(uint32_t(map.number(x, y)));
+        }
     });
 }

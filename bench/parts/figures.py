@@ -13,7 +13,7 @@ import plots
 ENGINES = ("plain", "jps", "block", "plus")
 JUMPS = ENGINES[1:]
 MOST = 1.15                              # above this the part of the open list is told
-HEAPS = "../bench/FIGURES.md#where-an-engine-takes-more-than-115-of-the-references-time"
+TEXTBOOK = "../bench/FIGURES.md#beside-the-textbook"
 
 
 def find(rows, **wanted):
@@ -42,6 +42,11 @@ def maps_of(rows):
     return list(dict.fromkeys(row["map"] for row in rows))
 
 
+def main_states(rows, engine):
+    """The states of the main tables: one for each cell, as the field has it, where that was measured."""
+    return "cell" if engine in JUMPS and find(rows, engine=engine, states="cell") else "arrival"
+
+
 def states_of(rows):
     return list(dict.fromkeys(row["states"] for row in rows if row["engine"] != "plain"))
 
@@ -53,11 +58,12 @@ def ratio_of(rows, name, engine, states, one="jps", other="reference"):
     return told.ratio(mine["per_query"], theirs["per_query"]) if mine and theirs else None
 
 
-def medians(rows, states="arrival", other="reference", engines=ENGINES):
+def medians(rows, states=None, other="reference", engines=ENGINES):
     """For each engine the median over the maps of the ratios to another program."""
     found = {}
     for engine in engines:
-        ratios = [ratio_of(rows, name, engine, states, other=other) for name in maps_of(rows)]
+        key = "arrival" if engine == "plain" else states or main_states(rows, engine)
+        ratios = [ratio_of(rows, name, engine, key, other=other) for name in maps_of(rows)]
         ratios = [it[0] for it in ratios if it]
         if ratios:
             found[engine] = told.median(ratios)
@@ -88,7 +94,7 @@ def queries_table(results, states, engines):
     for name in maps_of(rows):
         line = [name_of(name), cells_of(results, name).replace(" ", "")]
         for engine in engines:
-            key = "arrival" if engine == "plain" else states
+            key = "arrival" if engine == "plain" else states or main_states(rows, engine)
             mine = find(rows, map=name, engine=engine, states=key, program="jps")
             ratio = ratio_of(rows, name, engine, key)
             line.append(told.micros(told.median(mine["per_query"])) if mine else "")
@@ -113,18 +119,30 @@ def cell_gain(results):
     return told.table(["`states=cell` over `arrival`", *(f"`{it}`" for it in JUMPS)], lines)
 
 
-def cell_line(results):
-    """The same in one line: the medians over the maps, and the least and largest."""
+def arrival_line(results):
+    """How long the searches by arrival take, in one line: the medians over the maps, and the least and largest."""
     rows = results["queries"]
     found = []
     for engine in JUMPS:
-        pairs = [[find(rows, map=name, engine=engine, states=it, program="jps") for it in ("cell", "arrival")]
+        pairs = [[find(rows, map=name, engine=engine, states=it, program="jps") for it in ("arrival", "cell")]
                  for name in maps_of(rows)]
         ratios = [told.ratio(*(it["per_query"] for it in pair))[0] for pair in pairs if all(pair)]
         if ratios:
             found.append(f"`{engine}` {told.median(ratios):.2f} ({min(ratios):.2f} to {max(ratios):.2f})")
-    words = "With one state for each cell they take this share of their time by arrival (median over the maps): "
-    return f"{words}{', '.join(found)}; [FIGURES](../bench/FIGURES.md#with-one-state-for-each-cell) has each map."
+    words = "By arrival, the setting where none is named, they take so many times as long (median over the maps): "
+    return f"{words}{', '.join(found)}; [FIGURES](../bench/FIGURES.md#with-one-state-for-each-arrival) has each map."
+
+
+def textbook_text(results):
+    """Each map by each engine beside the searches as the papers have them."""
+    rows, lines = results["queries"], []
+    for name in maps_of(rows):
+        found = [ratio_of(rows, name, it, main_states(rows, it), other="textbook") for it in ENGINES]
+        lines.append([name_of(name), *(told.ratio_text(it) if it else "" for it in found)])
+    middle = medians(rows, other="textbook")
+    lines.append(["median", *(f"{middle[it]:.2f}" if it in middle else "" for it in ENGINES)])
+    words = "The time over that of searches as the papers have them, with one node for each cell; of `plain` over that of "
+    return [words + "A\\* by buckets.", told.table(["Map", *(f"`{it}`" for it in ENGINES)], lines)]
 
 
 def heap_table(results):
@@ -155,24 +173,26 @@ def has_pairing(results):
 
 
 def queries_text(results):
-    parts = [origin(results), queries_table(results, "arrival", ENGINES)]
+    parts = [origin(results), queries_table(results, None, ENGINES)]
     parts.append(
         "A time is the mean of a map's further queries (150 to 400), by its median over the turns; behind it stands the "
         "median of the turns' ratios to the C++ reference of the same engine; `~` says that they do not tell it from 1. "
-        "These engines have a state for each arrival; the field's JPS has one for each cell (`states=cell`)."
+        "The engines that jump have one state for each cell here (`states=cell`), as the field's JPS has."
     )
     if has_cell(results):
-        parts.append(cell_line(results))
-    if has_pairing(results):
-        parts.append(f"Above {MOST} of the reference's time [FIGURES]({HEAPS}) tells how much is the kind of open list.")
+        parts.append(arrival_line(results))
     for other in dict.fromkeys(row["program"] for row in results["queries"]):
-        if other in ("jps", "reference"):
+        if other in ("jps", "reference", "pairing"):
             continue
-        middle = medians(results["queries"], other=other)
-        found = ", ".join(f"`{engine}` {ratio:.2f}" for engine, ratio in middle.items())
-        words = "the reference with the program's kind of open list" if other == "pairing" else f"the build {other}"
-        parts.append(f"Beside {words}, the median of the ratios: {found}.")
+        words = f"[the textbook's searches]({TEXTBOOK})" if other == "textbook" else f"the build {other}"
+        parts.append(f"Beside {words}, the median of the ratios: {middle_words(results, other)}.")
     return parts
+
+
+def middle_words(results, other):
+    """The medians of the ratios to another program, by engine."""
+    middle = medians(results["queries"], other=other)
+    return ", ".join(f"`{engine}` {ratio:.2f}" for engine, ratio in middle.items())
 
 
 def told_queries(results):
@@ -211,26 +231,47 @@ def counts_text(results):
     rows = results["counts"]["rows"]
     if not rows:
         return None
+    has_textbook = any(row["program"] == "textbook" for row in rows)
     kinds = ("instructions", "wrong branches", "near misses", "misses")
     names = [it for it in kinds if any(it in row.get("per_query", {}) for row in rows)]
     lines = []
     for row in rows:
-        other = find(rows, program="reference", **{it: row[it] for it in ("map", "engine", "states")})
+        key = {it: row[it] for it in ("map", "engine", "states")}
+        other, textbook = (find(rows, program=it, **key) for it in ("reference", "textbook"))
         if row["program"] != "jps" or not (other and "per_query" in row and "per_query" in other):
             continue
-        engine = engine_words(row)
-        line = [name_of(row["map"]), f"`{engine}`"]
+        line = [name_of(row["map"]), f"`{engine_words(row)}`", row["entries"] - 1]
         for name in names:
             own, theirs = row["per_query"][name], other["per_query"][name]
             line.append(f"{told.three(own / 1e3)} ({own / theirs:.2f})" if theirs > 0 else told.three(own / 1e3))
+        if has_textbook:
+            theirs = textbook.get("per_query") if textbook else None
+            line.append(f"{row['per_query']['instructions'] / theirs['instructions']:.2f}" if theirs else "")
         lines.append(line)
     if not lines:
         return None
     model = "valgrind's callgrind, whose caches and guesses are a model"
     by = "`perf stat`" if results["counts"]["by"] == "perf" else model
-    words = "Thousands for each further query, in brackets the ratio to the reference's; counted on fewer entries by "
-    words += f"{by}."
-    return [words, told.table(["Map", "Engine", *names], lines)]
+    facts = results["facts"]
+    words = f"Thousands for each further query, in brackets the ratio to the reference's; counted by {by}, on so many "
+    words += f"further entries of each map, evenly from its lengths ({facts['program']}, {results['began']})."
+    head = ["Map", "Engine", "entries", *names]
+    if has_textbook:
+        head.append("instructions beside the textbook's")
+        lines.append(["median", "", "", *[""] * len(names), textbook_counts(rows)])
+    return [words, told.table(head, lines)]
+
+
+def textbook_counts(rows):
+    """The medians over the maps of the instructions beside the textbook's searches."""
+    found = {}
+    for row in rows:
+        key = {it: row[it] for it in ("map", "engine", "states")}
+        other = find(rows, program="textbook", **key)
+        if row["program"] == "jps" and other and "per_query" in row and "per_query" in other:
+            ratio = row["per_query"]["instructions"] / other["per_query"]["instructions"]
+            found.setdefault(row["engine"], []).append(ratio)
+    return ", ".join(f"`{engine}` {told.median(ratios):.2f}" for engine, ratios in found.items())
 
 
 # ---------------------------------------------------------------- libraries
@@ -272,7 +313,9 @@ def libraries_text(results):
         lines.append([short(name), *(", ".join(map(told.times_as_long, pair)) if pair else "" for pair in pairs)])
     wrong = sorted({row["library"] for row in results["libraries"]["rows"] if row.get("wrong")})
     agree = f"Other lengths were told by {', '.join(wrong)}." if wrong else "All lengths agreed."
-    words = "How many times as long a library takes as the program's `plain` and as its `block`, on the same queries. "
+    states = next((row["states"] for row in results["libraries"]["beside"] if row["engine"] == "block"), "arrival")
+    block = engine_words({"engine": "block", "states": states})
+    words = f"How many times as long a library takes as the program's `plain` and as its `{block}`, on the same queries. "
     words += agree
     return [words, told.table(["Map", *names], lines)]
 
@@ -335,8 +378,8 @@ def asked_words(row):
 
 
 def pipe_text(results):
-    """The medians, with a state for each arrival."""
-    rows = [row for row in results["pipe"] if row["states"] != "cell"]
+    """The medians; the engines that jump with one state for each cell."""
+    rows = [row for row in results["pipe"] if row["states"] in ("", main_states(results["pipe"], row["engine"]))]
     engines = list(dict.fromkeys(row["engine"] for row in rows))
     lines = []
     for name in maps_of(rows):
@@ -411,11 +454,12 @@ QUICK_FOR_JUMPS = ("spiral", "open")     # these have room in bench/FIGURES.md a
 
 
 def open_land_text(results):
-    """The medians, with a state for each arrival."""
+    """The medians; the engines that jump with one state for each cell."""
     part = results["open_land"]
+    states = {engine: main_states(part["rows"], engine) for engine in ENGINES}
     lines = []
     for kind, words in KIND_WORDS.items():
-        found = [find(part["rows"], kind=kind, engine=engine, states="arrival") for engine in ENGINES]
+        found = [find(part["rows"], kind=kind, engine=engine, states=states[engine]) for engine in ENGINES]
         lines.append([words, *(told.seconds(row["0.5"]) if row else "" for row in found)])
     words = "The median by the clock, through `live`; more: [FIGURES](../bench/FIGURES.md#on-open-land)."
     head = ["On {0} x {0} open cells".format(part["side"]), *(f"`{it}`" for it in ENGINES)]
@@ -452,8 +496,8 @@ def dearest_text(results):
             pair = (find(rows, map=kind, side=side, engine=engine, states=it) for it in ("arrival", "cell"))
             line.append(", ".join(dear_time(row) for row in pair if row))
         lines.append(line)
-    words = "The dearest queries that are known, by arrival and by cell (of the first three the goal is walled in); "
-    words += "there `jps` by arrival is for study. [FIGURES](../bench/FIGURES.md#the-dearest-queries) has more."
+    words = "The dearest queries that are known, by arrival and by cell (of the first three the goal is walled in). "
+    words += "[FIGURES](../bench/FIGURES.md#the-dearest-queries) has more."
     return [words, told.table(["Map", *(f"`{it}`" for it in ENGINES)], lines)]
 
 
@@ -485,9 +529,15 @@ def taken_table(results):
 
 # ---------------------------------------------------------------- README
 
+def main_rows(rows):
+    """The program's rows in the main tables."""
+    mine = [row for row in rows if row["program"] == "jps"]
+    return [row for row in mine if row["states"] == main_states(rows, row["engine"])]
+
+
 def reference_row(rows):
     """How the program stands to the reference: the medians over the maps, and the least and largest ratio."""
-    mine = [row for row in rows if row["program"] == "jps" and row["states"] == "arrival"]
+    mine = main_rows(rows)
     ratios = [ratio_of(rows, row["map"], row["engine"], row["states"])[0] for row in mine]
     middle = ", ".join(f"`{engine}` {value:.2f}" for engine, value in medians(rows).items())
     middle = middle.replace("` ", "` takes ", 1)
@@ -512,7 +562,9 @@ def library_row(results):
     if not plain or not block or not walls:
         return None
     words = [told.times_as_long(pick(them)) for them in (plain, block, walls) for pick in (min, max)]
-    row = "A* takes {} to {} times as long as `plain`; all take {} to {} times as long as `block`, among scattered walls {} to {}"
+    by_arrival = find(results["libraries"]["beside"], engine="block", states="arrival")
+    row = "A* takes {} to {} times as long as `plain`; all take {} to {} times as long as `block`"
+    row += f"{' by arrival' if by_arrival else ''}, among scattered walls {{}} to {{}}"
     return [library_words(found), row.format(*words)]
 
 
@@ -522,13 +574,10 @@ def readme_text(results):
     lines = [reference_row(rows), library_row(results) if "libraries" in results else None]
     names = sorted(maps_of(rows), key=lambda name: results["maps"][name]["width"] * results["maps"][name]["height"])
     sizes = [cells_of(results, name).replace("x", "×") for name in (names[0], names[-1])]
-    head = f"On {len(names)} maps, from {sizes[0]} to {sizes[1]} cells"
-    mine = [row for row in rows if row["program"] == "jps"]
+    head = f"On {len(names)} maps, from {sizes[0]} to {sizes[1]} cells, with `states=cell`"
+    mine = main_rows(rows)
     quick, slow = (choose(mine, key=lambda row: told.median(row["per_query"])) for choose in (min, max))
     last = f"A mean query takes from {mean_words(quick)} to {mean_words(slow)}"
-    campus = find(mine, map="campus", engine="block", states="arrival")
-    if campus:
-        last += f"; on the campus `block` takes {told.seconds(told.median(campus['per_query']))}"
     last = f"{last}.".replace(" us", " µs")
     return [told.table(["Beside", head], [line for line in lines if line]), last]
 
@@ -539,7 +588,7 @@ REAL_WORDS = {"campus": "campus", "windfury": "game map", "underworld": "game ma
 
 def mean_words(row):
     where = REAL_WORDS.get(row["map"]) or short(row["map"]).split(",")[0]
-    return f"{told.seconds(told.median(row['per_query']))} (`{engine_words(row)}`, {where})"
+    return f"{told.seconds(told.median(row['per_query']))} (`{row['engine']}`, {where})"
 
 
 def in_unit(seconds, unit):
@@ -560,7 +609,11 @@ class Medians:
 
     def open_land(self, kind, engine, unit):
         rows = self.results["open_land"]["rows"]
-        return in_unit(find(rows, kind=kind, engine=engine, states="arrival")["0.5"], unit)
+        return in_unit(find(rows, kind=kind, engine=engine, states=main_states(rows, engine))["0.5"], unit)
+
+    def dearest(self, kind, engine, states):
+        row = find(self.results["dearest"]["rows"], map=kind, engine=engine, states=states)
+        return f"{told.median(row['per_query']):.2f}"
 
     def process(self, name, unit):
         value = max(told.median(self.results["processes"]["rows"][name]["processor"]), 1e-9)
@@ -569,28 +622,29 @@ class Medians:
 
 def engines_text(results):
     """README's table of engines: which one suits is typed here, so read it after a run; the figures are the run's."""
-    parts = ("queries", "open_land", "processes")
+    parts = ("queries", "open_land", "processes", "dearest")
     if not all(results.get(part) for part in parts) or not find(results["queries"], map="rooms32", states="cell"):
         return None
     of = Medians(results)
     open_side, side = (f"{results[part]['side']} × {results[part]['side']}" for part in ("open_land", "processes"))
     first = [of.process(f"first answer, {engine}", "s") for engine in ("plain", "block", "plus")]
     rooms = [of.query("rooms32", *it) for it in ROOMS]
-    walls = [of.query("random25", *it) for it in WALLS]
+    far_side = find(results["dearest"]["rows"], map="scattered")["side"]
+    walls = [far_side, far_side, *(of.dearest("scattered", *it) for it in WALLS)]
     short = [of.open_land("short", engine, "µs") for engine in ("plain", "plus", "block", "jps")]
     far = [of.open_land("walled in", engine, "ms") for engine in ("plus", "block", "jps", "plain")]
     edits = [of.process("edit, scattered, block", "µs"), of.process("edit, scattered, plus", "µs")]
     edits.append(of.process("edit, open, plus", "ms"))
     told_of = [
         f"start on {side}: {first[0]}, {first[1]} s; `plus` makes tables, {first[2]} s",
-        "rooms, 512 × 512: {}, {} µs, with `states=cell` {}, {}; `plain` {}".format(*rooms),
+        "rooms, 512 × 512: {}, {} µs, `plain` {}".format(*rooms),
         f"open, {open_side}, through `live`: {{}}, {{}} µs; `block` {{}}, `jps` {{}}".format(*short),
         "there: {}, {} ms; `jps` {}, `plain` {}".format(*far),
         f"{{}} µs; `plus` {{}} µs, amid open land {{}} ms ({side})".format(*edits),
-        "{}, {} µs, `plain` {}; without it {}, {}".format(*walls),
+        "across {} × {}: {}, {} s, `plain` {}; by arrival {}, {}".format(*walls),
     ]
     lines = [[*row, figures] for row, figures in zip(SUITED, told_of)]
-    return [told.table(["Your queries", "Engine", "Figures"], lines)]
+    return [told.table(["Your queries", "Engine", "Figures, with `states=cell`"], lines)]
 
 
 # Which engines suit which queries; the order of the figures is that of the engines.
@@ -600,10 +654,10 @@ SUITED = (
     ("short, on open land", "`plain`, `plus`"),
     ("unreachable goals on open land", "`plus`, `block`"),
     ("edits", "`block`"),
-    ("scattered walls", "with `states=cell`: `plus`, `block`"),
+    ("scattered walls, a quarter blocked", "`plus`, `block`"),
 )
-ROOMS = (("plus",), ("block",), ("plus", "µs", "cell"), ("block", "µs", "cell"), ("plain",))
-WALLS = (("plus", "µs", "cell"), ("block", "µs", "cell"), ("plain",), ("plus",), ("block",))
+ROOMS = (("plus", "µs", "cell"), ("block", "µs", "cell"), ("plain",))
+WALLS = (("plus", "cell"), ("block", "cell"), ("plain", "arrival"), ("plus", "arrival"), ("block", "arrival"))
 
 
 # ---------------------------------------------------------------- pages
@@ -640,9 +694,12 @@ def more_blocks(results):
     if has("queries"):
         blocks["spread"] = spread_text(results)
         if has_cell(results):
-            blocks["cell"] = [queries_table(results, "cell", JUMPS), cell_gain(results)]
+            blocks["arrival"] = [queries_table(results, "arrival", JUMPS), cell_gain(results)]
         if has_pairing(results):
-            blocks["heaps"] = [heap_table(results)]
+            words = "Beside the reference with the program's kind of open list, the median of the ratios: "
+            blocks["heaps"] = [heap_table(results), f"{words}{middle_words(results, 'pairing')}."]
+        if any(row["program"] == "textbook" for row in results["queries"]):
+            blocks["textbook"] = textbook_text(results)
     if has("counts"):
         blocks["counts"] = counts_text(results)
     if has("taken"):

@@ -23,9 +23,8 @@ LEAST_SECONDS = 0.3
 # Commands and libraries that take many seconds are called in the first turns only.
 SLOW, SLOW_TURNS = ("boxes", "moves", "networkx A*"), 3
 
-# The most instructions of one counted call, by about: valgrind takes a hundred times as long as the processor.
-COUNTED_SECONDS = 0.06
-FEWEST_COUNTED, MOST_COUNTED = 3, 60
+# How many further entries of each map are counted: valgrind takes a hundred times as long as the processor.
+COUNTED = 12
 
 # What tells a row of the results.
 KEYS = ("map", "engine", "states", "program")
@@ -47,10 +46,13 @@ def variants_of(run):
 
 
 class Contestant:
-    """A program that takes `scen` with these words behind it."""
+    """A program that takes `scen` with these words behind it, and which engines and states it knows."""
 
-    def __init__(self, name, path, words=(), engines=programs.ENGINES):
-        self.name, self.path, self.words, self.engines = name, path, list(words), engines
+    def __init__(self, name, path, words=(), engines=programs.ENGINES, states=("arrival", "cell")):
+        self.name, self.path, self.words, self.engines, self.states = name, path, list(words), engines, states
+
+    def knows(self, variant):
+        return variant.engine in self.engines and (variant.engine == "plain" or variant.states in self.states)
 
     def scen(self, map_path, scenario_path, variant, *more):
         return [self.path, "scen", str(map_path), str(scenario_path), *variant.words, *self.words, *more]
@@ -95,7 +97,7 @@ def calibrated(run, name, variant, contestants):
     first = run.scratch.write("calibrate.scen", head + lines[0])
     outputs, needed = {}, 1
     for contestant in contestants:
-        if variant.engine not in contestant.engines:
+        if not contestant.knows(variant):
             continue
         kept = run.scratch.path("kept")
         map_path = run.inputs.map_path(name)
@@ -114,7 +116,7 @@ def make_cases(run, pairs, contestants):
     cases = []
     for place, (name, variant) in enumerate(pairs):
         entries, repeats = calibrated(run, name, variant, contestants)
-        chosen = [it for it in contestants if variant.engine in it.engines]
+        chosen = [it for it in contestants if it.knows(variant)]
         cases += [Case(run, name, variant, contestant, entries, repeats) for contestant in chosen]
         run.progress.step((place + 1) / len(pairs) / (run.turns + 1))
     return cases
@@ -346,13 +348,13 @@ def ask_library(words, row, folder):
 
 
 def library_cases(run):
-    """The program on the entries that the libraries get: `plain` and `block`."""
+    """The program on the entries that the libraries get: `plain`, and `block` with one state for each cell."""
     cases = []
     for name in run.library_maps:
         head, lines = inputs.entry_lines(run.inputs.scenario_path(name))
         for count in sorted({it[1] for it in programs.LIBRARIES.values()}):
             few = (head, inputs.evenly(lines, count))
-            for variant in (Variant("plain"), Variant("block")):
+            for variant in (Variant("plain"), Variant("block", "cell" if run.knows_states else "arrival")):
                 repeats = repeats_for(run, name, variant, run.contestants[0], count)
                 case = Case(run, name, variant, run.contestants[0], few, repeats)
                 case.row["asked"] = count
@@ -386,11 +388,10 @@ def libraries(run):
 
 # ---------------------------------------------------------------- counts, taken states
 
-def counted_row(run, name, variant, contestant, seconds):
+def counted_row(run, name, variant, contestant):
     """Instructions, wrong branches and misses for each further query of some entries."""
     head, lines = inputs.entry_lines(run.inputs.scenario_path(name))
-    count = max(FEWEST_COUNTED, min(MOST_COUNTED, len(lines), int(COUNTED_SECONDS / seconds)))
-    chosen = inputs.evenly(lines, count + 1)
+    chosen = inputs.evenly(lines, COUNTED + 1)
     stem = f"{name}-{variant.name}-{contestant.name}-counted".replace(" ", "-")
     whole = run.scratch.write(f"{stem}.scen", head + "".join(chosen))
     first = run.scratch.write(f"{stem}-first.scen", head + chosen[0])
@@ -404,31 +405,19 @@ def counted_row(run, name, variant, contestant, seconds):
     return row
 
 
-def reference_seconds(run):
-    """What a query took the reference, by map, engine and states: by it the counted entries are chosen, alike for all.
-
-    Where no queries were measured the fewest are counted.
-    """
-    found = {(name, it.engine, it.states): COUNTED_SECONDS for name in run.maps for it in run.variants}
-    for row in run.results.get("queries", []):
-        if row["program"] == "reference":
-            found[row["map"], row["engine"], row["states"]] = max(min(row["per_query"]), 1e-6)
-    return found
-
-
 def counts(run):
-    """Counts of the program and the reference. Callgrind's are the same whatever else runs, so all processors count."""
+    """Counts of the program, the reference and the textbook's searches. Callgrind's are the same whatever else runs, so all processors count."""
     run.results["counts"] = {"by": run.counter, "rows": []}
     if not run.counter:
         run.tell("nothing is counted: neither may perf count here, nor does valgrind run")
         return
-    seconds = reference_seconds(run)
     pairs = [(name, variant) for name in run.maps for variant in run.variants]
-    jobs = [(*pair, contestant) for pair in pairs for contestant in run.contestants[:2]]
+    counted = [it for it in run.contestants if it.name in ("jps", "reference", "textbook")]
+    jobs = [(*pair, contestant) for pair in pairs for contestant in counted if contestant.knows(pair[1])]
     done = 0
     jobs_at_once = 1 if run.counter == "perf" else run.jobs  # real caches are shared
     with concurrent.futures.ThreadPoolExecutor(jobs_at_once) as pool:
-        waiting = [pool.submit(counted_row, run, *job, seconds[job[0], job[1].engine, job[1].states]) for job in jobs]
+        waiting = [pool.submit(counted_row, run, *job) for job in jobs]
         for it in concurrent.futures.as_completed(waiting):
             run.results["counts"]["rows"].append(it.result())
             done += 1

@@ -6,12 +6,12 @@ import math
 import inputs
 import numbers_of as told
 
-# Colours that people who see few colours tell apart (Okabe and Ito).
-COLOURS = {"plain": "#0072B2", "jps": "#E69F00", "block": "#009E73", "plus": "#CC79A7"}
+# The colours of the page (page/style.css), which people who see few colours tell apart (after Okabe and Ito).
+COLOURS = {"plain": "#d55e00", "jps": "#0072b2", "block": "#007a5a", "plus": "#b3508c"}
 INK, PALE = "#333", "#ddd"
 
 # In the picture of taken states one state for each cell has a colour of its own: its dots are too small to be rings.
-TAKEN_COLOURS = {("plain", "arrival"): "#0072B2", ("block", "arrival"): "#009E73", ("block", "cell"): "#D55E00"}
+TAKEN_COLOURS = {("plain", "arrival"): "#d55e00", ("block", "arrival"): "#007a5a", ("block", "cell"): "#56b4e9"}
 MOST_DOTS = 150
 
 
@@ -56,9 +56,9 @@ class Panel:
         places = "".join(f"M{self.place(x, 0)} {self.place(y, 1)}h0" for x, y in points)
         self.parts.append(f'<path d="{places}" stroke="{colour}" stroke-width="3" stroke-linecap="round"/>')
 
-    def curve(self, points, colour, dashed=False):
+    def curve(self, points, colour, dashes=""):
         places = " ".join(f"{self.place(x, 0)},{self.place(y, 1)}" for x, y in points)
-        dash = ' stroke-dasharray="5 3"' if dashed else ""
+        dash = f' stroke-dasharray="{dashes}"' if dashes else ""
         self.parts.append(f'<polyline points="{places}" fill="none" stroke="{colour}" stroke-width="1.5"{dash}/>')
 
 
@@ -129,7 +129,7 @@ def growth_picture(results):
     for engine, states in dict.fromkeys((row["engine"], row["states"]) for row in rows):
         own = [row for row in rows if (row["engine"], row["states"]) == (engine, states)]
         points = sorted((inputs.GROWTH[row["map"]], told.median(row["per_query"])) for row in own)
-        panel.curve(points, COLOURS[engine], states == "cell")
+        panel.curve(points, COLOURS[engine], "5 3" if states == "cell" else "")
         for point in points:
             panel.dot(*point, COLOURS[engine], 3, states == "cell")
     legend(panel, rows, 30, 22, "line")

@@ -61,7 +61,7 @@ def build_reference(folder):
     """The reference as a program."""
     folder.mkdir(parents=True, exist_ok=True)
     source, target = BENCH / "reference" / "reference.cpp", folder / "reference"
-    if is_older(target, source):
+    if is_older(target, source, source.with_name("textbook.hpp")):
         fault = compile_one([os.environ.get("CXX", "g++"), *OPTIONS, "-o", str(target), str(source)], target)
         if fault:
             sys.exit(f"bench: the reference cannot be built: {fault}")

@@ -5,15 +5,17 @@
 //   reference query MAP SX SY GX GY [SETTINGS]     what `jps query` prints
 //   reference solve MAP SCRIPT [SETTINGS]          what `jps solve` prints
 //   reference scen MAP SCEN [SETTINGS]             what `jps scen` prints
+//   reference timed MAP SCEN [SETTINGS]            the walks of a scenario, timed, for `bench/contest`
 //   reference tables MAP [SETTINGS]                what `jps tables` prints
 //   reference scenario MAP COUNT SEED NAME         a scenario with exact lengths, spread over all lengths
 //
 // Settings: engine=plain|jps|block|plus, states=arrival|cell, rule=none|one|both, show=points|cells|trace|taken
-// as the program has them (docs/RULES.md, docs/FORMATS.md), and open=heap|pairing: which open list the jump
-// engines use. It trusts its inputs: what breaks a form ends it with a line, not with the program's own fault.
+// as the program has them (docs/RULES.md, docs/FORMATS.md); open=heap|pairing: which open list the jump engines use;
+// and by=textbook: the searches of textbook.hpp. It trusts its inputs: what breaks a form ends it with a line, not with the program's own fault.
 //
-// It is there to be compared with. So it chooses freely what is fastest in C++: a heap with four children for each
-// place, in which a state may stand more than once, sums as doubles, an index by cell. `open=pairing` is the kind
+// It is there to be compared with. So it chooses freely what is fast in C++: a heap with four children for each place, in
+// which a state may stand more than once, sums as doubles, an index by cell. (For `plain` buckets are faster, which
+// `by=textbook` has, but take equal sums in another order.) `open=pairing` is the kind
 // of open list that the program has (a pairing heap, in which a state stands once and is moved), so that the price
 // of that list can be told from the price of the language.
 //
@@ -35,6 +37,7 @@
 #include <fcntl.h>
 #include <sys/mman.h>
 #include <sys/stat.h>
+#include <time.h>
 #include <unistd.h>
 
 #define LIKELY(x) __builtin_expect(!!(x), 1)
@@ -935,7 +938,7 @@ private:
 struct Settings {
     Engine engine = PLAIN;
     Rule rule = NONE;
-    bool one_state_a_cell = false, pairing = false;
+    bool one_state_a_cell = false, pairing = false, textbook = false;
     std::string show = "points";
 };
 
@@ -944,6 +947,8 @@ struct Layer {
     virtual ~Layer() = default;
     virtual void query(int start_x, int start_y, int goal_x, int goal_y, Answer &answer, bool trace) = 0;
 };
+
+#include "textbook.hpp"
 
 struct PlainLayer : Layer {
     Grid grid;
@@ -982,7 +987,15 @@ static LayerPointer ruled_layer(const Map &map, Ground layer, const Settings &se
     return jump_layer<Jumps<BOTH>>(map, layer, settings);
 }
 
+static LayerPointer textbook_layer(const Map &map, Ground layer, Engine engine) {
+    if (engine == JPS) return std::make_unique<textbook::Search<textbook::ByCell>>(map, layer);
+    if (engine == BLOCK) return std::make_unique<textbook::Search<textbook::ByBlock>>(map, layer);
+    if (engine == PLAIN) return std::make_unique<textbook::BucketSearch>(map, layer);
+    return std::make_unique<textbook::Search<textbook::ByTable>>(map, layer);
+}
+
 static LayerPointer layer_of(const Map &map, Ground layer, const Settings &settings) {
+    if (settings.textbook) return textbook_layer(map, layer, settings.engine);
     switch (settings.engine) {
     case JPS: return ruled_layer<CellJumps>(map, layer, settings);
     case BLOCK: return ruled_layer<BlockJumps>(map, layer, settings);
@@ -1144,6 +1157,29 @@ static int scen(Solver &solver, const std::vector<Entry> &entries) {
     return counts[OFF] || other;
 }
 
+static u64 nanoseconds() {
+    timespec time;
+    clock_gettime(CLOCK_MONOTONIC, &time);
+    return u64(time.tv_sec) * 1000000000u + u64(time.tv_nsec);
+}
+
+// The walks of a scenario as `bench/contest` reads them, each with its nanoseconds and its taken states behind it.
+static int timed(Solver &solver, const std::vector<Entry> &entries, u64 began) {
+    Output out;
+    Answer answer;
+    solver.layer(LAND);
+    out.text = "prepared " + std::to_string(nanoseconds() - began) + "\n";
+    for (const Entry &entry : entries) {
+        u64 before = nanoseconds();
+        solver.query(entry.start_x, entry.start_y, entry.goal_x, entry.goal_y, answer);
+        u64 spent = nanoseconds() - before;
+        if (answer.found) print_points(out, answer, false);
+        else out.word("none");
+        out.text += ' ' + std::to_string(spent) + ' ' + std::to_string(answer.taken) + '\n';
+    }
+    return 0;
+}
+
 static int print_tables(const Map &map, Rule rule) {
     Output out;
     auto two_bytes = [&](u32 value) {
@@ -1276,16 +1312,19 @@ static bool take_setting(const std::string &word, Settings &settings) {
         if (word == shown) { settings.show = word.substr(5); return true; }
     if (word == "states=arrival" || word == "states=cell") settings.one_state_a_cell = word == "states=cell";
     else if (word == "open=heap" || word == "open=pairing") settings.pairing = word == "open=pairing";
+    else if (word == "by=textbook") settings.textbook = true;
     else return false;
     return true;
 }
 
 int main(int count, char **given) {
+    const u64 began = nanoseconds();
     std::vector<std::string> words;
     Settings settings;
     for (int place = 1; place < count; place++)
         if (!take_setting(given[place], settings)) words.push_back(given[place]);
     if (words.size() < 2) fail("words");
+    if (settings.textbook && settings.rule != NONE) fail("by=textbook knows no rule but none");
     make_rule(settings.rule);
     Map map = parse_map(read_file(words[1].c_str()));
     const std::string &command = words[0];
@@ -1294,6 +1333,8 @@ int main(int count, char **given) {
     Solver solver(std::move(map), settings);
     if (command == "query" && words.size() == 6) return query(solver, words);
     if (command == "solve" && words.size() == 3) return solve(solver, read_file(words[2].c_str()));
+    if (command == "timed" && words.size() == 3)
+        return timed(solver, parse_scenario(read_file(words[2].c_str())), began);
     if (command == "scen" && words.size() == 3) return scen(solver, parse_scenario(read_file(words[2].c_str())));
     if (command == "scenario" && words.size() == 5) {
         u64 seed = strtoull(words[3].c_str(), nullptr, 10);

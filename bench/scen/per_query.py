@@ -1,13 +1,14 @@
 #!/usr/bin/env python3
 """Processor time per further query of a scenario, for one program or several in turn.
 
-  per_query.py MAP SCEN PROGRAM [PROGRAM ..] [--engine ENGINE] [--rounds N] [--rule RULE]
+  per_query.py MAP SCEN PROGRAM [PROGRAM ..] [--engine ENGINE] [--states STATES] [--rounds N] [--rule RULE]
 
-Each program is called as `PROGRAM scen MAP SCEN engine=ENGINE` (plain), with `rule=RULE` where that
-is given, once with all entries and once with the first one alone; the difference over the other
-entries is the time of a further query, without the start of the process, the reading of the map and
-the tables or bits that are made of it. The least of the rounds counts. With several
-programs their outputs are compared, and ratios are those to the first program.
+Each program is called as `PROGRAM scen MAP SCEN engine=ENGINE` (plain), with `states=STATES` and
+`rule=RULE` where these are given (states=cell is the field's setting), once with all entries and
+once with the first one alone; the difference over the other entries is the time of a further query,
+without the start of the process, the reading of the map and the tables or bits that are made of it.
+The least of the rounds counts. With several programs their outputs are compared, and ratios are
+those to the first program.
 """
 import argparse
 import pathlib
@@ -30,10 +31,12 @@ def main():
     parser.add_argument("scen")
     parser.add_argument("programs", nargs="+", metavar="PROGRAM")
     parser.add_argument("--engine", default="plain")
+    parser.add_argument("--states", choices=("arrival", "cell"))
     parser.add_argument("--rounds", type=int, default=3)
     parser.add_argument("--rule")
     options = parser.parse_args()
-    settings = [f"engine={options.engine}"] + ([f"rule={options.rule}"] if options.rule else [])
+    given = {"engine": options.engine, "states": options.states, "rule": options.rule}
+    settings = [f"{name}={value}" for name, value in given.items() if value]
     lines = pathlib.Path(options.scen).read_text().splitlines(keepends=True)
     with tempfile.TemporaryDirectory() as folder:
         first_alone = pathlib.Path(folder) / "first.scen"

@@ -1,4 +1,4 @@
-//! petgraph: astar on a built graph, with hash maps inside.    petgraph_astar MAP SCEN
+//! petgraph: astar on a built graph, with hash maps inside.    petgraph_astar MAP SCEN [timed]
 
 use petgraph::graph::{NodeIndex, UnGraph};
 
@@ -76,6 +76,10 @@ fn main() {
     let graph = map.graph();
     let scenario = std::fs::read_to_string(&words[2]).expect("the scenario can be read");
     let prepared = now() - began;
+    let is_timed = words.get(3).is_some_and(|it| it == "timed");
+    if is_timed {
+        println!("prepared {:.0}", prepared * 1e9);
+    }
     let (mut count, mut sum, mut wrong) = (0, 0.0, 0);
     for line in scenario.lines().skip(1) {
         let fields: Vec<&str> = line.split('\t').collect();
@@ -86,10 +90,19 @@ fn main() {
         let before = now();
         let place = graph[goal];
         let found = petgraph::algo::astar(&graph, start, |it| it == goal, |edge| *edge.weight(), |it| octile(graph[it], place));
-        sum += now() - before;
+        let spent = now() - before;
+        sum += spent;
         count += 1;
+        if is_timed {
+            let cells = found.as_ref().map_or(&[][..], |it| &it.1);
+            let walk: Vec<String> = cells.iter().map(|&it| format!("{},{}", graph[it].0, graph[it].1)).collect();
+            println!("{} {:.0}", if found.is_some() { walk.join(" ") } else { "none".into() }, spent * 1e9);
+        }
         let told = found.map_or(-1.0, |it| it.0);
         wrong += usize::from((told - length).abs() > 1e-6 * (1.0 + length));
+    }
+    if is_timed {
+        return;
     }
     println!("{{\"queries\": {count}, \"prepared\": {prepared:.6}, \"mean\": {:.9}, \"wrong\": {wrong}}}", sum / f64::from(count));
 }
