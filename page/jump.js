@@ -90,10 +90,10 @@ async function forcedSteps(figure) {
       lines: linesOf(before[at].points, "lost"), letters: marks(arrival) },
     { ...neighbourStep(it, arrival), words: `The wall closes that path. The least one now costs ${costWords(it.walk.cost)}, and goes over x: ${told(it.cell)} is a forced neighbour.` },
   ]);
-  const count = (rule) => `${rule}: ${byRule[rule].map(({ cell }) => told(cell)).join(" and ") || "nothing"}`;
+  const count = (rule) => `under ${rule} ${byRule[rule].map(({ cell }) => told(cell)).join(" and ") || "nothing"}`;
   const cells = forced.map(({ cell }) => ({ ...cell, kind: "forced" }));
-  const words = `With these walls is forced, under ${count("none")}; ${count("one")}; ${count("both")}.`;
-  return [...steps, { words: forced.length ? words : `Nothing is forced here under ${figure.rule}. ${words}`, cells, letters: marks(arrival) }];
+  const words = `Forced by these walls: ${count("none")}; ${count("one")}; ${count("both")}.`;
+  return [...steps, { words, cells, letters: marks(arrival) }];
 }
 
 // 3 and 4: one jump
@@ -173,15 +173,15 @@ async function answersOf(rows, rule) {
 /** What one state reads: cells of runs, whole lines of bits, or entries of the tables. */
 function readOf(node, mode, rows) {
   const straights = node.offers.flatMap((it) => (isDiagonal(it.d) ? it.looks : [{ from: node.cell, ...it }]));
-  if (mode === "tables") return { words: `It looks ${node.offers.length} jumps up.`, cells: [] };
+  if (mode === "tables") return { words: `It looks up ${node.offers.length} jump${node.offers.length === 1 ? "" : "s"}.`, cells: [] };
   if (mode === "blocks") {
     const lines = new Set(straights.map(({ from, d }) => (d % 4 === 2 ? `y${from.y}` : `x${from.x}`)));
     const isRead = (x, y) => lines.has(`y${y}`) || lines.has(`x${x}`);
     const cells = rows.flatMap((row, y) => [...row].map((_, x) => ({ x, y, kind: "bits" }))).filter(({ x, y }) => isRead(x, y));
-    return { words: `It reads ${lines.size} rows and columns, and those beside them, each at once as bits.`, cells };
+    return { words: `It reads ${lines.size} rows and columns, each with those beside it, at once as bits.`, cells };
   }
   const runs = node.offers.flatMap((it) => [...cellsAlong(node.cell, it.d, it.count), ...it.looks.flatMap((look) => cellsAlong(look.from, look.d, look.count))]);
-  return { words: `It looks at ${runs.length} cells.`, cells: runs.map((cell) => ({ ...cell, kind: "looked" })) };
+  return { words: `It looks at ${runs.length} cell${runs.length === 1 ? "" : "s"}.`, cells: runs.map((cell) => ({ ...cell, kind: "looked" })) };
 }
 
 function searchStep(node, at, run, { chosen, rows }) {
@@ -201,20 +201,25 @@ function searchStep(node, at, run, { chosen, rows }) {
   };
 }
 
-/** A turn that a dropped arrival alone allows, and the same cells by the diagonal first. */
+/** Whether a run of so many straight moves is legal. */
+const isRun = (rules, from, d, count) => [from, ...cellsAlong(from, d, count - 1)].every((cell) => rules.isLegal(cell, d));
+
+/**
+ * A turn that a dropped arrival alone allows: behind the run of the arrival that stays it is a diagonal, which can be
+ * made first, where that run began.
+ */
 function swapStep(run, rules) {
-  for (const node of run.nodes) {
-    for (const { cell, d } of node.equals) {
-      const stays = run.nodes.find((it) => same(it.cell, cell));
-      const kept = stays ? rules.allowed(cell, stays.arrival) : [];
-      const lost = rules.allowed(cell, d).filter((it) => !kept.includes(it) && isDiagonal(it));
-      for (const turn of isDiagonal(d) ? [] : lost) {
-        const [first, end] = [cellAfter(node.cell, turn), cellAfter(cell, turn)];
-        if (!rules.isLegal(node.cell, turn)) continue;
-        return { words: `Nothing is lost. The dropped arrival alone would turn ${DIRECTIONS[turn]} at ${told(cell)}. But that diagonal can be made first, at ${told(node.cell)}: `
-          + `by ${told(first)} the path to ${told(end)} costs the same.`, letters: ENDS, cells: [{ ...cell, kind: "pruned" }, { ...end, kind: "kept" }],
-        lines: [...linesOf([node.cell, cell, end], "lost"), ...linesOf([node.cell, first, end], "walk")] };
-      }
+  for (const { cell, d } of run.nodes.flatMap((node) => node.equals)) {
+    const stays = run.nodes.find((it) => same(it.cell, cell));
+    if (!stays?.parent || isDiagonal(stays.arrival)) continue;
+    const kept = rules.allowed(cell, stays.arrival), begin = stays.parent.cell;
+    for (const turn of rules.allowed(cell, d).filter((it) => isDiagonal(it) && !kept.includes(it))) {
+      const [first, end] = [cellAfter(begin, turn), cellAfter(cell, turn)];
+      if (!rules.isLegal(begin, turn) || !isRun(rules, first, stays.arrival, stays.jump.count)) continue;
+      return { words: `Nothing is lost. At ${told(cell)} the dropped arrival alone would turn ${DIRECTIONS[turn]}. The one that stays came by ${DIRECTIONS[stays.arrival]} from ${told(begin)}: `
+        + `make the diagonal first, there. By ${told(first)} the path to ${told(end)} costs the same, and the search goes it.`,
+      letters: ENDS, cells: [{ ...cell, kind: "pruned" }, { ...end, kind: "kept" }],
+      lines: [...linesOf([begin, cell, end], "lost"), ...linesOf([begin, first, end], "walk")] };
     }
   }
   return null;
