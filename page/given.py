@@ -1,8 +1,11 @@
 """What a page hands over: files that were dropped or picked, and the small maps of figures."""
 
+import contextlib
 import os
 import re
 import secrets
+
+from connections import Refused
 
 MOST_FILE = 1 << 26
 MOST_SMALL = 64  # the sides of a figure's map, and the calls on it at once
@@ -18,12 +21,16 @@ def take(handler, words):
     session = handler.session(words.get("page", [""])[0])
     length = handler.headers.get("Content-Length", "")
     if kind not in ("map", "scen", "walks") or not re.fullmatch("[0-9]{1,12}", length):
-        raise handler.refused(400, "no such kind of file")
+        raise Refused(400, "no such kind of file")
     if int(length) > MOST_FILE:
-        raise handler.refused(413, "the file is too long")
-    path = session.file(re.sub(r"[^\w.+-]", "_", name, flags=re.ASCII)[-80:].lstrip(".") or kind)
-    with open(path, "wb") as file:
-        file.write(handler.rfile.read(int(length)))
+        raise Refused(413, "the file is too long")
+    data = handler.rfile.read(int(length))
+    if len(data) < int(length):
+        raise ConnectionError
+    name = re.sub(r"[^\w.+-]", "_", name, flags=re.ASCII)[-80:].lstrip(".") or kind
+    with session.made(name) as file:
+        file.write(data)
+    path = session.file(name)
     if kind == "map":
         session.take_map(path)
         session.map_words = session.scen_words = session.scen_path = session.walks_path = None
@@ -57,17 +64,19 @@ def small(handler, _):
     session = handler.session(request.words.get("page"))
     told = small_of(request.words)
     if isinstance(told, str):
-        raise handler.refused(400, told)
+        raise Refused(400, told)
     rows, calls = told
-    path = session.file(f"small-{secrets.token_hex(8)}.map")
+    name = f"small-{secrets.token_hex(8)}.map"
+    path = session.file(name)
     answers = []
+    with session.made(name) as file:
+        file.write(f"type octile\nheight {len(rows)}\nwidth {len(rows[0])}\nmap\n".encode() + "\n".join(rows).encode() + b"\n")
     try:
-        with open(path, "w") as file:
-            file.write(f"type octile\nheight {len(rows)}\nwidth {len(rows[0])}\nmap\n" + "\n".join(rows) + "\n")
         for name, *others in calls:
             said = []
             status, _line = session.call([name, path, *others], handler.connection, said.append)
             answers.append({"status": status, "out": b"".join(said).decode("latin-1")})
     finally:
-        os.unlink(path)
+        with contextlib.suppress(OSError):
+            os.unlink(path)
     handler.tell({"answers": answers})

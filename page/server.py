@@ -101,7 +101,6 @@ class Handler(http.server.BaseHTTPRequestHandler):
     """Answers one connection."""
 
     protocol_version = "HTTP/1.1"
-    refused = Refused
     server_version = "jps-page"
     sys_version = ""
     timeout = connections.SECONDS_OF_SILENCE
