@@ -294,7 +294,7 @@ class Handler(http.server.BaseHTTPRequestHandler):
     def words_of(self, request, session):
         """The words of a single call, by its name."""
         name = request.choice("command", ("scen", "judge", "prove", "check", "draw"))
-        path = session.edited_path()[0]
+        path = session.edited_path()
         if name == "scen":
             return name, [name, path, session.scen_path, *request.settings(self.server.program, ("taken",))]
         if name == "judge":
@@ -338,7 +338,7 @@ class Handler(http.server.BaseHTTPRequestHandler):
     def problems(self, _):
         request = self.body()
         session = self.session(request.words.get("page"))
-        path = session.edited_path()[0]
+        path = session.edited_path()
         numbers = [str(request.number("seed")), str(request.number("n", 1, 100_000))]
         words = ["problems", path, *numbers, *request.rule()]
         session.scen_words = ["problems", *numbers, *request.rule()]
