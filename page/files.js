@@ -6,6 +6,7 @@ import { isSmall } from "./grid.js";
 
 const text = new TextDecoder();
 let takeMap = null; // what main.js does with a map that the program was handed
+let opened = null; // a promise: until the page is open nothing is handed over
 
 /** What a file is, by its first line: a map, a scenario, or else another program's walks. */
 function kindOf(bytes) {
@@ -18,6 +19,7 @@ function kindOf(bytes) {
 export const lostWords = () => (state.edits ? `${state.edits.toLocaleString("en")} edits of this map are dropped: save it first (Edit).` : "");
 
 async function takeFiles(files) {
+  await opened;
   const order = ["map", "scen", "walks"];
   const read = await Promise.all([...files].map(async (file) => ({ name: file.name, bytes: new Uint8Array(await file.arrayBuffer()) })));
   for (const it of read) it.kind = kindOf(it.bytes);
@@ -66,8 +68,8 @@ export function showMaps() {
   byId("files-maps").replaceChildren(...names.map((name) => element("a", { className: "button", href: `?map=${encodeURIComponent(name)}` }, name)));
 }
 
-export function beginFiles(take) {
-  takeMap = take;
+export function beginFiles(take, whenOpened) {
+  [takeMap, opened] = [take, whenOpened];
   beginDrop();
   byId("open-files").onclick = byId("open-scen").onclick = byId("open-walks").onclick = pickFiles;
   byId("file-picker").onchange = (event) => {

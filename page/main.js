@@ -155,7 +155,8 @@ async function begin() {
   beginWalks();
   beginCertificate();
   beginDialogs();
-  beginFiles(takeMap);
+  let isOpened;
+  beginFiles(takeMap, new Promise((done) => (isOpened = done)));
   beginTheme(byId("theme"), (theme) => {
     state.theme = theme;
     tell("theme");
@@ -170,6 +171,7 @@ async function begin() {
     if (linked) told = { ...(await api.take("map", "linked.map", mapText(linked))), isLinked: true };
     await takeMap(told, true);
     addEventListener("hashchange", () => location.reload());
+    isOpened();
   } catch (fault) {
     showBanner(...faultWords(fault));
   }

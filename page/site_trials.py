@@ -32,6 +32,7 @@ def site_queries(tried):
     """Engines, rules, edits, files: each answer is the program's."""
     browser = tried.browser
     tried.site(GAME, f"{GAME}.scen", hash_words="#5,5,44,8,plain,none")
+    browser.wait("document.querySelector('#printed').textContent", SECONDS)
     for engine in ("plain", "jps", "block", "plus"):
         browser.press(f"input[name=engine][value={engine}]")
         for rule in ("one", "both", "none"):
@@ -84,10 +85,10 @@ def site_large(tried):
 
 def both_forms(tried, work):
     """Does something with the page of a server, and with that of a site."""
-    tried.serve(GAME, f"{GAME}.scen", hash_words="#5,5,15,15,jps,none")
-    work("server")
-    tried.site(GAME, f"{GAME}.scen", hash_words="#5,5,15,15,jps,none")
-    work("site")
+    for form, begin in (("server", tried.serve), ("site", tried.site)):
+        begin(GAME, f"{GAME}.scen", hash_words="#5,5,15,15,jps,none")
+        tried.browser.wait("document.querySelector('#printed').textContent", SECONDS)
+        work(form)
 
 
 def drops(tried):
@@ -126,16 +127,16 @@ def links(tried):
     browser = tried.browser
 
     def work(form):
-        browser.wait("document.querySelector('#printed').textContent", SECONDS)
         before = browser.run("location.hash")
         expect(f"{form}: a named map's link has no walls", before == "#5,5,15,15,jps,none")
         browser.press("#tab-edit")
         browser.drag([tried.cell(x, 10) for x in (3, 9, 20)])
         browser.wait("location.hash.includes(';map=49x49.')", SECONDS)
-        link, printed = browser.run("location.hash"), browser.run("document.querySelector('#printed').textContent")
         browser.press("#save-map")
         (tried.folder / "edited.map").write_bytes(browser.downloaded("edited.map"))
-        tried.printed(tried.jps("query", tried.folder / "edited.map", 5, 5, 15, 15, "engine=jps", "show=trace").rstrip("\n"), f"{form}, drawn walls")
+        printed = tried.jps("query", tried.folder / "edited.map", 5, 5, 15, 15, "engine=jps", "show=trace").rstrip("\n")
+        tried.printed(printed, f"{form}, drawn walls")
+        link = browser.run("location.hash")
         tried.load(link)
         tried.printed(printed, f"{form}, a link with walls")
         equal(f"{form}: the link stays", browser.run("location.hash"), link)
