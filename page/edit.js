@@ -169,6 +169,7 @@ function showButtons() {
 
 async function save(asked, name) {
   try {
+    await sending; // what was painted is in it
     saveAs(name, await asked(), "text/plain");
   } catch (fault) {
     showBanner(...faultWords(fault));

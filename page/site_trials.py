@@ -97,7 +97,7 @@ def drops(tried):
 
     def work(form):
         tried.drop(TOP / "docs/pictures/caves.map")
-        browser.wait("document.title.startsWith('caves.map')", SECONDS)
+        browser.wait("document.querySelector('#map-name').textContent.startsWith('caves.map')", SECONDS)
         tried.type("#start", "5,33")
         tried.type("#goal", "60,26")
         tried.printed(tried.jps("query", "docs/pictures/caves.map", 5, 33, 60, 26, "engine=jps", "show=trace").rstrip("\n"), f"{form}, a dropped map")
