@@ -175,7 +175,7 @@ def figures(tried):
             for rule in ("none", "one", "both"):
                 pick(name, rule)
                 words = steps(name)
-                expect(f"{form}, {name}, {rule}: {words}", all(words) and len(words) > (name == "forced" and 0 or 1))
+                expect(f"{form}, {name}, {rule}: {words}", all(words) and (name == "forced" or len(words) > 1))
                 if name in ("straight", "diagonal"):
                     equal(f"{form}, {name}, {rule}: the table says so", browser.run(f"document.querySelector('#{name}').dataset.agrees"), "true")
         pick("whole", "none")
