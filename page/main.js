@@ -69,6 +69,7 @@ export async function takeMap(told, isFirst = false) {
   document.title = `${name} – jps: paths on grid maps`;
   document.querySelector("main").inert = told.fault !== undefined; // without a map there is nothing to ask
   if (told.fault !== undefined) {
+    byId("loading").hidden = true;
     byId("map-name").textContent = name;
     showBanner(...faultWords(new api.Fault(told.fault, told.status)));
     return;
@@ -86,6 +87,7 @@ export async function takeMap(told, isFirst = false) {
     playOnce();
   }
   tell("map");
+  byId("loading").hidden = true;
   ask();
   // How many milliseconds after it was asked for the page has its map on the screen; the test reads it.
   requestAnimationFrame(() => requestAnimationFrame(() => {
