@@ -114,6 +114,7 @@ export async function during(words, work, signal) {
 }
 
 export function stopAll() {
+  tell("stop"); // what would be asked next is not
   for (const it of underWay.values()) it.control.abort();
 }
 

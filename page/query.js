@@ -203,6 +203,7 @@ export function beginQuery() {
     ask();
   });
   on("answer", showAnswer);
+  on("stop", () => asker.stop());
   on("map", () => {
     byId("states-choice").hidden = byId("states-words").hidden = !state.hasStates;
     showChoices();

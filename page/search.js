@@ -222,6 +222,7 @@ export function beginSearch() {
     if (isToPlay && state.answer) play();
     isToPlay &&= !state.answer;
   });
+  on("stop", () => comparer.stop());
   for (const name of ["ends", "settings", "edited"]) on(name, () => state.compare && hasEnds() && comparer.ask());
   on("map", () => {
     byId("show-states").checked = state.showStates;
