@@ -1,6 +1,6 @@
 // What all parts of the page share: what is shown, who is told of a change, and what is under way.
 
-import { Fault } from "./api.js";
+import { Fault } from "./fault.js";
 import { meaning } from "./words.js";
 
 export const state = {
@@ -14,9 +14,11 @@ export const state = {
   rule: "none",
   cellStates: false, // whether `states=cell` is asked for
   showStates: true,
+  showJumps: true,
   compare: false,
   answer: null,
   edits: 0,
+  isNamed: true, // whether the map is one that can be opened by its name; else a link has its walls
   program: "jps",
   scen: null, // the paths of the files that were named
   walks: null,
@@ -112,6 +114,7 @@ export async function during(words, work, signal) {
 }
 
 export function stopAll() {
+  tell("stop"); // what would be asked next is not
   for (const it of underWay.values()) it.control.abort();
 }
 
@@ -131,15 +134,17 @@ export function showBanner(words, meant = "") {
 
 export const hideBanner = () => (byId("banner").hidden = true);
 
-/** Puts a text on the clipboard, and says so on the button. */
+/** Puts a text on the clipboard, and says so on the button and to screen readers. */
 export async function copy(text, button) {
+  const words = (button.dataset.words ||= button.textContent);
   try {
     await navigator.clipboard.writeText(text);
     button.textContent = "Copied";
   } catch {
     button.textContent = "Not copied";
   }
-  setTimeout(() => (button.textContent = "Copy"), 1200);
+  byId("spoken").textContent = button.textContent;
+  setTimeout(() => (button.textContent = words), 1200);
 }
 
 /** Hands bytes to the browser as a file. */

@@ -1,10 +1,7 @@
 // Pictures with one pixel for each cell, and smaller copies of them, so that a whole large map is drawn at once.
 
-// Any two of a theme, and the ramp of its states, are told apart with each common kind of colour blindness.
-const THEMES = {
-  light: { land: "#f5f1e6", swamp: "#cdc9ad", trees: "#4d8a68", wall: "#343a43", water: "#9cc9ea" },
-  dark: { land: "#434b57", swamp: "#76704a", trees: "#12402c", wall: "#0b0d11", water: "#2b72ab" },
-};
+import { palette } from "./palette.js";
+
 const GROUND = { ".": "land", G: "land", S: "swamp", T: "trees", "@": "wall", O: "wall", W: "water" };
 
 export const groundName = (byte) => GROUND[String.fromCharCode(byte)];
@@ -17,11 +14,9 @@ const toPixel = (colour) => {
 /** The pixel of each byte of a map in a theme. */
 export function groundPixels(theme) {
   const pixels = new Uint32Array(256);
-  for (const [byte, name] of Object.entries(GROUND)) pixels[byte.charCodeAt(0)] = toPixel(THEMES[theme][name]);
+  for (const [byte, name] of Object.entries(GROUND)) pixels[byte.charCodeAt(0)] = toPixel(palette(theme)[name]);
   return pixels;
 }
-
-export const groundColours = (theme) => THEMES[theme];
 
 /** Colours between the given ones, as pixels. */
 export function ramp(colours, count = 256) {

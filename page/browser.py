@@ -10,7 +10,7 @@ import subprocess
 import tempfile
 import time
 
-KEYS = {"Enter": 13, "Tab": 9, "Escape": 27, "ArrowLeft": 37, "ArrowUp": 38, "ArrowRight": 39, "ArrowDown": 40}
+KEYS = {"Enter": 13, "Tab": 9, "Escape": 27, "ArrowLeft": 37, "ArrowUp": 38, "ArrowRight": 39, "ArrowDown": 40, "End": 35}
 
 
 class Browser:
@@ -23,6 +23,7 @@ class Browser:
         self.number = 0
         self.rest = b""
         self.errors = []
+        self.dialogs = []
         self.start()
         target = self.call("Target.createTarget", url="about:blank", browser=True)["targetId"]
         self.session = self.call("Target.attachToTarget", targetId=target, flatten=True, browser=True)["sessionId"]
@@ -75,6 +76,11 @@ class Browser:
 
     def keep_errors(self, told):
         parameters = told.get("params", {})
+        if told.get("method") == "Page.javascriptDialogOpening":  # as before edits are lost: go on
+            self.dialogs.append(parameters["type"])
+            self.number += 1
+            answer = {"id": self.number, "method": "Page.handleJavaScriptDialog", "params": {"accept": True}}
+            os.write(self.ours_out, json.dumps({**answer, "sessionId": self.session}).encode() + b"\0")
         if told.get("method") == "Runtime.exceptionThrown":
             details = parameters["exceptionDetails"]
             self.errors.append(details.get("exception", {}).get("description") or details["text"])
@@ -83,13 +89,14 @@ class Browser:
 
     def call(self, method, browser=False, seconds=120, **parameters):
         self.number += 1
-        told = {"id": self.number, "method": method, "params": parameters}
+        number = self.number
+        told = {"id": number, "method": method, "params": parameters}
         if not browser:
             told["sessionId"] = self.session
         os.write(self.ours_out, json.dumps(told).encode() + b"\0")
         while True:
             answer = self.message(seconds)
-            if answer.get("id") == self.number:
+            if answer.get("id") == number:
                 if "error" in answer:
                     raise RuntimeError(f"{method}: {answer['error']['message']}")
                 return answer["result"]
@@ -104,7 +111,14 @@ class Browser:
         self.call("Emulation.setEmulatedMedia", features=[{"name": "prefers-color-scheme", "value": name}])
 
     def go(self, address):
-        self.call("Page.navigate", url=address)
+        """Loads an address; on a busy machine the browser now and then forgets that it was asked to."""
+        for seconds in (15, 15, 90):
+            try:
+                self.call("Page.navigate", url=address, seconds=seconds)
+                return
+            except TimeoutError:
+                continue
+        raise TimeoutError("the browser is silent")
 
     def run(self, script):
         """The value of an expression, which may be a promise."""

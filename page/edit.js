@@ -1,7 +1,7 @@
 // Paints walls, land and water. Every cell of a stroke goes to `jps live` as an edit; what it answers is counted.
 
 import * as api from "./api.js";
-import { byId, commandLine, copy, during, element, faultWords, firstMapWord, on, settings, showBanner, state, tell } from "./app.js";
+import { byId, commandLine, copy, during, element, faultWords, firstMapWord, on, saveAs, settings, showBanner, state, tell } from "./app.js";
 import { groundName, groundPixels, paintMap } from "./bitmap.js";
 import { isInside, redraw, takeTools } from "./stage.js";
 
@@ -104,7 +104,7 @@ export function undo() {
   showButtons();
 }
 
-function redo() {
+export function redo() {
   const cells = undone.pop();
   if (!cells) return;
   for (const it of cells) put(it, it.after);
@@ -160,22 +160,28 @@ function showSaid(edits, answers) {
 function showButtons() {
   byId("undo").disabled = !done.length;
   byId("redo").disabled = !undone.length;
-  byId("edit-count").textContent = state.edits ? `${state.edits.toLocaleString("en")} edits` : "";
+  const count = done.reduce((sum, cells) => sum + cells.length, 0);
+  byId("edit-count").textContent = count ? `${count.toLocaleString("en")} edit${count === 1 ? "" : "s"}` : "";
   if (!state.map) return;
   const script = ["solve", firstMapWord(), "edited.script"];
   byId("edit-command").textContent = commandLine(script, settings(state.engine, state.showStates ? "trace" : undefined));
 }
 
-function save(name, as) {
-  element("a", { href: api.savedAddress(name), download: as }).click();
+async function save(asked, name) {
+  try {
+    await sending; // what was painted is in it
+    saveAs(name, await asked(), "text/plain");
+  } catch (fault) {
+    showBanner(...faultWords(fault));
+  }
 }
 
 export function beginEdit() {
   takeTools(tools);
   byId("undo").onclick = undo;
   byId("redo").onclick = redo;
-  byId("save-map").onclick = () => save("saved-map", "edited.map");
-  byId("save-script").onclick = () => save("saved-script", "edited.script");
+  byId("save-map").onclick = () => save(api.savedMap, "edited.map");
+  byId("save-script").onclick = () => save(api.savedScript, "edited.script");
   byId("copy-edit").onclick = (event) => copy(byId("edit-command").textContent, event.target);
   on("map", () => {
     done.length = undone.length = waiting.length = 0;

@@ -2,7 +2,7 @@
 
 import { element } from "./app.js";
 
-const ROW = 30;
+const ROW = matchMedia("(pointer: coarse)").matches ? 44 : 30;
 
 export class List {
   /** `draw` fills the element of an item, `pick` is told which one was chosen. */

@@ -3,11 +3,14 @@
 import * as api from "./api.js";
 import { byId, element, faultWords, showBanner, state, stopAll, tell, hideBanner, during } from "./app.js";
 import { beginCertificate } from "./certificate.js";
-import { beginEdit, undo } from "./edit.js";
-import { ask, beginQuery, readAddress } from "./query.js";
+import { beginEdit, redo, undo } from "./edit.js";
+import { beginFiles, lostWords, showMaps } from "./files.js";
+import { mapText } from "./grid.js";
+import { ask, beginQuery, mapInAddress, readAddress } from "./query.js";
 import { beginScenario } from "./scenario.js";
-import { beginSearch, playSearch, toggleCompare } from "./search.js";
+import { beginSearch, playOnce, playSearch, toggleCompare } from "./search.js";
 import { beginStage, fit, groundAt, redraw, zoomBy } from "./stage.js";
+import { beginTheme } from "./theme.js";
 import { beginWalks } from "./walks.js";
 import { KEYS } from "./words.js";
 
@@ -45,27 +48,6 @@ function beginTabs() {
   showTab("query");
 }
 
-// Theme
-
-const dark = matchMedia("(prefers-color-scheme: dark)");
-
-function takeTheme() {
-  const chosen = localStorage.getItem("jps-theme") || "auto";
-  state.theme = chosen === "auto" ? (dark.matches ? "dark" : "light") : chosen;
-  document.documentElement.dataset.theme = state.theme;
-  const name = { auto: "Auto", light: "Light", dark: "Dark" }[chosen];
-  byId("theme").textContent = name;
-  byId("theme").setAttribute("aria-label", `Colours: ${name}`);
-  tell("theme");
-}
-
-function nextTheme() {
-  const order = ["auto", "light", "dark"];
-  const chosen = localStorage.getItem("jps-theme") || "auto";
-  localStorage.setItem("jps-theme", order[(order.indexOf(chosen) + 1) % 3]);
-  takeTheme();
-}
-
 // The map
 
 /** Ends to begin with: free cells near two corners. */
@@ -84,19 +66,28 @@ export async function takeMap(told, isFirst = false) {
   Object.assign(state, { made: told.made, madeScen: told.madeScen });
   byId("about").textContent = `${told.version}. All that is shown was printed by this program.`;
   const name = told.map.split("/").pop();
-  document.title = `${name} – jps`;
+  document.title = `${name} – jps: paths on grid maps`;
   document.querySelector("main").inert = told.fault !== undefined; // without a map there is nothing to ask
   if (told.fault !== undefined) {
+    byId("loading").hidden = true;
     byId("map-name").textContent = name;
     showBanner(...faultWords(new api.Fault(told.fault, told.status)));
     return;
   }
   const cells = await during("Loading the map", () => api.cells());
   Object.assign(state, { map: { width: told.width, height: told.height, cells, path: told.map }, edits: 0, answer: null });
+  state.isNamed = !(told.made || told.isDropped || told.isLinked);
+  hideBanner();
   byId("map-name").textContent = `${name} · ${told.width} × ${told.height}`;
   state.showStates = cells.length <= CELLS_WITH_STATES;
-  if (!(isFirst && readAddress())) pickEnds();
+  const isTold = isFirst && readAddress();
+  if (!isTold) pickEnds();
+  if (isFirst && !isTold && state.showStates) {
+    state.engine = "jps"; // what is shown first shows what jumps are
+    playOnce();
+  }
   tell("map");
+  byId("loading").hidden = true;
   ask();
   // How many milliseconds after it was asked for the page has its map on the screen; the test reads it.
   requestAnimationFrame(() => requestAnimationFrame(() => {
@@ -118,7 +109,10 @@ async function makeMap(form) {
 function beginDialogs() {
   byId("help-list").append(...KEYS.flatMap(([key, what]) => [element("dt", {}, key), element("dd", {}, what)]));
   byId("open-help").onclick = () => byId("help-dialog").showModal();
-  byId("open-make").onclick = () => byId("make-dialog").showModal();
+  byId("open-make").onclick = () => {
+    byId("make-lost").textContent = lostWords();
+    byId("make-dialog").showModal();
+  };
   byId("make-form").onsubmit = (event) => event.submitter?.value === "make" && makeMap(event.target);
   byId("stop").onclick = stopAll;
 }
@@ -127,7 +121,9 @@ function keys(event) {
   const isTyping = event.target.matches("input:not([type=radio]):not([type=checkbox]):not([type=range]), textarea");
   if (event.key === "Escape") stopAll();
   if (isTyping || document.querySelector("dialog[open]") || (!state.map && event.key !== "?")) return;
-  if ((event.ctrlKey || event.metaKey) && event.key === "z") undo();
+  const isHeld = event.ctrlKey || event.metaKey, letter = event.key.toLowerCase();
+  if (isHeld && (letter === "y" || (letter === "z" && event.shiftKey))) redo();
+  else if (isHeld && letter === "z") undo();
   else if (event.ctrlKey || event.metaKey || event.altKey) return;
   else if (event.key === "?") byId("help-dialog").showModal();
   else if (event.key === "p") playSearch();
@@ -153,8 +149,6 @@ function beginStream() {
 }
 
 async function begin() {
-  dark.addEventListener("change", takeTheme);
-  byId("theme").onclick = nextTheme;
   beginStage();
   beginQuery();
   beginSearch();
@@ -163,13 +157,23 @@ async function begin() {
   beginWalks();
   beginCertificate();
   beginDialogs();
-  takeTheme();
+  let isOpened;
+  beginFiles(takeMap, new Promise((done) => (isOpened = done)));
+  beginTheme(byId("theme"), (theme) => {
+    state.theme = theme;
+    tell("theme");
+  });
   beginTabs();
   document.addEventListener("keydown", keys);
   try {
-    const told = await api.open();
+    let told = await api.open();
     beginStream();
+    showMaps();
+    const linked = mapInAddress();
+    if (linked) told = { ...(await api.take("map", "linked.map", mapText(linked))), isLinked: true };
     await takeMap(told, true);
+    addEventListener("hashchange", () => location.reload());
+    isOpened();
   } catch (fault) {
     showBanner(...faultWords(fault));
   }

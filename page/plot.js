@@ -60,8 +60,9 @@ export function plot(series, pick) {
   const powers = Math.max(1, Math.ceil(Math.log10(points.reduce((most, it) => Math.max(most, it.taken), 1))));
   const x = (length) => SIZE.left + (length / mostLength) * (SIZE.width - SIZE.left - SIZE.right);
   const y = (taken) => SIZE.height - SIZE.bottom - (Math.log10(Math.max(1, taken)) / powers) * (SIZE.height - SIZE.top - SIZE.bottom);
-  const picture = svg("svg", { viewBox: `0 0 ${SIZE.width} ${SIZE.height}`, role: "img",
-    "aria-label": `Taken states against length, ${points.length} marks` }, axes(mostLength, powers, x, y));
+  const picture = svg("svg", { viewBox: `0 0 ${SIZE.width} ${SIZE.height}`, role: "application", tabindex: 0,
+    "aria-label": `Taken states against length, ${points.length} marks: the arrows go from mark to mark` },
+  svg("title", {}, "Taken states against length"), axes(mostLength, powers, x, y));
   for (const engine of Object.keys(series)) {
     const form = FORMS[engine](points.length > MANY ? 1 : 2.2);
     const d = points.filter((it) => it.engine === engine)
@@ -75,6 +76,15 @@ export function plot(series, pick) {
     const away = (it) => Math.hypot(x(it.length) - at.x, y(it.taken) - at.y);
     const nearest = points.reduce((best, it) => (!best || away(it) < away(best) ? it : best), null);
     if (nearest && away(nearest) < 25) pick(nearest.row.number, nearest.engine);
+  });
+  const inOrder = [...points].sort((one, other) => one.length - other.length);
+  let chosen = -1;
+  picture.addEventListener("keydown", (event) => {
+    const by = { ArrowRight: 1, ArrowUp: 1, ArrowLeft: -1, ArrowDown: -1, Home: -Infinity, End: Infinity }[event.key];
+    if (!by || !inOrder.length) return;
+    event.preventDefault();
+    chosen = Math.max(0, Math.min(inOrder.length - 1, chosen + by));
+    pick(inOrder[chosen].row.number, inOrder[chosen].engine);
   });
   picture.showRow = (number) => {
     const point = points.find((it) => it.row.number === number);

@@ -5,6 +5,7 @@ import {
   ENGINE_NAMES, RULE_NAMES, byId, commandLine, copy, during, element, faultWords, hideBanner, mapWord, on, saveAs, settings,
   showBanner, state, tell, withMade,
 } from "./app.js";
+import { isSmall, packed, unpacked } from "./grid.js";
 import { decimal, readAnswer, readPoint, shortened } from "./lines.js";
 import { groundAt, isInside, redraw, setEnd, views } from "./stage.js";
 import { ENGINES, RULES, answerWords } from "./words.js";
@@ -29,6 +30,7 @@ const asker = new api.LastAsked(async ({ keep }, signal) => {
     hideBanner();
     tell("answer");
   } catch (fault) {
+    if (fault.name === "AbortError" && asker.isPast) return;
     state.answer = null;
     tell("answer");
     if (fault.name === "AbortError") byId("verdict").textContent = "Stopped.";
@@ -92,19 +94,35 @@ function showCommand() {
   if (state.edits) byId("draw-note").textContent += "   (save the edited map first: Edit)";
 }
 
-function showEnds() {
+function showEnds(isDragged = false) {
   for (const name of ["start", "goal"]) {
     const field = byId(name);
     if (document.activeElement !== field) field.value = state[name] ? `${state[name].x},${state[name].y}` : "";
   }
-  if (!hasEnds()) return;
-  const told = [...endWords(), state.engine, state.rule, ...(state.cellStates ? ["cell"] : [])].join(",");
-  history.replaceState(null, "", `#${told}`);
+  if (!isDragged) showAddress();
 }
 
-/** Takes over what stands in the address behind `#`, so that a page that is loaded again shows the same query. */
+// The address behind `#`: the query, and the walls of a small map that has no name to be opened by.
+
+/** Browsers limit how often an address may change, so a drag changes it when it ends. */
+function showAddress() {
+  if (!hasEnds()) return;
+  const query = [...endWords(), state.engine, state.rule, ...(state.cellStates ? ["cell"] : [])].join(",");
+  const isDrawn = !state.isNamed || state.edits > 0;
+  const walls = isDrawn && isSmall(state.map) ? `;map=${packed(state.map)}` : "";
+  history.replaceState(null, "", `#${query}${walls}`);
+  byId("link-note").textContent = isDrawn ? (walls ? "It has the walls, too." : "It has the query, not the map: that has more than 64 columns or rows.") : "";
+}
+
+/** The map that stands in the address, if there is one. */
+export function mapInAddress() {
+  const [, told] = location.hash.match(/;map=(.+)$/) || [];
+  return told ? unpacked(told) : null;
+}
+
+/** Takes over what stands in the address, so that a page that is loaded again shows the same query. */
 export function readAddress() {
-  const [sx, sy, gx, gy, engine, rule, states] = location.hash.slice(1).split(",");
+  const [sx, sy, gx, gy, engine, rule, states] = location.hash.slice(1).split(";")[0].split(",");
   const numbers = [sx, sy, gx, gy].map(Number);
   if (!gy || !numbers.every((it) => Number.isInteger(it) && it >= 0)) return false;
   state.start = { x: numbers[0], y: numbers[1] };
@@ -164,10 +182,14 @@ export function beginQuery() {
   };
   byId("states").onchange = (event) => choose("cellStates", event.target.checked);
   byId("draw").onclick = () => hasEnds() && draw();
+  byId("copy-link").onclick = (event) => {
+    showAddress();
+    copy(location.href, event.target);
+  };
   byId("copy-printed").onclick = (event) => state.answer && copy(wholeText.decode(state.answer.bytes), event.target);
   byId("copy-command").onclick = (event) => copy(byId("command").textContent, event.target);
   on("ends", ({ isDragged }) => {
-    showEnds();
+    showEnds(isDragged);
     ask(!isDragged);
   });
   on("settings", () => {
@@ -176,8 +198,12 @@ export function beginQuery() {
     showCommand();
     ask();
   });
-  on("edited", () => ask());
+  on("edited", () => {
+    showAddress();
+    ask();
+  });
   on("answer", showAnswer);
+  on("stop", () => asker.stop());
   on("map", () => {
     byId("states-choice").hidden = byId("states-words").hidden = !state.hasStates;
     showChoices();

@@ -1,7 +1,9 @@
 // A scenario: its entries with verdicts, and the states that each engine takes for them.
 
 import * as api from "./api.js";
-import { ENGINE_NAMES, byId, commandLine, copy, during, element, faultWords, mapWord, on, scenWord, settings, state, withMade } from "./app.js";
+import {
+  ENGINE_NAMES, byId, commandLine, copy, during, element, faultWords, mapWord, on, saveAs, scenWord, settings, state, withMade,
+} from "./app.js";
 import { List, chips } from "./list.js";
 import { decimal, readEntries, readRow } from "./lines.js";
 import { markOf, plot } from "./plot.js";
@@ -37,7 +39,41 @@ async function rowsOf(engine) {
   return found;
 }
 
-const isListed = (row) => filter === "all" || (filter === "not agree" ? row.verdict !== "agree" : row.verdict === filter);
+const isOfKind = (row) => filter === "all" || (filter === "not agree" ? row.verdict !== "agree" : row.verdict === filter);
+const bucketOf = (row) => entries[row.number - 1]?.bucket;
+const isListed = (row) => isOfKind(row) && (byId("scen-bucket").value === "" || String(bucketOf(row)) === byId("scen-bucket").value);
+
+const leastOf = (row) => (row.straight === undefined ? undefined : Number(decimal(row.straight, row.diagonal)));
+/** How far the listed length is from the least one. */
+const errorOf = (row) => (leastOf(row) === undefined ? undefined : Number(entries[row.number - 1]?.listed) - leastOf(row));
+const ORDERS = {
+  number: (row) => row.number,
+  error: (row) => -Math.abs(errorOf(row) ?? 0),
+  length: (row) => leastOf(row) ?? 0,
+  bucket: (row) => bucketOf(row) ?? 0,
+};
+
+/** The rows that are listed, in the order that was asked for. */
+function listed() {
+  const order = ORDERS[byId("scen-sort").value];
+  return rows.filter(isListed).sort((one, other) => order(one) - order(other) || one.number - other.number);
+}
+
+function showBuckets() {
+  const buckets = [...new Set(rows.map(bucketOf))].filter((it) => it !== undefined).sort((one, other) => one - other);
+  byId("scen-bucket").replaceChildren(element("option", { value: "" }, "all"), ...buckets.map((it) => element("option", {}, String(it))));
+}
+
+/** The listed rows as a text whose fields are parted by tabs. */
+function saveList() {
+  const head = ["row", "verdict", "bucket", "start x", "start y", "goal x", "goal y", "listed", "least", "error", "taken"];
+  const lines = listed().map((row) => {
+    const it = entries[row.number - 1];
+    const error = errorOf(row)?.toFixed(6);
+    return [row.number, row.verdict, it.bucket, it.sx, it.sy, it.gx, it.gy, it.listed, leastOf(row), error, row.taken].map((field) => field ?? "");
+  });
+  saveAs("rows.tsv", [head, ...lines].map((line) => `${line.join("\t")}\n`).join(""), "text/tab-separated-values");
+}
 
 function showFilter() {
   const counts = {};
@@ -46,20 +82,20 @@ function showFilter() {
   chips(byId("scen-filter"), [["all", rows.length], ["not agree", others], ...Object.entries(counts)], filter, (name) => {
     filter = name;
     showFilter();
-    list.take(rows.filter(isListed));
+    list.take(listed());
   });
 }
 
 function drawRow(box, row) {
   const entry = entries[row.number - 1];
-  const least = row.straight === undefined ? "" : decimal(row.straight, row.diagonal);
+  const error = errorOf(row);
   // A length that was listed without decimals may agree and yet look another one.
-  const isTold = least && (row.verdict !== "agree" || Math.abs(entry?.listed - least) > 0.01);
+  const isTold = error !== undefined && (row.verdict !== "agree" || Math.abs(error) > 0.01);
   box.title = `${row.line}: ${VERDICTS[row.verdict] || ""}`;
   box.append(element("span", { className: "number" }, String(row.number)),
     element("span", { className: `tag ${row.verdict}` }, row.verdict),
     element("span", { className: "grow" }, entry ? `${entry.sx},${entry.sy} → ${entry.gx},${entry.gy}` : ""),
-    element("span", { className: "listed" }, entry ? entry.listed : "", isTold ? element("span", { className: "least" }, ` (${least})`) : ""));
+    element("span", { className: "listed" }, entry ? entry.listed : "", isTold ? ` (${error > 0 ? "+" : "−"}${Math.abs(error).toFixed(Math.abs(error) < 1 ? 4 : 1)})` : ""));
 }
 
 function pickRow(row) {
@@ -87,7 +123,8 @@ async function showPlot() {
     if (!list.items.includes(row)) {
       filter = "all";
       showFilter();
-      list.take(rows);
+      byId("scen-bucket").value = "";
+      list.take(listed());
     }
     list.chooseItem(row);
   });
@@ -107,6 +144,7 @@ function beginPlotChoice() {
 
 /** Asks for the verdicts, where the list is seen and they are not there yet. */
 export async function load() {
+  byId("scen-other").open = !state.scen;
   byId("scen-none").hidden = Boolean(state.scen);
   byId("scen-some").hidden = !state.scen;
   if (!state.scen || !state.map || state.tab !== "scenario") return;
@@ -116,8 +154,9 @@ export async function load() {
     const told = await rowsOf(state.engine);
     rows = told.rows;
     byId("scen-sum").textContent = told.sum;
+    showBuckets();
     showFilter();
-    list.take(rows.filter(isListed));
+    list.take(listed());
     byId("scen-said").replaceChildren();
   } catch (fault) {
     rows = [];
@@ -137,9 +176,10 @@ async function makeScenario(event) {
   try {
     const told = await during("Making a scenario", (signal) => api.problems(words, signal));
     Object.assign(state, { scen: told.scen, walks: told.walks, madeScen: told.madeScen });
+    byId("make-scen-said").textContent = "";
     await load();
   } catch (fault) {
-    byId("scen-none").append(element("p", { className: "fault" }, faultWords(fault).join(" ")));
+    byId("make-scen-said").textContent = faultWords(fault).join(" ");
   }
 }
 
@@ -148,8 +188,14 @@ export function beginScenario() {
   beginPlotChoice();
   byId("make-scen").onsubmit = makeScenario;
   byId("copy-scen").onclick = (event) => copy(byId("scen-command").textContent, event.target);
+  byId("scen-sort").onchange = byId("scen-bucket").onchange = () => list.take(listed());
+  byId("save-list").onclick = saveList;
   on("tab", load);
   on("settings", load);
+  on("files", () => {
+    runs.clear();
+    load();
+  });
   on("map", () => {
     runs.clear();
     filter = "all";

@@ -1,31 +1,72 @@
-// The taken states: in their order, with a slider and a player, of one engine or of all four side by side.
+// The taken states: in their order, with a slider and a player, of one engine or of four ways side by side; and the
+// jumps between them, with what they looked at.
 
 import * as api from "./api.js";
-import { ENGINE_NAMES, byId, during, element, faultWords, on, showBanner, state, tell } from "./app.js";
+import { byId, during, element, faultWords, on, showBanner, state, tell } from "./app.js";
+import { Replay, Rules } from "./jumps.js";
 import { readAnswer } from "./lines.js";
-import { ask, hasEnds, queryWords, verdictOf } from "./query.js";
+import { ask, hasEnds, queryWords } from "./query.js";
 import { redraw, showViews, views } from "./stage.js";
-import { StatesPicture } from "./states.js";
+import { LookedPicture, statesPicture } from "./states.js";
 
-// Beyond so many cells the four engines are asked in turn, as each of them has a map and a search in memory.
+// Beyond so many cells the four are asked in turn, as each of them has a map and a search in memory.
 const MANY_CELLS = 1 << 22;
+// Beyond so many cells of a map, or looks of a search, what was looked at is not reckoned.
+const MOST_CELLS = 1 << 20;
+const MOST_LOOKS = 4_000_000;
 const SECONDS_TO_PLAY = 12;
+// The ways of searching that differ. `block` reads what `jps` reads by 512 cells at once.
+const WAYS = {
+  plain: { name: "A*", engine: "plain" },
+  arrival: { name: "jps by arrival", engine: "jps", states: "arrival" },
+  cell: { name: "jps by cell", engine: "jps", states: "cell" },
+  plus: { name: "plus", engine: "plus" },
+};
 let playing = null;
+let isToPlay = false;
 
 const slider = () => byId("at");
-const pictures = () => views.map((view) => view.picture).filter(Boolean);
+const pictures = () => views.flatMap((view) => [view.picture, view.looked]).filter(Boolean);
+const counted = (count) => count.toLocaleString("en");
 
 /** Puts the states of an answer into a view. */
 function show(view, answer) {
   const states = answer?.states;
-  view.picture = states?.count ? new StatesPicture(states, state.theme) : null;
+  view.picture = states?.count ? statesPicture(states, state.theme) : null;
   view.answer = answer;
+  view.replay = view.looked = null;
+  if (states?.count && answer.words.keep && state.map.cells.length <= MOST_CELLS) replay(view, answer);
+}
+
+/** What the run looked at, by definition from the map and the states that the program took. */
+function replay(view, answer) {
+  const { sx, sy, gx, gy, rule } = answer.words;
+  const rules = new Rules(state.map, rule, { x: sx, y: sy }, { x: gx, y: gy });
+  const told = new Replay(rules, answer, MOST_LOOKS);
+  if (!told.isWhole) return;
+  view.replay = told;
+  if (told.isJumps && told.looked.x.length) view.looked = new LookedPicture(told.looked, state.theme);
+}
+
+/** How much an engine reads: cells, blocks of 512 bits, or entries of its tables. */
+function readWords(view) {
+  if (!view.replay) return "";
+  const { engine } = view.answer.words, { cells, blocks, entries } = view.replay.counts;
+  if (engine === "block") return `${counted(blocks)} blocks`;
+  return engine === "plus" ? `${counted(entries)} entries` : `${counted(cells)} cells`;
+}
+
+function showLooked() {
+  const [view] = views;
+  const told = !state.compare && readWords(view);
+  byId("looked-note").textContent = told
+    ? `${view.answer.words.engine} took ${counted(view.answer.states.count)} states, and looked at ${told} to find them (counted by the page, from the map and these states).` : "";
 }
 
 /** Sets the slider to the end, where all states are seen. */
 function showAll() {
   stopPlaying();
-  const most = Math.max(0, ...pictures().map((it) => it.states.count));
+  const most = Math.max(0, ...views.map((view) => view.picture?.states.count ?? 0));
   slider().max = most;
   slider().value = most;
   showCount();
@@ -41,7 +82,7 @@ function showCount() {
     view.content.walk = isFound ? view.answer?.points : null;
     if (state.compare) caption(view, count);
   }
-  byId("at-count").textContent = `${count.toLocaleString("en")} of ${Number(slider().max).toLocaleString("en")}`;
+  byId("at-count").textContent = `${counted(count)} of ${counted(Number(slider().max))}`;
   redraw();
 }
 
@@ -49,8 +90,9 @@ function caption(view, count) {
   const total = view.answer?.states?.count;
   if (total === undefined) return;
   const shown = Math.min(count, total);
-  const told = shown < total ? `${shown.toLocaleString("en")} of ${total.toLocaleString("en")}` : total.toLocaleString("en");
-  view.caption.replaceChildren(element("b", {}, view.name), ` ${told} states`);
+  const told = shown < total ? `${counted(shown)} of ${counted(total)}` : counted(total);
+  const read = readWords(view);
+  view.caption.replaceChildren(element("b", {}, view.name), ` ${told} states${read ? `, read ${read}` : ""}`);
 }
 
 // Playing
@@ -89,10 +131,17 @@ function play() {
   return undefined;
 }
 
-// All four engines
+/** Plays the next answer, where the reader has not asked for less motion. */
+export function playOnce() {
+  isToPlay = !matchMedia("(prefers-reduced-motion: reduce)").matches;
+}
+
+// Side by side
 
 async function askOf(view, signal) {
-  const words = queryWords(view.name, "trace");
+  const words = { ...queryWords(view.engine, "trace") };
+  delete words.states;
+  if (state.hasStates && view.states === "cell") words.states = "cell";
   const told = await during(`${view.name} is searching`, (stop) => api.query(words, stop), signal);
   const answer = { ...readAnswer(told.bytes), seconds: told.seconds, words: { ...words, keep: true } };
   if (view.canvas.isConnected) show(view, answer);
@@ -104,37 +153,34 @@ const comparer = new api.LastAsked(async (_, signal) => {
     if (state.map.cells.length <= MANY_CELLS) await Promise.all(asked.map((view) => askOf(view, signal)));
     else for (const view of asked) await askOf(view, signal);
   } catch (fault) {
+    if (fault.name === "AbortError" && comparer.isPast) return;
     showBanner(...faultWords(fault));
   }
   if (!state.compare) return;
-  state.answer = views.find((view) => view.name === state.engine)?.answer ?? null;
+  state.answer = (views.find((view) => view.engine === state.engine) || views[0]).answer ?? null;
   tell("answer");
   showAll();
   showCounts();
 });
 
 function showCounts() {
-  const rows = views.filter((view) => view.answer).map((view) => {
-    const [verdict, detail] = verdictOf(view.answer);
-    return element("tr", {}, element("th", { scope: "row" }, view.name),
-      element("td", {}, `${(view.answer.states?.count ?? 0).toLocaleString("en")} states`),
-      element("td", { title: detail }, verdict));
-  });
+  const rows = views.filter((view) => view.answer).map((view) => element("tr", {}, element("th", { scope: "row" }, view.name),
+    element("td", {}, `${counted(view.answer.states?.count ?? 0)} states`), element("td", {}, readWords(view))));
   byId("counts").tBodies[0].replaceChildren(...rows);
   byId("counts").hidden = rows.length === 0;
-  byId("state-note").textContent = views.length < 4 ? ""
-    : "jps, block and plus take the same states: that is proved. They differ in how they find them.";
+  byId("state-note").textContent = "All cost the same. What they read is counted by the page, from the map and the states that the program took. "
+    + (views.length < 4 ? "" : "block takes the states of jps, and reads 512 cells at a time; plus takes them too, and looks each jump up.");
 }
 
-/** Shows these engines side by side; none of them is one view again. */
+/** Shows these ways side by side; none of them is one view again. */
 function setCompare(names) {
   state.compare = names.length > 0;
   byId("compare-two").setAttribute("aria-pressed", String(names.length === 2));
   byId("compare-four").setAttribute("aria-pressed", String(names.length === 4));
   byId("counts").hidden = true;
-  byId("state-note").textContent = "";
+  byId("state-note").textContent = byId("looked-note").textContent = "";
   document.body.classList.toggle("comparing", state.compare);
-  showViews(names);
+  showViews(names.map((it) => WAYS[it]));
   if (!hasEnds()) return;
   if (state.compare) comparer.ask();
   else {
@@ -143,8 +189,9 @@ function setCompare(names) {
   }
 }
 
-/** The same engines again lead back to one view. */
-export const toggleCompare = (names = ENGINE_NAMES) => setCompare(state.compare && views.length === names.length ? [] : names);
+const FOUR = Object.keys(WAYS), TWO = ["plain", "arrival"];
+/** The same ways again lead back to one view. */
+export const toggleCompare = (names = FOUR) => setCompare(state.compare && views.length === names.length ? [] : names);
 
 function showStates(isOn) {
   state.showStates = isOn;
@@ -154,20 +201,28 @@ function showStates(isOn) {
 export function beginSearch() {
   on("tab", () => state.compare && ["edit", "walks", "certificate"].includes(state.tab) && setCompare([]));
   byId("show-states").onchange = (event) => showStates(event.target.checked);
+  byId("show-jumps").onchange = (event) => {
+    state.showJumps = event.target.checked;
+    redraw();
+  };
   byId("play").onclick = play;
   slider().oninput = () => {
     stopPlaying();
     showCount();
   };
-  byId("compare-two").onclick = () => toggleCompare(["plain", "block"]);
+  byId("compare-two").onclick = () => toggleCompare(TWO);
   byId("compare-four").onclick = () => toggleCompare();
   on("answer", () => {
     if (state.compare) return;
     show(views[0], state.answer);
     showAll();
+    showLooked();
     byId("player").classList.toggle("off", !state.showStates);
     byId("state-note").textContent = state.showStates ? "" : "Tick the box to ask for them. On a large map they may be millions.";
+    if (isToPlay && state.answer) play();
+    isToPlay &&= !state.answer;
   });
+  on("stop", () => comparer.stop());
   for (const name of ["ends", "settings", "edited"]) on(name, () => state.compare && hasEnds() && comparer.ask());
   on("map", () => {
     byId("show-states").checked = state.showStates;

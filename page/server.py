@@ -2,6 +2,7 @@
 """Serves one page on 127.0.0.1 that shows what `jps` printed.
 
     jps-page MAP [SCEN [WALKS]] [--program PATH] [--port N]
+    jps-page --site FOLDER      writes the page as files that any web server serves (site.py)
 
 The page's address has a secret in it, and is answered only where the request's Host is its own. No file is served
 but the page's own ones and those that were named; words go to the program as a list.
@@ -28,6 +29,8 @@ import connections  # noqa: E402
 from connections import Refused  # noqa: E402
 from programs import Fault, Gone, Program, TooMuch, is_closed  # noqa: E402
 from sessions import Session  # noqa: E402
+import given  # noqa: E402
+import site_files  # noqa: E402
 
 HERE = pathlib.Path(__file__).resolve().parent
 KINDS = {".html": "text/html", ".css": "text/css", ".js": "text/javascript", ".svg": "image/svg+xml"}
@@ -291,7 +294,7 @@ class Handler(http.server.BaseHTTPRequestHandler):
     def words_of(self, request, session):
         """The words of a single call, by its name."""
         name = request.choice("command", ("scen", "judge", "prove", "check", "draw"))
-        path = session.edited_path()[0]
+        path = session.edited_path()
         if name == "scen":
             return name, [name, path, session.scen_path, *request.settings(self.server.program, ("taken",))]
         if name == "judge":
@@ -335,7 +338,7 @@ class Handler(http.server.BaseHTTPRequestHandler):
     def problems(self, _):
         request = self.body()
         session = self.session(request.words.get("page"))
-        path = session.edited_path()[0]
+        path = session.edited_path()
         numbers = [str(request.number("seed")), str(request.number("n", 1, 100_000))]
         words = ["problems", path, *numbers, *request.rule()]
         session.scen_words = ["problems", *numbers, *request.rule()]
@@ -348,10 +351,11 @@ def of_file(name):
     return lambda handler, words: handler.own_file(name)
 
 
-OWN = ["style.css", "icon.svg"] + sorted(it.name for it in HERE.glob("*.js"))
+OWN = ["style.css", "jump.css", "icon.svg"] + sorted(it.name for it in HERE.glob("*.js"))
 GETS = {name: of_file(name) for name in OWN}
 GETS.update({
     "": of_file("index.html"),
+    "jump.html": of_file("jump.html"),
     "alive": Handler.alive,
     "cells": Handler.cells,
     "scen": lambda handler, words: handler.named_file(words, "scen"),
@@ -366,6 +370,8 @@ POSTS = {
     "run": Handler.run,
     "make": Handler.make,
     "problems": Handler.problems,
+    "take": given.take,
+    "small": given.small,
 }
 
 
@@ -415,13 +421,19 @@ class Server(connections.Server):
 
 def arguments():
     parser = argparse.ArgumentParser(prog="jps-page", description="Serves a page that shows what jps printed.")
-    parser.add_argument("map", metavar="MAP", help="a map file")
+    parser.add_argument("map", metavar="MAP", nargs="?", help="a map file")
     parser.add_argument("scen", metavar="SCEN", nargs="?", help="a scenario for it")
     parser.add_argument("walks", metavar="WALKS", nargs="?", help="what another program tells of the scenario")
     own = os.environ.get("JPS") or str(HERE.parent / "jps")
     parser.add_argument("--program", metavar="PATH", default=own, help="the program jps (else $JPS, else ./jps)")
     parser.add_argument("--port", metavar="N", type=int, default=0, help="the port (else a free one)")
-    return parser.parse_args()
+    parser.add_argument("--site", metavar="FOLDER", help="write the page as files that need no server of their own")
+    module = str(HERE.parent / "dist" / "wasm64")
+    parser.add_argument("--module", metavar="FOLDER", default=module, help="of a site: where jps.wasm and jps.mjs are")
+    told = parser.parse_args()
+    if told.map is None and told.site is None:
+        parser.error("a map is wanted, or --site FOLDER")
+    return told
 
 
 def main():
@@ -429,6 +441,8 @@ def main():
     for path in filter(None, (told.map, told.scen, told.walks)):
         if not os.path.isfile(path):
             sys.exit(f"jps-page: there is no file {path}")
+    if told.site:
+        sys.exit(site_files.write(told.site, told.module, told.map, told.scen))
     try:
         program = Program(told.program)
         server = Server(told.port, program, (told.map, told.scen, told.walks))

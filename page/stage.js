@@ -2,8 +2,9 @@
 
 import { byId, element, on, state, tell } from "./app.js";
 import { groundName, mapBitmap, paintMap } from "./bitmap.js";
+import { nodeWords } from "./jumps.js";
+import { stateRamp } from "./palette.js";
 import { Pointer } from "./pointer.js";
-import { stateRamp } from "./states.js";
 import { Camera, View, legend } from "./view.js";
 
 export const camera = new Camera();
@@ -25,6 +26,8 @@ export function redraw() {
     view.content.cursor = cursorShown();
     // Beside a told walk, or below a heat map, the states would only be in the way.
     view.content.picture = state.tab === "walks" || view.content.heat ? null : view.picture;
+    view.content.looked = state.showJumps ? view.looked : null;
+    view.content.rays = state.showJumps && view.replay?.isJumps ? view.replay.nodes : null;
     view.ask();
   }
 }
@@ -80,7 +83,7 @@ export function showCells(cells) {
 function endAt(px, py, view) {
   for (const name of ["goal", "start"]) {
     if (!state[name]) continue;
-    const [x, y] = view.place(state[name].x + 0.5, state[name].y + 0.5);
+    const [x, y] = view.endPlace(name);
     if (Math.hypot(px - x, py - y) < view.endRadius() + 6) return name;
   }
   return null;
@@ -113,10 +116,30 @@ function hover(cell, view, mode) {
   const where = byId("where");
   const isOn = cell && state.map && isInside(cell);
   where.textContent = isOn ? `${cell.x}, ${cell.y}  ${groundAt(cell)}` : "";
+  showTip(isOn && !mode ? cell : null, view);
   cursor.isShown = false;
   if (tools) tools.hover = isOn && mode !== "pinch" ? cell : null;
   view.canvas.style.cursor = mode === "pan" ? "grabbing" : "";
   if (state.tab === "edit") redraw();
+}
+
+const MOST_TOLD = 3;
+
+/** What is known of the states of a cell: in which order they were taken, at what cost, and why a jump stopped there. */
+export function wordsAt(cell, view) {
+  if (!view.replay || !state.goal || !view.picture) return [];
+  const nodes = view.replay.nodes.filter((it) => it.cell.x === cell.x && it.cell.y === cell.y && it.at < view.picture.shown);
+  return nodes.slice(0, MOST_TOLD).flatMap((it) => nodeWords(it, state.goal));
+}
+
+/** Shows that beside the map, away from the cell. */
+function showTip(cell, view) {
+  const lines = cell ? wordsAt(cell, view) : [];
+  const tip = byId("tip");
+  tip.hidden = lines.length === 0;
+  if (!lines.length) return;
+  tip.replaceChildren(...lines.map((it) => element("div", {}, it)));
+  tip.classList.toggle("below", view.place(cell.x, cell.y)[1] < view.height / 2);
 }
 
 const host = {
@@ -139,7 +162,8 @@ function moveCursor(dx, dy) {
   if (px < 20 || py < 20 || px > views[0].width - 20 || py > views[0].height - 20) {
     [camera.x, camera.y, isFitted] = [cursor.x, cursor.y, false];
   }
-  byId("spoken").textContent = `column ${cursor.x}, row ${cursor.y}, ${groundAt(cursor)}`;
+  byId("spoken").textContent = [`column ${cursor.x}, row ${cursor.y}, ${groundAt(cursor)}`, ...wordsAt(cursor, views[0])].join("; ");
+  showTip(cursor, views[0]);
   byId("where").textContent = `${cursor.x}, ${cursor.y}  ${groundAt(cursor)}`;
   redraw();
 }
@@ -163,35 +187,35 @@ function key(event) {
 
 // One view or four
 
-function makeView(name) {
+function makeView({ name, engine = null, states = null }) {
   const canvas = element("canvas", { tabIndex: 0, role: "application" });
   canvas.setAttribute("aria-label", `Map${name ? `, engine ${name}` : ""}: arrows move a cell, Enter sets an end, ? shows the keys`);
   const caption = element("figcaption", {}, name || "");
-  const figure = element("figure", { className: "view" }, canvas, caption);
-  figure.dataset.engine = name;
+  const figure = element("figure", { className: name ? "view named" : "view" }, caption, canvas);
+  if (name) figure.dataset.engine = [engine, ...(states ? [states] : [])].join("-");
   caption.hidden = !name;
   byId("views").append(figure);
   const view = new View(canvas, camera);
-  Object.assign(view, { name, caption });
+  Object.assign(view, { name, engine, states, caption });
   view.onResize = () => isFitted && state.map && view === views[0] && fit();
   new Pointer(view, host);
   canvas.addEventListener("keydown", key);
   return view;
 }
 
-/** Shows one view, or one for each of these engines. */
-export function showViews(names) {
+/** Shows one view, or one for each of these: a name, an engine and its states. */
+export function showViews(those) {
   byId("views").replaceChildren();
   views.length = 0;
-  byId("views").className = `views of-${names.length}`;
-  for (const name of names.length ? names : [""]) views.push(makeView(name));
+  byId("views").className = `views of-${those.length}`;
+  for (const it of those.length ? those : [{ name: "" }]) views.push(makeView(it));
   if (state.map && isFitted) fit();
   redraw();
 }
 
 function showLegend() {
   byId("state-scale").style.background = `linear-gradient(90deg, ${stateRamp(state.theme).join(", ")})`;
-  byId("legend-list").replaceChildren(...legend(state.theme, stateRamp(state.theme)).map(([name, colour, kind]) => {
+  byId("legend-list").replaceChildren(...legend(state.theme).map(([name, colour, kind]) => {
     const swatch = element("i", { className: `swatch ${kind || ""}` });
     swatch.style.background = kind === "dashed" ? `repeating-linear-gradient(90deg, ${colour} 0 6px, transparent 6px 9px)` : colour;
     return element("li", {}, swatch, name);

@@ -1,13 +1,7 @@
 // The taken states as a picture: each cell in the colour of the first state of it, up to a number that can be moved.
 
 import { Bitmap, ramp } from "./bitmap.js";
-
-const RAMPS = {
-  light: ["#ffcb73", "#f59a33", "#d0591a", "#7d2804"],
-  dark: ["#8a4508", "#b5620f", "#f19a2c", "#ffe0a3"],
-};
-
-export const stateRamp = (theme) => RAMPS[theme];
+import { palette, stateRamp } from "./palette.js";
 
 /** The least rectangle that holds all states. */
 function bounds(states) {
@@ -24,11 +18,11 @@ function bounds(states) {
 
 /** A picture of the first `shown` states of a search. */
 export class StatesPicture {
-  constructor(states, theme) {
+  constructor(states, colours) {
     const { left, top, width, height } = bounds(states);
     this.states = states;
     this.shown = 0;
-    this.colours = ramp(RAMPS[theme]);
+    this.colours = ramp(colours);
     this.bitmap = new Bitmap(width, height, left, top, true);
     this.places = new Uint32Array(states.count);
     this.isFirst = new Uint8Array(states.count);
@@ -71,6 +65,22 @@ export class StatesPicture {
     }
     this.shown = to;
     if (right >= left) this.bitmap.update(left, top, right - left + 1, bottom - top + 1);
+  }
+}
+
+export const statesPicture = (states, theme) => new StatesPicture(states, stateRamp(theme));
+
+/** The cells that were looked at, each in one colour; shown are those of so many states. */
+export class LookedPicture {
+  constructor({ x, y, ends }, theme) {
+    const states = { count: x.length, x, y, arrival: [] };
+    this.ends = ends;
+    this.picture = new StatesPicture(states, [palette(theme).looked, palette(theme).looked]);
+    this.bitmap = this.picture.bitmap;
+  }
+
+  show(count) {
+    this.picture.show(count > 0 ? this.ends[Math.min(count, this.ends.length) - 1] : 0);
   }
 }
 

@@ -1,24 +1,12 @@
 // One drawn map: the grounds, the taken states or a heat map, walks, ends. Several views share one camera.
 
-import { groundColours } from "./bitmap.js";
 import { DIRECTIONS } from "./lines.js";
+import { palette, stateRamp } from "./palette.js";
 
-const COLOURS = {
-  light: {
-    walk: "#0a4fc4", told: "#c2410c", edge: "#ffffff", start: "#0b3b8c", goal: "#7a1fa2", mark: "#5a1a00", bad: "#c00020",
-    back: "#dcd7ca", grid: "#00000014",
-  },
-  dark: {
-    walk: "#7cc0ff", told: "#ff9d5c", edge: "#0b0d10", start: "#2f7de0", goal: "#b45be0", mark: "#fff1d6", bad: "#ff4d5e",
-    back: "#1a1d22", grid: "#ffffff12",
-  },
-};
 const MOST_MARKS = 4000;
 const MOST_DOTS = 1500;
 const FEW_MARKS = 60;
 const ARROW = [[0, -1], [1, -1], [1, 0], [1, 1], [0, 1], [-1, 1], [-1, 0], [-1, -1]];
-
-export const walkColours = (theme) => COLOURS[theme];
 
 /** Which part of the map is seen: the cell in the middle, and how many pixels a cell has. */
 export class Camera {
@@ -95,27 +83,28 @@ export class View {
   draw() {
     const { context, content } = this;
     if (!content.bitmap) return;
-    const colours = COLOURS[content.theme];
+    const colours = palette(content.theme);
     context.setTransform(1, 0, 0, 1, 0, 0);
-    context.fillStyle = colours.back;
+    context.fillStyle = colours.beyond;
     context.fillRect(0, 0, this.canvas.width, this.canvas.height);
     const scale = this.camera.scale * this.ratio;
     const [x, y] = this.place(0, 0).map((it) => Math.round(it * this.ratio));
     content.bitmap.draw(context, x, y, scale);
     if (content.heat) content.heat.draw(context, x, y, scale, 0.88);
+    if (content.picture && content.looked) content.looked.bitmap.draw(context, x, y, scale, 0.75);
     if (content.picture) content.picture.bitmap.draw(context, x, y, scale, 0.92);
     context.setTransform(this.ratio, 0, 0, this.ratio, 0, 0);
     this.drawGrid(colours);
+    if (content.picture && content.rays) this.drawRays(content.rays, content.picture.shown, colours);
     // A few states lie above the walk, whose turns they are; many would hide it.
     const isAbove = content.picture?.states.count <= FEW_MARKS;
     if (content.picture && !isAbove) this.drawMarks(content.picture, colours);
-    if (content.walk) this.drawWalk(content.walk, colours.walk, colours.edge);
+    if (content.walk) this.drawWalk(content.walk, colours.walk, colours.casing);
     if (content.picture && isAbove) this.drawMarks(content.picture, colours);
     // Between the dashes of a told walk a least one is seen, where both lead the same way.
-    if (content.told) this.drawWalk(content.told, colours.told, colours.edge, [8, 9]);
+    if (content.told) this.drawWalk(content.told, colours.told, colours.casing, [8, 9]);
     if (content.bad) this.drawBad(content.bad, colours);
-    if (content.start) this.drawEnd(content.start, "S", colours.start);
-    if (content.goal) this.drawEnd(content.goal, "G", colours.goal);
+    for (const name of ["start", "goal"]) if (content[name]) this.drawEnd(name, colours[name]);
     if (content.cursor) this.drawCursor(content.cursor, colours);
   }
 
@@ -163,6 +152,21 @@ export class View {
     }
   }
 
+  /** A ray for each jump to a taken state, from its parent. */
+  drawRays(nodes, shown, colours) {
+    const { context, camera } = this;
+    if (nodes.length > MOST_MARKS) return;
+    context.beginPath();
+    for (const { at, cell, parent } of nodes) {
+      if (!parent || at >= shown) continue;
+      context.moveTo(...this.place(parent.cell.x + 0.5, parent.cell.y + 0.5));
+      context.lineTo(...this.place(cell.x + 0.5, cell.y + 0.5));
+    }
+    context.strokeStyle = colours.ray;
+    context.lineWidth = Math.max(1.2, Math.min(camera.scale * 0.1, 2.5));
+    context.stroke();
+  }
+
   drawDot(x, y, radius) {
     this.context.beginPath();
     this.context.arc(x, y, radius, 0, 7);
@@ -204,9 +208,10 @@ export class View {
   }
 
   /** Start and goal differ by colour, letter and form: a disk and a square on its tip. */
-  drawEnd(cell, letter, colour) {
+  drawEnd(name, colour) {
     const { context } = this;
-    const [x, y] = this.place(cell.x + 0.5, cell.y + 0.5);
+    const letter = name === "start" ? "S" : "G";
+    const [x, y] = this.endPlace(name);
     const radius = this.endRadius();
     context.beginPath();
     if (letter === "S") context.arc(x, y, radius, 0, 7);
@@ -226,6 +231,14 @@ export class View {
     context.fillText(letter, x, y + radius * 0.06);
   }
 
+  /** Where an end is drawn: in the middle of its cell, or beside the other one where both are one cell. */
+  endPlace(name) {
+    const { start, goal } = this.content, cell = this.content[name];
+    const isOne = start && goal && start.x === goal.x && start.y === goal.y;
+    const [x, y] = this.place(cell.x + 0.5, cell.y + 0.5);
+    return [x + (isOne ? this.endRadius() * (name === "start" ? -1.15 : 1.15) : 0), y];
+  }
+
   endRadius() {
     const most = this.width < 260 ? 6 : 14;
     return Math.max(Math.min(9, most), Math.min(this.camera.scale * 0.42, most));
@@ -234,7 +247,7 @@ export class View {
   drawBad(cell, colours) {
     const { context } = this;
     const [x, y] = this.place(cell.x + 0.5, cell.y + 0.5);
-    for (const [colour, width] of [["#fff", 7], [colours.bad, 3.5]]) {
+    for (const [colour, width] of [["#fff", 7], [colours.wrong, 3.5]]) {
       context.strokeStyle = colour;
       context.lineWidth = width;
       context.beginPath();
@@ -251,7 +264,7 @@ export class View {
     const { context, camera } = this;
     const side = Math.max(camera.scale * cursor.size, 8);
     const [x, y] = this.place(cursor.x + 0.5, cursor.y + 0.5);
-    for (const [colour, width] of [[colours.edge, 4], [colours.mark, 1.5]]) {
+    for (const [colour, width] of [[colours.casing, 4], [colours.mark, 1.5]]) {
       context.strokeStyle = colour;
       context.lineWidth = width;
       context.strokeRect(x - side / 2, y - side / 2, side, side);
@@ -260,11 +273,13 @@ export class View {
 }
 
 /** What the colours mean, for the legend. */
-export function legend(theme, ramp) {
-  const ground = groundColours(theme), colours = COLOURS[theme];
+export function legend(theme) {
+  const colours = palette(theme);
   return [
-    ["land", ground.land], ["swamp (land)", ground.swamp], ["trees (blocked)", ground.trees],
-    ["wall (blocked)", ground.wall], ["water", ground.water], ["walk", colours.walk, "line"],
-    ["another program's walk", colours.told, "dashed"], ["taken states, early to late", `linear-gradient(90deg, ${ramp.join(", ")})`],
+    ["land", colours.land], ["swamp (land)", colours.swamp], ["trees (blocked)", colours.trees],
+    ["wall (blocked)", colours.wall], ["water", colours.water], ["walk", colours.walk, "line"],
+    ["another program's walk", colours.told, "dashed"],
+    ["taken states, early to late", `linear-gradient(90deg, ${stateRamp(theme).join(", ")})`],
+    ["cells that jumps looked at", colours.looked], ["jump from its parent", colours.ray, "line"],
   ];
 }

@@ -96,5 +96,9 @@ export function beginWalks() {
   list = new List(byId("walks-list"), drawRow, pickRow);
   byId("copy-walks").onclick = (event) => copy(byId("walks-command").textContent, event.target);
   for (const name of ["tab", "settings", "map"]) on(name, load);
+  on("files", () => {
+    loaded = "";
+    load();
+  });
   on("ends", ({ isDragged }) => isDragged && clear());
 }

@@ -1,0 +1,69 @@
+"""Writes the page as a folder of files that any web server serves: the program itself runs in the browser.
+
+What differs from the served page is the first tag of its two pages (which form api.js takes) and the policy, which
+stands in the pages, as no server sends it.
+"""
+
+import hashlib
+import json
+import pathlib
+import shutil
+
+HERE = pathlib.Path(__file__).resolve().parent
+TOP = HERE.parent
+MODULE = ("jps.mjs", "jps.wasm")
+PAGES = ("index.html", "jump.html")
+SERVER_ALONE = ("asked.js",)
+# Maps that each site has, with their scenarios.
+MAPS = ((HERE / "island.map", HERE / "island.scen"), (TOP / "maps/game49.map", TOP / "maps/game49.map.scen"),
+        (TOP / "docs/pictures/caves.map", None))
+POLICY = (
+    "default-src 'none'; script-src 'self' 'wasm-unsafe-eval'; style-src 'self'; connect-src 'self'; worker-src 'self'; "
+    "img-src 'self' blob: data:; base-uri 'none'; form-action 'none'"
+)
+
+
+def as_site(html):
+    """A page that asks the module, with its policy."""
+    policy = f'<meta charset="utf-8">\n<meta http-equiv="Content-Security-Policy" content="{POLICY}">'
+    return html.replace('<html lang="en">', '<html lang="en" data-form="site">').replace('<meta charset="utf-8">', policy)
+
+
+def copy_maps(folder, named):
+    """The maps and scenarios below `maps/`; what site.json tells of them."""
+    listed = []
+    for map_path, scen_path in named:
+        entry = {"map": map_path.name, "scen": scen_path.name if scen_path else None}
+        if entry["map"] in [it["map"] for it in listed]:
+            continue
+        for path in filter(None, (map_path, scen_path)):
+            shutil.copyfile(path, folder / "maps" / path.name)
+        listed.append(entry)
+    return {"maps": listed}
+
+
+def sums(folder):
+    """A line for each file, as `sha256sum -c` reads it."""
+    paths = sorted(it for it in folder.rglob("*") if it.is_file() and it.name != "MANIFEST")
+    lines = [f"{hashlib.sha256(it.read_bytes()).hexdigest()}  {it.relative_to(folder).as_posix()}\n" for it in paths]
+    return "".join(lines)
+
+
+def write(told, module, map_path=None, scen_path=None):
+    """Writes the folder, which must not be there or be empty; returns what is wrong, or None."""
+    folder, module = pathlib.Path(told), pathlib.Path(module)
+    for name in MODULE:
+        if not (module / name).is_file():
+            return f"jps-page: there is no {name} in {module}"
+    if folder.exists() and (not folder.is_dir() or any(folder.iterdir())):
+        return f"jps-page: {folder} is there, and not an empty folder"
+    (folder / "maps").mkdir(parents=True)
+    for name in PAGES:
+        (folder / name).write_text(as_site((HERE / name).read_text()))
+    for path in [HERE / "style.css", HERE / "jump.css", HERE / "icon.svg", *sorted(HERE.glob("*.js")), *(module / it for it in MODULE)]:
+        if path.name not in SERVER_ALONE:
+            shutil.copyfile(path, folder / path.name)
+    named = [(pathlib.Path(map_path), pathlib.Path(scen_path) if scen_path else None)] if map_path else []
+    (folder / "site.json").write_text(json.dumps(copy_maps(folder, [*named, *MAPS]), indent=1) + "\n")
+    (folder / "MANIFEST").write_text(sums(folder))
+    return None
