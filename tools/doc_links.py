@@ -12,7 +12,7 @@ import subprocess
 TOP = pathlib.Path(__file__).resolve().parent.parent
 AT_THE_TOP = ("README.md", "CONTRIBUTING.md", "CHANGELOG.md")
 WRITTEN = ("bench/results", "bench/.cache")  # by bench/run
-BELOW = ("docs/*.md", "examples/README.md", "examples/*/README.md", "crates/*/README.md", "bench/*.md", "page/README.md")
+BELOW = ("docs/*.md", "examples/README.md", "examples/*/README.md", "crates/*/README.md", "bench/*.md", "page/README.md", "edge/README.md")
 
 
 def pages():

@@ -23,12 +23,19 @@ fail() {
     exit "$not_run"
 }
 
-# Reads what dist/MANIFEST says, by its words. Returns whether there is one.
+# Reads what dist/MANIFEST says, by its words; the sums of the programs by their names. Returns whether there is one.
 read_manifest() {
     local word value
-    declare -gA told=()
+    declare -gA told=() sums=()
     [ -f "$manifest" ] || return 1
-    while read -r word value; do told[$word]=$value; done <"$manifest"
+    while read -r word value; do
+        told[$word]=$value
+        if [ "$word" = file ]; then
+            word=${value%% *} value=${value#* }
+            sums[$word]=${value%% *}
+        fi
+    done <"$manifest"
+    sums[${told[program]-none}]=${told[sha256]-}
     handed=$top/dist/${told[program]-}
 }
 
@@ -65,16 +72,29 @@ is_built() {
     read -r of sum _ 2>/dev/null <"$made" && [ "$of" = "$sources" ] && [ "$sum" = "$(sum_of "$built")" ]
 }
 
-# Whether the program in dist/ was made from these sources. If so it has to be whole, and to run here.
+# The programs of dist/ for this system: the first one that runs is taken.
+names_here() {
+    case $(uname -sm) in
+        "Linux x86_64") echo "${told[program]-} x86_64-linux-static/jps" ;;
+        "Linux aarch64") echo aarch64-linux/jps ;;
+    esac
+}
+
+# Whether a program in dist/ was made from these sources, for this system. If so it has to be whole, and to run here.
 is_handed() {
-    local said
+    local name said=""
     read_manifest && [ "${told[sources]-}" = "$sources" ] || return 1
-    [ "$(sum_of "$handed" 2>/dev/null)" = "${told[sha256]-}" ] ||
-        fail "dist/${told[program]-} is damaged, as its sum is not that of dist/MANIFEST, and was not run:" \
-            "'git checkout dist' gets it back, './jps --prove' makes it again"
-    said=$("$handed" --version 2>&1) && [ "$said" = "jps ${told[version]-}" ] ||
-        fail "dist/${told[program]} does not run here: it needs glibc ${told[glibc]-} or later and a processor with" \
-            "${told[processor]-}, and said: $(echo "${said#*: line * }" | head -n 1)"
+    for name in $(names_here); do
+        [ "${sums[$name]-}" ] || continue
+        handed=$top/dist/$name
+        [ "$(sum_of "$handed" 2>/dev/null)" = "${sums[$name]}" ] ||
+            fail "dist/$name is damaged, as its sum is not that of dist/MANIFEST, and was not run:" \
+                "'git checkout dist' gets it back, './jps --prove' makes it again"
+        if said=$("$handed" --version 2>&1) && [ "$said" = "jps ${told[version]-}" ]; then return; fi
+    done
+    [ -z "$said" ] || fail "${handed#"$top"/} does not run here: it needs a processor with ${told[processor]-} (on ARM" \
+        "any of 64 bits), and said: $(echo "${said#*: line * }" | head -n 1)"
+    return 1
 }
 
 # Begins a look that can be kept: its time is that of the file $began, which is "" where none can be made.
@@ -91,7 +111,8 @@ begin_look() {
 # one may be put in their place, with another program in it, that is older than this look.
 write_look() {
     local names=("${program#"$top"/}" "${made#"$top"/}")
-    if [ "$program" = "$handed" ]; then names=("${handed#"$top"/}" dist/MANIFEST dist "dist/${told[program]%/*}"); fi
+    if [ "$program" = "$handed" ]; then names=("${handed#"$top"/}" dist/MANIFEST dist); fi
+    if [ "$program" = "$handed" ]; then names+=("${names[0]%/*}"); fi
     printf '%s\0' "${names[@]}" && "$top/tools/sources" --list
 }
 
@@ -253,14 +274,16 @@ answer_from() {
 
 # Finds the program, or builds it.
 find_program() {
-    if [ "$(uname -sm)" = "Linux x86_64" ] && look; then return; fi
+    case $(uname -sm) in
+        "Linux x86_64" | "Linux aarch64") if look; then return; fi ;;
+    esac
     # Before the first build these two answer from the program's source; the gate compares that with the program.
     case $#,${1-} in
         1,--help) answer_from help_text ;;
         1,--version) answer_from version_text ;;
     esac
     [ "$(uname -sm)" = "Linux x86_64" ] ||
-        fail "the program in dist/ and Rattle's kit need Linux on x86-64, and this is $(uname -sm)"
+        fail "no program in dist/ is for $(uname -sm) and these sources, and Rattle's kit needs Linux on x86-64"
     take_lock
     if ! look; then
         build

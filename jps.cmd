@@ -1,0 +1,1 @@
+@"%~dp0dist\x86_64-windows\jps.exe" %*
