@@ -4,6 +4,7 @@ import contextlib
 import json
 import os
 import pathlib
+import random
 import signal
 import socket
 import subprocess
@@ -17,6 +18,7 @@ MANY = 1000
 ROUNDS = 40
 STRANGERS = 200
 SECONDS_OF_DRIPPING = 8
+SECONDS_OF_CHANGING = 5
 
 
 def children(process):
@@ -210,6 +212,29 @@ def together(place):
                 return
 
 
+def changing(place):
+    """Other maps, edits and queries at once: each is answered, or told that the map is another one."""
+    page, told, until = place.open(), [], time.monotonic() + SECONDS_OF_CHANGING
+    asked = {"page": page, "rule": "none"}
+
+    def one(number):
+        by_chance = random.Random(number)
+        below = lambda: by_chance.randrange(99)
+        while time.monotonic() < until:
+            words = {**asked, "engine": by_chance.choice(("plain", "jps", "block", "plus"))}
+            if (kind := below()) < 15:
+                answer = place.post("make", {"page": page, "seed": kind, "w": 99, "h": 1 + below(), "p": 20})
+            elif kind < 60:
+                answer = place.post("edit", {**words, "edits": [["block", below(), below()] for _ in range(60)]})
+            else:
+                answer = place.post("query", {**words, **{it: below() for it in ("sx", "sy", "gx", "gy")}})
+            told.append(status(answer))
+
+    at_once([lambda number=number: one(number) for number in range(6)])
+    if not set(told) <= {200, 422} or 200 not in told:
+        yield f"maps, edits and queries at once: { {it: told.count(it) for it in set(told)} }"
+
+
 def no_map(place):
     """Where the program refuses the map nothing can be asked of it."""
     page = place.open()
@@ -268,7 +293,7 @@ def try_one_map(program, top, room):
     try:
         for part in (strangers, words, heads):
             yield from wrong(part(place))
-        for part in (many, gone, together, dripping):
+        for part in (many, gone, together, changing, dripping):
             yield from part(place)
         if os.path.exists("/tmp/x"):
             yield "a shell was called"

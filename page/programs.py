@@ -62,7 +62,8 @@ def wait_for(pipe, connection):
 
 
 def end(process):
-    """Ends a process and takes its pipes away."""
+    """Ends a process. (Its pipes are closed with the last thread that has them: what is read by a number that was
+    closed meanwhile may be another's.)"""
     if process.poll() is None:
         process.terminate()
         try:
@@ -70,12 +71,6 @@ def end(process):
         except subprocess.TimeoutExpired:
             process.kill()
             process.wait()
-    for pipe in (process.stdin, process.stdout, process.stderr):
-        if pipe:
-            try:
-                pipe.close()
-            except OSError:
-                pass
 
 
 def fault_of(process):
@@ -183,8 +178,8 @@ class Live:
         try:
             while data:
                 data = data[os.write(self.process.stdin.fileno(), data) :]
-        except (BrokenPipeError, ValueError):
-            raise Fault(*self.fault()) from None
+        except BrokenPipeError:
+            raise Fault(*fault_of(self.process)) from None
 
     def read(self, count, connection):
         """The next lines of the program."""
@@ -194,7 +189,7 @@ class Live:
             wait_for(self.process.stdout, connection)
             piece = os.read(self.process.stdout.fileno(), PIECE)
             if not piece:
-                raise Fault(*self.fault())
+                raise Fault(*fault_of(self.process))
             size += len(piece)
             if size > MOST_LINE:
                 raise TooMuch
@@ -205,9 +200,3 @@ class Live:
                 pieces, size = [rest], len(rest)
         self.kept = pieces[0]
         return answers
-
-    def fault(self):
-        try:
-            return fault_of(self.process)
-        except ValueError:  # another thread has ended the process and closed its pipes
-            return -15, "the program was stopped"
