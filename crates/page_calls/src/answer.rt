@@ -89,7 +89,13 @@ pub fn answer_of(
     if !words.are_all {
         return refused(alloc, words.words.as_slice());
     }
-    start::<Brand>(alloc, words.words.as_slice(), &mut files, &mut input, Blank::new(1))
+    start::<Brand>(
+        alloc,
+        words.words.as_slice(),
+        &mut files,
+        &mut input,
+        Blank::new(1),
+    )
 }
 
 /// Puts the bytes at the front of the room, if they fit there, and answers how many they are.

@@ -30,10 +30,16 @@ pub fn words_of(alloc: Global, bytes: &[u8]) -> Result<Handed, NoMemory>
         word = Vec::new(alloc);
         match String::from_utf8(ended) {
             Ok(text) => words.push(text)?,
-            Err(_) => return Ok(Handed { words, are_all: false }),
+            Err(_) => return Ok(Handed {
+                words,
+                are_all: false,
+            }),
         }
     }
-    Ok(Handed { words, are_all: true })
+    Ok(Handed {
+        words,
+        are_all: true,
+    })
 }
 
 // Puts the text of this place under its name, if it has one.
