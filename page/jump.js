@@ -87,7 +87,7 @@ async function forcedSteps(figure) {
   const before = await walks(open, figure.rule, forced.map(({ cell }) => [arrival.from, cell]));
   const steps = forced.flatMap((it, at) => [
     { words: `On open ground the least path to ${told(it.cell)} costs ${costWords(before[at].cost)}, and does not need x.`, cells: [{ ...it.cell, kind: "pruned" }],
-      lines: linesOf(before[at].points, "lost"), letters: marks(arrival) },
+      lines: linesOf(before[at].points, "other"), letters: marks(arrival) },
     { ...neighbourStep(it, arrival), words: `The wall closes that path. The least one now costs ${costWords(it.walk.cost)}, and goes over x: ${told(it.cell)} is a forced neighbour.` },
   ]);
   const count = (rule) => `under ${rule} ${byRule[rule].map(({ cell }) => told(cell)).join(" and ") || "nothing"}`;
@@ -219,7 +219,7 @@ function swapStep(run, rules) {
       return { words: `Nothing is lost. At ${told(cell)} the dropped arrival alone would turn ${DIRECTIONS[turn]}. The one that stays came by ${DIRECTIONS[stays.arrival]} from ${told(begin)}: `
         + `make the diagonal first, there. By ${told(first)} the path to ${told(end)} costs the same, and the search goes it.`,
       letters: ENDS, cells: [{ ...cell, kind: "pruned" }, { ...end, kind: "kept" }],
-      lines: [...linesOf([begin, cell, end], "lost"), ...linesOf([begin, first, end], "walk")] };
+      lines: [...linesOf([begin, cell, end], "other"), ...linesOf([begin, first, end], "walk")] };
     }
   }
   return null;

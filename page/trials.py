@@ -1,9 +1,12 @@
 """What is tried of the served page, each part on a page of its own: for page/test."""
 
+import json
 import os
 import pathlib
 import subprocess
 import time
+import urllib.error
+import urllib.request
 
 from tried import GAME, SECONDS, TOP, equal, expect
 
@@ -332,6 +335,7 @@ def stopped(tried):
     browser.press("input[name=engine][value=plain]")
     for end, cell in (("start", "1,1"), ("goal", "4090,4090")):
         browser.run(f"(() => {{ const it = document.querySelector('#{end}'); it.value = '{cell}'; it.onchange(); }})()")
+    time.sleep(1.5)  # by then what was asked before is given up
     browser.wait("!document.querySelector('#busy').hidden", SECONDS)
     browser.press("#stop")
     browser.wait("document.querySelector('#verdict').textContent === 'Stopped.'", SECONDS)
@@ -349,6 +353,37 @@ def closed(tried):
     while tried.children() and time.monotonic() - begun < SECONDS:
         time.sleep(0.05)
     equal("programs behind a page that was closed in the midst of a query", tried.children(), [])
+
+
+def handed(tried):
+    """What a page hands over has its form and its size; else it is refused, and the server goes on."""
+    tried.serve(GAME, hash_words="#5,5,15,15,plain,none")
+    page = json.loads(asked(tried, "open", b"{}")[1])["page"]
+    rows, call = ["...", ".@.", "..."], ["query", "0", "0", "2", "2", "engine=jps", "rule=none"]
+    told = {"page": page, "rows": rows, "calls": [call]}
+    answers = json.loads(asked(tried, "small", json.dumps(told).encode())[1])["answers"]
+    path = tried.folder / "pillar.map"
+    path.write_text("type octile\nheight 3\nwidth 3\nmap\n...\n.@.\n...\n")
+    equal("a call on a small map", answers, [{"status": 0, "out": tried.jps("query", path, 0, 0, 2, 2, "engine=jps")}])
+    wrong = [{"rows": []}, {"rows": ["..", "."]}, {"rows": ["x"]}, {"rows": ["."] * 65}, {"rows": 3}, {"calls": [call] * 65}, {"calls": None}]
+    wrong += [{"calls": [it]} for it in (["draw"], ["query", "0"], [*call, "tables=/etc/passwd"], [" ".join(call)], ["check", "x"], 7, [7])]
+    for it in wrong:
+        equal(f"a small map with {str(it)[:60]}", asked(tried, "small", json.dumps({**told, **it}).encode())[0], 400)
+    for words, status in (("kind=map&name=m", 410), (f"page={page}&kind=else&name=m", 400), (f"page={page}&kind=map&name=../../m", 200)):
+        equal(f"a file with {words.replace(page, 'PAGE')}", asked(tried, f"take?{words}", path.read_bytes())[0], status)
+    equal("what is open then", json.loads(asked(tried, f"take?page={page}&kind=scen&name=s", b"version 1")[1])["map"].rsplit("/", 1)[1], "_.._m")
+    head = {"Content-Length": str(1 << 27)}
+    equal("a file that is too long", asked(tried, f"take?page={page}&kind=map&name=m", b"", head)[0], 413)
+
+
+def asked(tried, name, body, head=None):
+    """The status and the bytes that a request is answered with."""
+    request = urllib.request.Request(tried.address + name, data=body, headers=head or {}, method="POST")
+    try:
+        with urllib.request.urlopen(request, timeout=SECONDS) as told:
+            return told.status, told.read()
+    except urllib.error.HTTPError as fault:
+        return fault.code, fault.read()
 
 
 def left(tried):
@@ -374,5 +409,5 @@ def left(tried):
     browser.wait("!document.querySelector('#banner').hidden", SECONDS)
 
 
-PARTS = [query, share, search, edit, scenario, judge, certificate, manners, made, portrait, left]
+PARTS = [query, share, search, edit, scenario, judge, certificate, manners, made, portrait, handed, left]
 PARTS += [lambda tried: large(tried, 512), lambda tried: large(tried, 4096)]

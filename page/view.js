@@ -147,7 +147,7 @@ export class View {
         this.drawDot(x, y, this.width < 260 ? 1.9 : 2.7);
         context.stroke();
       } else if (states.arrival[at] < DIRECTIONS.length) {
-        this.drawArrow(x, y, ARROW[states.arrival[at]], side);
+        this.drawArrow(x, y, ARROW[states.arrival[at]], side, colours);
       }
     }
   }
@@ -173,8 +173,10 @@ export class View {
     this.context.fill();
   }
 
-  drawArrow(x, y, [dx, dy], side) {
+  /** An arrow with a casing, as early and late states differ too much for one colour. */
+  drawArrow(x, y, [dx, dy], side, colours) {
     const { context } = this;
+    const width = context.lineWidth;
     const length = Math.hypot(dx, dy);
     const [ux, uy] = [(dx / length) * side, (dy / length) * side];
     context.beginPath();
@@ -183,7 +185,11 @@ export class View {
     context.moveTo(x + ux * 0.2 - uy * 0.6, y + uy * 0.2 + ux * 0.6);
     context.lineTo(x + ux, y + uy);
     context.lineTo(x + ux * 0.2 + uy * 0.6, y + uy * 0.2 - ux * 0.6);
-    context.stroke();
+    for (const [colour, wide] of [[colours.casing, width + 2], [colours.mark, width]]) {
+      context.strokeStyle = colour;
+      context.lineWidth = wide;
+      context.stroke();
+    }
   }
 
   drawWalk(points, colour, edge, dash = []) {
