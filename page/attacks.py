@@ -1,16 +1,22 @@
 """Tries the server of the page without a browser: what it must not answer, and what must not end it."""
 
+import contextlib
 import json
 import os
 import pathlib
 import signal
 import socket
 import subprocess
+import tempfile
 import threading
 import time
 import urllib.parse
+from itertools import product
 
 MANY = 1000
+ROUNDS = 40
+STRANGERS = 200
+SECONDS_OF_DRIPPING = 8
 
 
 def children(process):
@@ -26,12 +32,24 @@ def read(path):
         return ""
 
 
+def at_once(calls):
+    """Makes these calls, each in a thread, and waits for all."""
+    threads = [threading.Thread(target=it) for it in calls]
+    for it in threads:
+        it.start()
+    for it in threads:
+        it.join()
+
+
 class Place:
     """A server, and plain requests to it."""
 
-    def __init__(self, program, top):
-        call = [top / "jps-page", "maps/game49.map", "--program", program]
-        self.server = subprocess.Popen(call, stdout=subprocess.PIPE, stderr=subprocess.DEVNULL, text=True, cwd=top)
+    def __init__(self, program, top, room, map_file="maps/game49.map"):
+        self.top, self.room = top, room
+        call = [top / "jps-page", map_file, "--program", program]
+        self.said = open(f"{room}/said", "w+", encoding="utf-8")
+        env = {**os.environ, "TMPDIR": room}
+        self.server = subprocess.Popen(call, stdout=subprocess.PIPE, stderr=self.said, text=True, cwd=top, env=env)
         told = urllib.parse.urlsplit(self.server.stdout.readline().strip())
         self.host, self.port, self.home = told.netloc, told.port, told.path
 
@@ -64,14 +82,29 @@ class Place:
     def open(self):
         return json.loads(self.post("open", {}).partition(b"\r\n\r\n")[2])["page"]
 
+    def is_free(self, x, y):
+        """Whether the cell of the map that it was called with is land."""
+        return (self.top / "maps/game49.map").read_bytes().split(b"\n")[4 + y][x : x + 1] == b"."
+
     def children(self):
         return children(self.server.pid)
 
-    def end(self):
-        self.server.send_signal(signal.SIGINT)
+    def end(self, again=()):
+        """Ends the server by a signal, and more of them so many seconds later; yields what is wrong behind it."""
+        left = self.children()
+        for seconds in (0, *again):
+            time.sleep(seconds)
+            self.server.send_signal(signal.SIGINT)
         status = self.server.wait(20)
         self.server.stdout.close()
-        return status
+        if status != 0 or any(os.path.exists(f"/proc/{it}") for it in left):
+            yield f"Ctrl-C: status {status}, programs {left}"
+        if folders := [it for it in os.listdir(self.room) if it != "said"]:
+            yield f"Ctrl-C leaves {folders}"
+        self.said.seek(0)
+        if "Traceback" in (said := self.said.read()):
+            yield f"the server has a traceback: {said[-300:]}"
+        self.said.close()
 
 
 def status(answer):
@@ -131,11 +164,7 @@ def many(place):
         except OSError:
             told.append("no connection")
 
-    threads = [threading.Thread(target=one) for _ in range(MANY)]
-    for it in threads:
-        it.start()
-    for it in threads:
-        it.join()
+    at_once([one] * MANY)
     if told.count(200) == 0 or not set(told) <= {200, 503, None, "no connection"}:
         yield f"of {MANY} requests at once: { {it: told.count(it) for it in set(told)} }"
     if status(place.get(place.home)) != 200:
@@ -160,20 +189,123 @@ def gone(place):
         yield "a program goes on though nobody waits for it"
 
 
-def try_all(program, top):
-    """Each fault in words."""
-    place = Place(program, top)
+def together(place):
+    """Two engines that edit at once: behind it all know one map, the one that is saved."""
+    page = place.open()
+    cells = [(x, y) for x, y in product(range(1, 48), repeat=2) if place.is_free(x, y)][:40]
+    told = {it: {"page": page, "engine": it, "rule": "none"} for it in ("jps", "block")}
+    for number in range(ROUNDS):
+        verbs = ("block", "free") if number % 2 else ("free", "block")
+        at_once([
+            lambda engine=engine, verb=verb: place.post("edit", {**told[engine], "edits": [[verb, *it] for it in cells]})
+            for engine, verb in zip(told, verbs)
+        ])
+        saved = place.get(f"{place.home}saved-map?page={page}").partition(b"\r\n\r\n")[2].split(b"\n")[4:]
+        for engine, (x, y) in product(told, cells[:: len(cells) - 1]):
+            ends = {"sx": x, "sy": y, "gx": x, "gy": y}
+            said = place.post("query", {**told[engine], **ends}).partition(b"\r\n\r\n")[2]
+            wanted = b"blocked" if saved[y][x : x + 1] == b"@" else b"walk 0 0 %d,%d" % (x, y)
+            if said != wanted:
+                yield f"round {number} of two edits at once: {engine} says {said!r} in place of {wanted!r}"
+                return
+
+
+def no_map(place):
+    """Where the program refuses the map nothing can be asked of it."""
+    page = place.open()
+    asked = {"page": page, "engine": "plain", "rule": "none", "sx": 0, "sy": 0, "gx": 0, "gy": 0}
+    yield "a query without a map", place.post("query", asked), 404
+    yield "an edit without a map", place.post("edit", {**asked, "edits": [["free", 0, 0]]}), 404
+    yield "cells without a map", place.get(f"{place.home}cells?page={page}"), 404
+    yield "a saved map without a map", place.get(f"{place.home}saved-map?page={page}"), 404
+    yield "a saved script without a map", place.get(f"{place.home}saved-script?page={page}"), 404
+
+
+def heads(place):
+    """A head has at most 16 KB."""
+    yield "a head of 15 KB", place.get(place.home, more=f"X: {'x' * 15000}\r\n"), 200
+    yield "a head of 17 KB", place.get(place.home, more=f"X: {'x' * 17000}\r\n"), 431
+    yield "a head of 90 lines of 200 bytes", place.get(place.home, more=f"X: {'x' * 195}\r\n" * 90), 431
+    yield "a first line of 17 KB", place.get(f"{place.home}{'x' * 17000}"), None
+
+
+def dripping(place):
+    """Strangers that send a byte now and then keep nobody out, and are closed in time."""
+    with contextlib.ExitStack() as stack:
+        connect = lambda: stack.enter_context(socket.create_connection(("127.0.0.1", place.port)))
+        held = [connect() for _ in range(STRANGERS)]
+        begun, slowest = time.monotonic(), 0
+        while time.monotonic() - begun < SECONDS_OF_DRIPPING:
+            for it in held:
+                with contextlib.suppress(OSError):
+                    it.sendall(b"G")
+            asked = time.monotonic()
+            if status(place.get(place.home)) != 200:
+                yield f"{STRANGERS} connections that drip keep the page out"
+                return
+            slowest = max(slowest, time.monotonic() - asked)
+            time.sleep(0.2)
+        if slowest > SECONDS_OF_DRIPPING / 2:
+            yield f"{STRANGERS} connections that drip keep the page waiting for {slowest:.1f} s"
+        if open_ones := [it for it in held if not is_closed(it)]:
+            yield f"{len(open_ones)} connections that drip are open after {SECONDS_OF_DRIPPING} s"
+
+
+def is_closed(connection):
+    connection.settimeout(1)
     try:
-        for part in (strangers, words):
-            for what, answer, wanted in part(place):
-                if status(answer) != wanted:
-                    yield f"{what}: {answer[:80]!r} in place of {wanted}"
-        yield from many(place)
-        yield from gone(place)
+        while connection.recv(65536):
+            pass
+    except TimeoutError:
+        return False
+    except OSError:
+        pass
+    return True
+
+
+def try_one_map(program, top, room):
+    place = Place(program, top, room)
+    try:
+        for part in (strangers, words, heads):
+            yield from wrong(part(place))
+        for part in (many, gone, together, dripping):
+            yield from part(place)
         if os.path.exists("/tmp/x"):
             yield "a shell was called"
     finally:
-        left = place.children()
-        ended = place.end()
-        if ended != 0 or any(os.path.exists(f"/proc/{it}") for it in left):
-            yield f"Ctrl-C: status {ended}, programs {left}"
+        yield from place.end()
+
+
+def try_signals(program, top, room):
+    """Ctrl-C, and again while the server ends: nothing is left."""
+    for seconds in (0.0, 0.01, 0.05, 0.2):
+        place = Place(program, top, room)
+        page = place.open()
+        ends = {"sx": 5, "sy": 5, "gx": 9, "gy": 9}
+        for engine in ("plain", "jps", "block", "plus"):
+            place.post("query", {"page": page, "engine": engine, "rule": "none", **ends})
+        yield from place.end(again=[seconds] * 3)
+
+
+def try_no_map(program, top, room):
+    pathlib.Path(f"{room}/said.map").write_text("type octile\nheight 2\nwidth 3\nmap\n...\n.x.\n", encoding="ascii")
+    place = Place(program, top, room, f"{room}/said.map")
+    try:
+        yield from wrong(no_map(place))
+    finally:
+        os.remove(f"{room}/said.map")
+        yield from place.end()
+
+
+def wrong(answers):
+    """Those answers that have another status than the wanted one."""
+    for what, answer, wanted in answers:
+        if status(answer) != wanted:
+            yield f"{what}: {answer[:80]!r} in place of {wanted}"
+
+
+def try_all(program, top):
+    """Each fault in words."""
+    for part in (try_one_map, try_signals, try_no_map):
+        with tempfile.TemporaryDirectory() as room:
+            yield from part(program, top, room)

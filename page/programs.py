@@ -94,6 +94,7 @@ class Program:
     def __init__(self, path):
         self.path = path
         self.running = set()
+        self.is_over = False  # nothing more is started
         self.lock = threading.Lock()
         # Where the launcher has to build the program first, it says on standard error how long that takes.
         subprocess.run([path, "make", "1", "1", "1", "0"], stdout=subprocess.DEVNULL, check=True)
@@ -106,10 +107,12 @@ class Program:
 
     def start(self, words, stdin=subprocess.DEVNULL):
         """Starts the program with these words."""
-        process = subprocess.Popen(
-            [self.path, *words], stdin=stdin, stdout=subprocess.PIPE, stderr=subprocess.PIPE, bufsize=0
-        )
         with self.lock:
+            if self.is_over:
+                raise Gone
+            process = subprocess.Popen(
+                [self.path, *words], stdin=stdin, stdout=subprocess.PIPE, stderr=subprocess.PIPE, bufsize=0
+            )
             self.running.add(process)
         return process
 
@@ -120,6 +123,7 @@ class Program:
 
     def finish_all(self):
         with self.lock:
+            self.is_over = True
             left = list(self.running)
         for process in left:
             self.finish(process)

@@ -16,7 +16,6 @@ import pathlib
 import re
 import secrets
 import signal
-import socketserver
 import subprocess
 import sys
 import threading
@@ -25,6 +24,8 @@ import urllib.parse
 
 sys.dont_write_bytecode = True  # the folder stays as it is
 sys.path.insert(0, str(pathlib.Path(__file__).resolve().parent))
+import connections  # noqa: E402
+from connections import Refused  # noqa: E402
 from programs import Fault, Gone, Program, TooMuch, is_closed  # noqa: E402
 from sessions import Session  # noqa: E402
 
@@ -34,24 +35,13 @@ ENGINES = ("plain", "jps", "block", "plus")
 RULES = ("none", "one", "both")
 VERBS = ("free", "flood", "block")
 MOST_BODY = 1 << 20
-MOST_REQUESTS = 64
 MOST_PAGES = 5  # a browser keeps six connections to one address, and each open page holds one of them
 MOST_SIDE = 4096
 MOST_NUMBER = 999_999_999
-SECONDS_OF_SILENCE = 20
 POLICY = (
     "default-src 'none'; script-src 'self'; style-src 'self'; connect-src 'self'; img-src 'self' blob: data:; "
     "base-uri 'none'; form-action 'none'; frame-ancestors 'none'"
 )
-
-
-class Refused(Exception):
-    """A request that is not answered, with the status that says why."""
-
-    def __init__(self, status, words):
-        super().__init__(words)
-        self.status = status
-        self.words = words
 
 
 class Request:
@@ -110,11 +100,20 @@ class Handler(http.server.BaseHTTPRequestHandler):
     protocol_version = "HTTP/1.1"
     server_version = "jps-page"
     sys_version = ""
-    timeout = SECONDS_OF_SILENCE
+    timeout = connections.SECONDS_OF_SILENCE
     disable_nagle_algorithm = True
 
     def log_message(self, *_):
         pass
+
+    def setup(self):
+        super().setup()
+        self.rfile.close()
+        self.rfile = connections.Incoming(connections.Timed(self.connection))
+
+    def handle_one_request(self):
+        self.rfile.begin(self.server.seconds_for(self.connection))
+        super().handle_one_request()
 
     # What is let in
 
@@ -129,6 +128,7 @@ class Handler(http.server.BaseHTTPRequestHandler):
         parts = path.split("/")
         if len(parts) != 3 or not hmac.compare_digest(parts[1].encode(), self.server.secret.encode()):
             raise Refused(404, "no such page")
+        self.server.let_in(self.connection)
         return parts[2], urllib.parse.parse_qs(words)
 
     def body(self):
@@ -147,6 +147,12 @@ class Handler(http.server.BaseHTTPRequestHandler):
         if session is None:
             raise Refused(410, "this page is over; load it again")
         session.seen = time.monotonic()
+        return session
+
+    def session_with_map(self, key):
+        session = self.session(key)
+        if session.map is None:
+            raise Refused(404, "there is no map")
         return session
 
     # How it is answered
@@ -196,7 +202,7 @@ class Handler(http.server.BaseHTTPRequestHandler):
             self.tell({"fault": fault.line, "status": fault.status}, 422)
         except TooMuch:
             self.tell({"fault": "", "much": True}, 422)
-        except (Gone, ConnectionError, TimeoutError):
+        except (Gone, OSError):
             self.close_connection = True
 
     def do_GET(self):
@@ -230,9 +236,7 @@ class Handler(http.server.BaseHTTPRequestHandler):
                 session.end_lives()
 
     def cells(self, words):
-        session = self.session(words.get("page", [""])[0])
-        if session.map is None:
-            raise Refused(404, "there is no map")
+        session = self.session_with_map(words.get("page", [""])[0])
         self.answer(bytes(session.map.cells))
 
     def named_file(self, words, name):
@@ -247,7 +251,7 @@ class Handler(http.server.BaseHTTPRequestHandler):
             raise Fault(4, "jps: read") from None
 
     def saved(self, words, name):
-        session = self.session(words.get("page", [""])[0])
+        session = self.session_with_map(words.get("page", [""])[0])
         data = session.map.text() if name == "map" else session.script()
         self.answer(data, name="edited.map" if name == "map" else "edited.script")
 
@@ -271,7 +275,7 @@ class Handler(http.server.BaseHTTPRequestHandler):
 
     def query(self, _):
         request = self.body()
-        session = self.session(request.words.get("page"))
+        session = self.session_with_map(request.words.get("page"))
         settings = request.settings(self.server.program, ("points", "trace"))
         line = "query " + " ".join(request.ends())
         answer, seconds = session.ask(settings, line, self.connection, request.words.get("keep") is True)
@@ -279,7 +283,7 @@ class Handler(http.server.BaseHTTPRequestHandler):
 
     def edit(self, _):
         request = self.body()
-        session = self.session(request.words.get("page"))
+        session = self.session_with_map(request.words.get("page"))
         settings = request.settings(self.server.program, ("points", "trace"))
         answers = session.edit(settings, request.edits(), self.connection)
         self.tell({"answers": b" ".join(answers).decode(), "edits": len(session.edits)})
@@ -365,27 +369,23 @@ POSTS = {
 }
 
 
-class Server(socketserver.ThreadingMixIn, socketserver.TCPServer):
-    """Listens on 127.0.0.1 alone, and answers so many requests at once."""
-
-    daemon_threads = True
-    allow_reuse_address = True
-    request_queue_size = 1024
+class Server(connections.Server):
+    """The open pages, and what each was called with."""
 
     def __init__(self, port, program, named):
-        super().__init__(("127.0.0.1", port), Handler)
-        self.own_host = f"127.0.0.1:{self.server_address[1]}"
-        self.secret = secrets.token_urlsafe(18)
+        super().__init__(port, Handler)
         self.program = program
         self.named = named
         self.sessions = {}
         self.lock = threading.Lock()
-        self.room = threading.Semaphore(MOST_REQUESTS)
         self.ending = threading.Event()
-        threading.Thread(target=self.end_left_sessions, daemon=True).start()
+        self.sweeper = threading.Thread(target=self.end_left_sessions, daemon=True)
+        self.sweeper.start()
 
     def new_session(self):
         with self.lock:
+            if self.ending.is_set():
+                raise Gone
             if len(self.sessions) >= MOST_PAGES:
                 left = [it for it, session in self.sessions.items() if session.streams == 0]
                 if not left:
@@ -402,32 +402,15 @@ class Server(socketserver.ThreadingMixIn, socketserver.TCPServer):
                     self.sessions.pop(key, None)
                     session.end()
 
-    def process_request(self, request, client_address):
-        if self.room.acquire(blocking=False):
-            super().process_request(request, client_address)
-            return
-        try:
-            request.sendall(b"HTTP/1.1 503 Busy\r\nContent-Length: 0\r\nConnection: close\r\n\r\n")
-        except OSError:
-            pass
-        self.shutdown_request(request)
-
-    def process_request_thread(self, request, client_address):
-        try:
-            super().process_request_thread(request, client_address)
-        finally:
-            self.room.release()
-
-    def handle_error(self, request, client_address):
-        if not isinstance(sys.exc_info()[1], (ConnectionError, TimeoutError)):
-            super().handle_error(request, client_address)
-
     def end(self):
-        self.ending.set()
+        with self.lock:
+            self.ending.set()
+            left = list(self.sessions.values())
+            self.sessions.clear()
         self.program.finish_all()
-        for session in list(self.sessions.values()):
+        for session in left:
             session.end()
-        self.sessions.clear()
+        self.sweeper.join()
 
 
 def arguments():
@@ -452,20 +435,18 @@ def main():
     except (OSError, OverflowError, subprocess.CalledProcessError) as fault:
         sys.exit(f"jps-page: {fault}")
 
-    def stop(*_):
-        raise KeyboardInterrupt
-
-    signal.signal(signal.SIGINT, stop)
-    signal.signal(signal.SIGTERM, stop)
-    signal.signal(signal.SIGHUP, stop)
+    # (A signal interrupts nothing, and a second one not the end.)
+    signals, ends = [], (signal.SIGINT, signal.SIGTERM, signal.SIGHUP)
+    for it in ends:
+        signal.signal(it, lambda *told: signals.append(told))
     print(f"http://{server.own_host}/{server.secret}/", flush=True)
     print("Open this address in a browser. Ctrl-C ends the page and its programs.", file=sys.stderr, flush=True)
-    try:
-        server.serve_forever(poll_interval=0.2)
-    except KeyboardInterrupt:
-        pass
-    finally:
-        server.end()
+    server.timeout = 0.2
+    while not signals:
+        server.handle_request()
+    server.end()
+    for it in ends:
+        signal.signal(it, signal.SIG_IGN)
 
 
 if __name__ == "__main__":

@@ -35,6 +35,7 @@ class Session:
         self.walks_path = walks_path
         self.map_words = self.scen_words = None  # the words of the program that made them, where they were made
         self.lock = threading.Lock()
+        self.editing = threading.Lock()  # who changes the map, by edits or by another map; never taken within `lock`
         self.streams = 0
         self.seen = time.monotonic()
         self.lives = {}
@@ -42,15 +43,18 @@ class Session:
 
     def take_map(self, path):
         """Begins with this map. Its cells are None where the program has to say what is wrong with it."""
-        self.end_lives()
-        self.map_path = path
-        self.edits = []  # (verb, x, y), of those that the program answered with `ok`
-        self.journal = []  # what was done, as the lines of a script
-        self.written = 0  # how many of the edits the file of the edited map has
         try:
-            self.map = maps.read(path)
+            read = maps.read(path)
         except (maps.NoMap, OSError):
-            self.map = None
+            read = None
+        with self.editing:
+            with self.lock:
+                self.map = read
+                self.map_path = path
+                self.edits = []  # (verb, x, y), of those that the program answered with `ok`
+                self.journal = []  # what was done, as the lines of a script
+                self.written = 0  # how many of the edits the file of the edited map has
+            self.end_lives()
 
     def fault_of_map(self, connection):
         """What the program says of its map."""
@@ -63,18 +67,32 @@ class Session:
     def file(self, name):
         return os.path.join(self.folder, name)
 
+    @contextlib.contextmanager
+    def made(self, name):
+        """A file to be written, which takes this name as a whole. (None is made while the folder is taken away.)"""
+        path = self.file(f"{name}.{threading.get_ident()}")
+        with self.lock:
+            file = open(path, "wb")
+        with file:
+            yield file
+        os.replace(path, self.file(name))
+
     def edited_path(self):
-        """The file of the map as it now is, its own or one with the edits in it, and how many edits that has."""
+        """The file of the map as it now is, its own or one with the edits in it."""
+        return self.edited()[0]
+
+    def edited(self):
+        """The same, how many edits that has, and the map."""
         with self.lock:
             if not self.edits:
-                return self.map_path, 0
+                return self.map_path, 0, self.map
             path = self.file("edited.map")
             if self.written != len(self.edits):
                 with open(path + ".new", "wb") as file:
                     file.write(self.map.text())
                 os.replace(path + ".new", path)  # a program that reads the one before keeps it
                 self.written = len(self.edits)
-            return path, self.written
+            return path, self.written, self.map
 
     def script(self):
         return "".join(line + "\n" for line in self.journal).encode()
@@ -96,20 +114,26 @@ class Session:
         with self.lock:
             live = self.lives.pop(key, None)
             late = live and len(self.edits) - live.edits > MOST_MENDED and "engine=plus" in key
-            if live and live.is_usable() and not late:
+            if live and live.is_usable() and (live.users or not late):
                 self.lives[key] = live  # the last one in the order is the one that was used last
                 live.users += 1
                 return live
         if live:
             live.end()
-        path, known = self.edited_path()
+        path, known, read = self.edited()
         live = Live(self.program, [path, *key])
         live.edits = known
         with self.lock:
-            live.users += 1
-            self.end_idle(len(self.lives) + 1 - most_lives(len(self.map.cells)))
-            self.lives[key] = live
-        return live
+            # Another request may have been quicker, or have brought another map.
+            there = self.lives.setdefault(key, live) if self.map is read else None
+            if there:
+                there.users += 1
+            self.end_idle(len(self.lives) - most_lives(len(read.cells)))
+        if there is not live:
+            live.end()
+        if there is None:
+            raise Fault(0, "the page has another map now")
+        return there
 
     def end_idle(self, count):
         """Ends so many processes, those that were used longest ago; never one that is at work."""
@@ -129,19 +153,20 @@ class Session:
         return answer, seconds
 
     def catch_up(self, live, connection):
-        """Tells a process the edits that it does not know yet."""
+        """Tells a process the edits that it does not know yet: those behind as many as it was told."""
         behind = self.edits[live.edits :]
         if behind:
             live.ask(["%s %d %d" % it for it in behind], connection)
             live.edits += len(behind)
 
     def edit(self, settings, wanted, connection):
-        """Works edits (verb, x, y, byte) by the process of these settings; returns its answers, one for each."""
+        """Works edits (verb, x, y, byte) by the process of these settings; returns its answers, one for each. One call
+        after the other, so that each process is told all edits in one order."""
         if len(self.edits) + len(wanted) > MOST_EDITS:
             raise Fault(0, f"a page takes {MOST_EDITS} edits: save the map, and begin with that one")
         if len(wanted) > MOST_MENDED:
             settings = ["engine=block" if it == "engine=plus" else it for it in settings]
-        with self.live(settings) as live:
+        with self.editing, self.live(settings) as live:
             self.catch_up(live, connection)
             lines = ["%s %d %d" % it[:3] for it in wanted]
             answers, _ = live.ask(lines, connection)
@@ -151,7 +176,7 @@ class Session:
                     if answer == b"ok":
                         self.edits.append((verb, x, y))
                         self.map.edit(verb, x, y, byte)
-            live.edits = len(self.edits)
+                        live.edits += 1
         return answers
 
     # Single calls
@@ -161,7 +186,7 @@ class Session:
 
     def prove(self, words, connection, take):
         """Calls `prove`, and keeps what it prints for `check`."""
-        with open(self.file("walk.cert"), "wb") as file:
+        with self.made("walk.cert") as file:
 
             def take_both(piece):
                 file.write(piece)
@@ -171,12 +196,11 @@ class Session:
 
     def write(self, words, name, connection):
         """Calls the program and keeps what it prints in a file of its own; returns the path."""
-        path = self.file(name)
-        with open(path, "wb") as file:
+        with self.made(name) as file:
             status, line = self.program.call(words, connection, file.write)
-        if status > 1:
-            raise Fault(status, line)
-        return path
+            if status > 1:
+                raise Fault(status, line)
+        return self.file(name)
 
     # The end
 
@@ -191,4 +215,5 @@ class Session:
 
     def end(self):
         self.end_lives()
-        shutil.rmtree(self.folder, ignore_errors=True)
+        with self.lock:
+            shutil.rmtree(self.folder, ignore_errors=True)

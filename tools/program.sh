@@ -1,5 +1,5 @@
 # Which program ./jps runs, and how it is proved and built. Read by ./jps and tools/ship, with `top`, the checkout's
-# folder, and `looked`, where a look is kept.
+# folder.
 # shellcheck shell=bash
 out=$top/crates/jps/out
 built=$out/jps
@@ -42,12 +42,10 @@ note_made() { echo "$sources $(sum_of "$built") $(rt version)" >"$made.new" && m
 
 # Which source was changed since the lock of `rt ci` was taken.
 newer_than_lock() {
-    local list
-    list=$(mktemp)
-    "$top/tools/sources" "$list" >/dev/null
     CDPATH='' cd -- "$top" || return
-    find -files0-from "$list" -maxdepth 0 \( -type f -o -path '*/*/*' \) -cnewer .git/rt-ci.lock -print -quit 2>&1
-    rm -f "$list"
+    # shellcheck disable=SC2185
+    tools/sources --list 2>/dev/null |
+        find -L -files0-from - -maxdepth 0 \( -type f -o -path '*/*/*' \) -cnewer .git/rt-ci.lock -print -quit 2>&1
 }
 
 # Whether `rt ci` built the program from the sources as they stand: it leaves no sum, but takes its lock first.
@@ -60,7 +58,10 @@ is_of_gate() {
 is_built() {
     local of sum
     [ -x "$built" ] || return 1
-    if is_of_gate && command -v rt >/dev/null; then note_made || return 1; fi
+    if is_of_gate && command -v rt >/dev/null; then
+        (trap '' XFSZ && note_made) 2>/dev/null || true
+        return
+    fi
     read -r of sum _ 2>/dev/null <"$made" && [ "$of" = "$sources" ] && [ "$sum" = "$(sum_of "$built")" ]
 }
 
@@ -73,37 +74,55 @@ is_handed() {
             "'git checkout dist' gets it back, './jps --prove' makes it again"
     said=$("$handed" --version 2>&1) && [ "$said" = "jps ${told[version]-}" ] ||
         fail "dist/${told[program]} does not run here: it needs glibc ${told[glibc]-} or later and a processor with" \
-            "${told[processor]-}, and said: $(head -n 1 <<<"${said#*: line * }")"
+            "${told[processor]-}, and said: $(echo "${said#*: line * }" | head -n 1)"
 }
 
-# Keeps what was found, so that the next call need not look. $1 tells when this look began, $1.list what it looked at.
+# Begins a look that can be kept: its time is that of the file $began, which is "" where none can be made.
+begin_look() {
+    began=""
+    mkdir -p "$out" 2>/dev/null || return 0
+    find "$out" -maxdepth 1 -name 'look.??????*' -mmin +1 -delete 2>/dev/null || true
+    began=$(mktemp "$out/look.XXXXXX" 2>/dev/null) || return 0
+    # (What is changed from now on has a later time than that file, if the clock ticks once.)
+    sleep 0.02
+}
+
+# Writes what this look found and what it looked at. Of the program in dist/ its folders are looked at too: another
+# one may be put in their place, with another program in it, that is older than this look.
+write_look() {
+    local names=("${program#"$top"/}" "${made#"$top"/}")
+    if [ "$program" = "$handed" ]; then names=("${handed#"$top"/}" dist/MANIFEST dist "dist/${told[program]%/*}"); fi
+    printf '%s\0' "${names[@]}" && "$top/tools/sources" --list
+}
+
+# Keeps what was found, so that the next call need not look. Where that cannot be kept, as on a full disk, nothing is;
+# nor where files have times of whole seconds alone, as a change in the same second would not be seen.
 keep_look() {
-    local of=$made
-    if [ "$program" = "$handed" ]; then of=$manifest; fi
-    {
-        printf '%s\0' "${program#"$top"/}" "${of#"$top"/}"
-        cat "$1.list"
-    } >"$1.kept" && touch -r "$1" "$1.kept" && mv -f "$1.kept" "$top/$looked"
-    rm -f "$1" "$1.list"
+    (
+        trap '' XFSZ
+        at=$(find "$began" -printf '%T@') && [[ $at != *.0000000000 ]] && write_look >"$began.kept" &&
+            rm -f "$out"/looked* && mv -f "$began.kept" "$out/looked.$at"
+    ) 2>/dev/null || true
+}
+
+end_look() {
+    if [ "${began-}" ]; then rm -f "$began" "$began.kept" 2>/dev/null || true; fi
+    began=""
 }
 
 # Finds the program that is as the sources stand. Returns whether there is one.
 look() {
-    local began=''
-    if mkdir -p "$out" 2>/dev/null && began=$(mktemp "$out/looked.XXXXXX" 2>/dev/null); then
-        # (What is changed from now on has a later time than that file, if the clock ticks once.)
-        sleep 0.02
-    fi
-    sources=$("$top/tools/sources" ${began:+"$began.list"}) || fail "the sources cannot be read"
+    begin_look
+    sources=$("$top/tools/sources") || fail "the sources cannot be read"
+    program=""
     if is_built; then
         program=$built
     elif is_handed; then
         program=$handed
-    else
-        if [ "$began" ]; then rm -f "$began" "$began.list"; fi
-        return 1
     fi
-    if [ "$began" ]; then keep_look "$began" 2>/dev/null || true; fi
+    if [ "$began" ] && [ "$program" ]; then keep_look; fi
+    end_look
+    [ "$program" ]
 }
 
 # How many checks run side by side: one for each processor, where memory is free for them.
@@ -172,7 +191,7 @@ build() {
     fi
     tell "proving and building the program$first (log: $log)"
     # (without the program's own sum, so that the program is linked again, whatever became of it)
-    rm -rf "${top:?}/$looked" "$out"/looked.??????* "$out"/*.tmp-* "$out"/libs/*.tmp-* "$out/libs/jps.sum"
+    rm -rf "$out"/looked* "$out"/look.??????* "$out"/*.tmp-* "$out"/libs/*.tmp-* "$out/libs/jps.sum"
     while true; do
         before=$sources status=0
         : >"$log"
@@ -253,7 +272,7 @@ find_program() {
 # What `./jps` does where the last look does not hold.
 main() {
     local is_silent=""
-    trap 'exit "$not_run"' EXIT
+    trap 'end_look; exit "$not_run"' EXIT
     if [ -d /proc/self/fd ] && [ ! -e /proc/self/fd/2 ]; then
         is_silent=yes
         exec 2>/dev/null

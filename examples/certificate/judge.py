@@ -30,6 +30,8 @@ def need(fact, what):
 
 
 def main():
+    if len(sys.argv) != 3:
+        sys.exit(__doc__)
     rows = open(sys.argv[1]).read().split("\n")[4:]
     free = {(x, y) for y, row in enumerate(rows) for x, byte in enumerate(row) if byte in ".GS"}
     told, listed = {}, {}
@@ -72,4 +74,7 @@ def main():
     print("holds: least", *least)
 
 
-main()
+try:
+    main()
+except (OSError, ValueError, LookupError) as fault:
+    sys.exit(f"judge.py: not read: {fault}")

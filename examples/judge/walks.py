@@ -31,6 +31,8 @@ def walk(free, start, goal):
 
 
 def main():
+    if len(sys.argv) != 3:
+        sys.exit(__doc__)
     rows = open(sys.argv[1]).read().splitlines()[4:]
     free = {(x, y) for y, row in enumerate(rows) for x, byte in enumerate(row) if byte in ".GS"}
     for entry in open(sys.argv[2]).read().splitlines()[1:]:
@@ -41,4 +43,7 @@ def main():
 
 
 if __name__ == "__main__":
-    main()
+    try:
+        main()
+    except (OSError, ValueError) as fault:
+        sys.exit(f"walks.py: {fault}")

@@ -4,17 +4,26 @@
     live.py PROGRAM MAP
 """
 
+import io
 import subprocess
 import sys
 
-jps = subprocess.Popen([sys.argv[1], "live", sys.argv[2]], stdin=subprocess.PIPE, stdout=subprocess.PIPE)
+if len(sys.argv) != 3:
+    sys.exit(__doc__)
+try:
+    jps = subprocess.Popen([sys.argv[1], "live", sys.argv[2]], stdin=subprocess.PIPE, stdout=subprocess.PIPE, bufsize=0)
+except OSError as fault:
+    sys.exit(f"live.py: {fault}")
+answers = io.BufferedReader(jps.stdout)
 
 
 def ask(line):
     """Sends one command and returns the line that answers it."""
-    jps.stdin.write(line.encode() + b"\n")
-    jps.stdin.flush()
-    answer = jps.stdout.readline().decode()
+    try:
+        jps.stdin.write(line.encode() + b"\n")
+        answer = answers.readline().decode()
+    except BrokenPipeError:
+        answer = ""
     if not answer:
         sys.exit("jps ended")  # its own line on standard error says why
     return answer.rstrip("\n")

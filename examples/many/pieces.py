@@ -176,7 +176,10 @@ def main():
     cutting.set_defaults(call=cut)
     joining.set_defaults(call=join)
     given = words.parse_args()
-    given.call(given)
+    try:
+        given.call(given)
+    except (OSError, ValueError) as fault:
+        sys.exit(f"pieces.py: {fault}")
 
 
 main()

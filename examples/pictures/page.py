@@ -64,7 +64,10 @@ FIGURE = """<figure>
 
 def says(program, *words):
     """What the program prints on these words. Where it refuses them, this script says why and ends too."""
-    called = subprocess.run([program, *words], capture_output=True, text=True)
+    try:
+        called = subprocess.run([program, *words], capture_output=True, text=True)
+    except OSError as fault:
+        sys.exit(f"page.py: {fault}")
     if called.returncode != 0:
         sys.exit(called.stderr + called.stdout)
     return called.stdout

@@ -198,4 +198,7 @@ def main():
         print(drawn(free, kept, cells))
 
 
-main()
+try:
+    main()
+except (OSError, ValueError) as fault:
+    sys.exit(f"robot.py: {fault}")

@@ -3,12 +3,17 @@
 import struct
 import sys
 
-name, layer, x, y, direction = sys.argv[1:]
-with open(name, "rb") as file:
-    data = file.read()
-magic, rule, width, height = struct.unpack_from("<8sBHH", data)
-layers, directions = ["land", "water"], "N NE E SE S SW W NW".split()
-if layer not in layers or direction not in directions or not (0 <= int(x) < width and 0 <= int(y) < height):
-    sys.exit(__doc__)
-cell = int(y) * width + int(x) + width * height * layers.index(layer)
-print(*struct.unpack_from("<h", data, 13 + 16 * cell + 2 * directions.index(direction)))
+LAYERS, DIRECTIONS = ["land", "water"], "N NE E SE S SW W NW".split()
+
+try:
+    name, layer, x, y, direction = sys.argv[1:]
+    with open(name, "rb") as file:
+        data = file.read()
+    magic, rule, width, height = struct.unpack_from("<8sBHH", data)
+    layer, direction, x, y = LAYERS.index(layer), DIRECTIONS.index(direction), int(x), int(y)
+    if not (0 <= x < width and 0 <= y < height):
+        sys.exit("read.py: the cell lies outside the map")
+    cell = y * width + x + width * height * layer
+    print(*struct.unpack_from("<h", data, 13 + 16 * cell + 2 * direction))
+except (OSError, ValueError, struct.error) as fault:
+    sys.exit(f"{__doc__}\n{fault}")

@@ -3,7 +3,6 @@ use Rattle.std.proofs.Common.{◌≡◌, ℕ, inl, inr, refl, ap, sym, ◌∙◌
 use Rattle.std.specs.Prelude.{Option, Some, None, slice_get}
 use Rattle.root2_cost.specs.declared.Cost.{Cost}
 use Rattle.grid_moves.specs.declared.Cell.{Cell}
-use Rattle.grid_moves.specs.Grid.{GridData}
 use Rattle.grid_moves.specs.Move.{is_same}
 use Rattle.grid_moves.proofs.Legal.{is_same-cell, is_same-itself}
 use Rattle.path_points.specs.declared.points.Walk.{Walk}
@@ -14,7 +13,7 @@ use Rattle.best_first.specs.declared.found.Found.{Found}
 use Rattle.best_first.specs.declared.node.Node.{Node}
 use Rattle.best_first.specs.declared.state.State.{State}
 use Rattle.best_first.specs.declared.state.Layout.{Layout}
-use Rattle.best_first.specs.Answer.{AnswersAre, AnswersExist, IsAnswer, IsFound, RunsAreOne}
+use Rattle.best_first.specs.Answer.{IsAnswer, IsFound}
 use Rattle.best_first.specs.Made.{answer_of, found_of, states_on_map, answered}
 use Rattle.best_first.specs.Node.{state_of}
 use Rattle.best_first.specs.Progress.{HasTaken, IsExhausted}
@@ -132,15 +131,6 @@ module _ (width height : ℕ) (goal : Cell) (link : Links) (links : AreLinks wid
       (run_ends width height goal link links start)
       (has_goal (search_rule width goal link)
       (run_of (search_rule width goal link) (states_on_map width height) (start_at start))) refl
-
--- where this tells each answer, there is one, and one alone
-module _ {IsOf : GridData → Cell → Cell → Found → Type 0} {found : GridData → Cell → Cell → Found}
-    (are : AnswersAre IsOf found) where
-  pub exist : AnswersExist IsOf
-  exist g s t free = record { answer = found g s t; run = are.run g s t; least = are.least g s t free }
-
-  pub are_one : RunsAreOne IsOf
-  are_one g s t one other is also = are.only g s t one is ∙ sym (are.only g s t other also)
 
 -- where the last state's node is the goal's, the way back from it is the answer
 pub found_back : {layout : Layout} {width height : ℕ} {start goal : Cell} {link : Links}

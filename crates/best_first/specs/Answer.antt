@@ -35,19 +35,3 @@ pub record AnswersAre (IsOf : GridData → Cell → Cell → Found → Type 0)
   pub run : (g : GridData) (s t : Cell) → IsOf g s t (found g s t)
   pub least : (g : GridData) (s t : Cell) → is_free g s ≡ true → IsLeastOrNone g s t (found g s t).walk
   pub only : (g : GridData) (s t : Cell) (f : Found) → IsOf g s t f → f ≡ found g s t
-
--- an answer that is right and that of a run from s to t
-pub record HasAnswer (IsOf : GridData → Cell → Cell → Found → Type 0) (g : GridData)
-    (s t : Cell) : Type 0 where
-  pub answer : Found
-  pub run : IsOf g s t answer
-  pub least : IsLeastOrNone g s t answer.walk
-
--- from each free cell to each cell there is one
-abbrev pub AnswersExist : (GridData → Cell → Cell → Found → Type 0) → Type 0
-AnswersExist IsOf = (g : GridData) (s t : Cell) → is_free g s ≡ true → HasAnswer IsOf g s t
-
--- two answers that are the run from s to t are one answer: the same points, cost and taken states
-abbrev pub RunsAreOne : (GridData → Cell → Cell → Found → Type 0) → Type 0
-RunsAreOne IsOf = (g : GridData) (s t : Cell) (one other : Found) → IsOf g s t one → IsOf g s t other
-    → one ≡ other

@@ -20,10 +20,6 @@ arrival_number None = 8
 abbrev pub state_number : ℕ → State → ℕ
 state_number width s = cell_number width s.cell * 9 + arrival_number s.arrival
 
--- the cell that it tells
-abbrev pub cell_of_number : ℕ → ℕ → Cell
-cell_of_number width number = record { x = number / 9 % width; y = number / 9 / width }
-
 -- the states are one state
 abbrev pub is_same_state : State → State → Bool
 is_same_state s t = is_same s.cell t.cell && nat_eq (arrival_number s.arrival) (arrival_number t.arrival)
@@ -100,6 +96,3 @@ place_and_back = refl
 -- the same cell as a start, on a map of 7 columns: 9 · 19 + 8
 pub start_number : state_number 7 (start_at (record { x = 5; y = 2 })) ≡ 179
 start_number = refl
-
-pub start_number_back : cell_of_number 7 179 ≡ record { x = 5; y = 2 }
-start_number_back = refl

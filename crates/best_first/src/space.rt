@@ -224,13 +224,6 @@ impl Space {
         self.index.layout
     }
 
-    /// How many nodes there are, closed ones too.
-    pub fn len(&self) -> u32
-        ensures { result ≡ length self.now.table.nodes }
-    {
-        self.pool.len()
-    }
-
     /// The node of this number.
     #[inline(always)]
     pub fn node(&self, id: u32) -> Node

@@ -1,8 +1,8 @@
 //! States: a cell and how it was come to.
 
-ghost use Rattle.std.specs.Prelude.{◌≡◌, ◌*◌, ◌<◌, ◌≤◌};
+ghost use Rattle.std.specs.Prelude.{◌≡◌, ◌<◌, ◌≤◌};
 ghost use Rattle.best_first.specs.Space.{layout_by};
-ghost use Rattle.best_first.specs.State.{arrival_number, cell_of_number, state_number, start_at};
+ghost use Rattle.best_first.specs.State.{arrival_number, state_number, start_at};
 
 use grid_moves::{Cell, Dir, dir_number, number_of};
 
@@ -65,18 +65,5 @@ impl State {
         ensures { result ≡ state_number width self }
     {
         number_of(width, self.cell) * 9 + u32::from(number_of_arrival(self.arrival))
-    }
-
-    /// The cell of the state with this printed number, on a map of this width.
-    pub fn cell_of_number(width: u16, number: u32) -> Cell
-        requires wide { 1 ≤ width }
-        requires on { number < 65536 * width * 9 }
-        ensures { result ≡ cell_of_number width number }
-    {
-        let cell = number / 9;
-        Cell {
-            x: (cell % width as u32) as u16,
-            y: (cell / width as u32) as u16,
-        }
     }
 }

@@ -14,6 +14,7 @@ use Rattle.grid_moves.specs.declared.Dir.{Dir}
 use Rattle.grid_moves.specs.Grid.{GridData, cell_number, cell_numbered, is_free, is_inside}
 use Rattle.grid_moves.proofs.Legal.{same_cell}
 use Rattle.grid_moves.proofs.Places.{inside_below}
+use Rattle.plain_search.proofs.Numbering.{lies_inside, number_is, numbered_is}
 use Rattle.first_moves.specs.declared.row.Run.{Run}
 use Rattle.first_moves.specs.First.{IsFirstMove, first_move}
 use Rattle.first_moves.specs.Row.{IsRow, RowsAre, moves_from, row_of}
@@ -21,31 +22,6 @@ use Rattle.first_moves.specs.Runs.{runs_of}
 use Rattle.first_moves.proofs.Led.{move_is, moves_are}
 
 module _ (g : GridData) (s : Cell) (free : is_free g s ≡ true) where
-  -- a number and its cell
-  numbered_is : (t : Cell) → is_inside g t ≡ true → cell_numbered g.width (cell_number g.width t) ≡ t
-  numbered_is t inside =
-      let x : t.x < g.width = grind (arith, nat_tests) in
-      same_cell (cell_numbered g.width (cell_number g.width t)) t (mod-mul-add t.y g.width t.x x)
-      (div-mul-add t.y g.width t.x x)
-
-  number_is : (k : ℕ) → cell_number g.width (cell_numbered g.width k) ≡ k
-  number_is k = by_sum (k / g.width) (k % g.width) g.width (div-add-mod k g.width)
-    where
-      by_sum : (y x width : ℕ) → width * y + x ≡ k → y * width + x ≡ k
-      by_sum y x width e = omega arith
-
-  lies_inside : (k : ℕ) → k < g.height * g.width → is_inside g (cell_numbered g.width k) ≡ true
-  lies_inside k below =
-      let some : 0 < g.width = wide g.width g.height k below in
-      let near : nat_lt (k % g.width) g.width ≡ true = lt-ltb (k % g.width) g.width (mod-lt k some) in
-      let low : nat_lt (k / g.width) g.height ≡ true =
-      lt-ltb (k / g.width) g.height ((div-lt_iff_lt-mul some).1 below) in
-      rw (near, low) refl
-    where
-      wide : (w h n : ℕ) → n < h * w → 0 < w
-      wide zero h n l = let none : h * 0 ≡ 0 = omega arith in absurd (omega (arith, none, l))
-      wide (suc w) h n l = omega arith
-
   -- the move at each place is the first move
   many : length (moves_from g s) ≡ g.height * g.width
   many =
@@ -66,7 +42,7 @@ module _ (g : GridData) (s : Cell) (free : is_free g s ≡ true) where
     moves = λ t inside.
         let k : ℕ = cell_number g.width t in
         subst (λ (o : Option Dir). IsFirstMove g s t o) (sym (move_at k (inside_below g t inside)
-        ∙ ap (λ (c : Cell). first_move g s c) (numbered_is t inside))) (move_is g s t free);
+        ∙ ap (λ (c : Cell). first_move g s c) (numbered_is g t inside))) (move_is g s t free);
     cut = refl;
   }
 
@@ -81,9 +57,9 @@ module _ (g : GridData) (s : Cell) (free : is_free g s ≡ true) where
           let low : k < g.height * g.width = subst (λ (n : ℕ). k < n) as_many below in
           let c : Cell = cell_numbered g.width k in
           let one : get_or ms (cell_number g.width c) None ≡ first_move g s c =
-          (moves_are g s c free).only (get_or ms (cell_number g.width c) None) (are c (lies_inside k low)) in
+          (moves_are g s c free).only (get_or ms (cell_number g.width c) None) (are c (lies_inside g k low)) in
           get_or_default ms k d None below
-          ∙ ap (λ (n : ℕ). get_or ms n None) (sym (number_is k)) ∙ one ∙ sym (move_at k low)
+          ∙ ap (λ (n : ℕ). get_or ms n None) (sym (number_is g.width k)) ∙ one ∙ sym (move_at k low)
           ∙ get_or_default (moves_from g s) k None d (subst (λ (n : ℕ). k < n) (sym many) low)
 
 pub row_only : (g : GridData) (s : Cell) (row : List Run) → is_free g s ≡ true → IsRow g s row → row ≡ row_of g s

@@ -2,8 +2,8 @@
 use Rattle.grid_moves.specs.declared.Cell.{Cell}
 use Rattle.grid_moves.specs.Grid.{GridData}
 use Rattle.path_points.specs.Corners.{corners}
-use Rattle.best_first.specs.Answer.{AnswersAre, AnswersExist, RunsAreOne}
-use Rattle.best_first.proofs.Answering.{are_one, exist, found_answers}
+use Rattle.best_first.specs.Answer.{AnswersAre}
+use Rattle.best_first.proofs.Answering.{found_answers}
 use Rattle.goal_boxes.specs.Answer.{IsBoxedRunOn}
 use Rattle.goal_boxes.specs.Made.{box_of, boxed_found}
 use Rattle.goal_boxes.specs.Rule.{boxed_links}
@@ -27,10 +27,3 @@ answers_are = record {
       let r = is_run g s t in run_least g r.box t r.tells s (boxed_found g s t) free r.run;
   only = λ g s t f is. one_boxed g s t f (boxed_found g s t) is (is_run g s t);
 }
-
--- so there is one, and one alone
-pub has_answer : AnswersExist IsBoxedRunOn
-has_answer = exist answers_are
-
-pub one_answer : RunsAreOne IsBoxedRunOn
-one_answer = are_one answers_are

@@ -24,7 +24,7 @@ use Rattle.grid_moves.proofs.Legal.{and_both, free_inside}
 use Rattle.grid_moves.proofs.Short.{least_is_short, steps-cost_of}
 use Rattle.joined_cells.specs.Both.{HasWalk}
 use Rattle.joined_cells.proofs.Layering.{joined_in_one_layer}
-use Rattle.plain_search.proofs.Closing.{one_least}
+use Rattle.plain_search.proofs.LeastCosts.{one_least}
 use Rattle.edit_replay.specs.Replies.{answer_of}
 use Rattle.edit_replay.specs.declared.reply.Reply.{Reply}
 use Rattle.edit_replay.specs.declared.reply.Reply.TheVariants as reply

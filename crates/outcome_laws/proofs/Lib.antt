@@ -22,3 +22,4 @@ pub mod Existing
 pub mod Spelled
 pub mod Serving
 pub mod Naming
+pub mod Query

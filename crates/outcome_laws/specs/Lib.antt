@@ -11,3 +11,4 @@ pub mod Outcomes
 pub mod Loaded
 pub mod Existing
 pub mod Serving
+pub mod Query

@@ -2,13 +2,14 @@
 //! there and the input is known; which of the engines that jump it picks changes nothing; each command is
 //! called by its own name. Below them the laws of replies, of words and files, and of lines.
 //!
-//! This crate has no code that runs: its specs have the statements, and each law is the contract of a call
-//! that does nothing. The program doesn't use it.
+//! Its specs have the statements, and each law is the contract of a call that does nothing, but for
+//! `run_query`, which is `run` with a promise that is read in a few minutes. The program doesn't use it.
 #![tactic(auto)]
 
 pub mod of_answers;
 pub mod of_lines;
 pub mod of_outcomes;
+pub mod of_queries;
 pub mod of_replies;
 
 pub use of_outcomes::{

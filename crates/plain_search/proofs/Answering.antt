@@ -2,8 +2,8 @@
 use Rattle.grid_moves.specs.declared.Cell.{Cell}
 use Rattle.grid_moves.specs.Grid.{GridData}
 use Rattle.path_points.specs.Corners.{corners}
-use Rattle.best_first.specs.Answer.{AnswersAre, AnswersExist, RunsAreOne}
-use Rattle.best_first.proofs.Answering.{are_one, exist, found_answers, only_answer}
+use Rattle.best_first.specs.Answer.{AnswersAre}
+use Rattle.best_first.proofs.Answering.{found_answers, only_answer}
 use Rattle.plain_search.specs.Answer.{IsPlainRun, plain_found}
 use Rattle.plain_search.specs.Rule.{plain_links}
 use Rattle.plain_search.proofs.Right.{run_least}
@@ -20,10 +20,3 @@ answers_are = record {
   least = λ g s t free. run_least g s t (plain_found g s t) free (is_run g s t);
   only = λ g s t. only_answer g.width g.height t (plain_links g) (plain_are_links g) corners s;
 }
-
--- so there is one, and one alone
-pub has_answer : AnswersExist IsPlainRun
-has_answer = exist answers_are
-
-pub one_answer : RunsAreOne IsPlainRun
-one_answer = are_one answers_are

@@ -1,115 +1,109 @@
--- Sorted lists of different cells ascend strictly by their numbers.
-use Rattle.std.proofs.Common.{◌≡◌, ℕ, suc, ◌+◌, ◌<◌, ◌≤◌, length, List, [], ◌∷◌, refl, ap}
-use Rattle.std.proofs.Common.{arith, map, false, eqb, get_or}
-use Rattle.std.proofs.Math.Nat.{mul-le-mul}
-use Rattle.std.proofs.lemmas.Bool.Decides.{nat_tests}
-use Rattle.std.proofs.lemmas.List.{get_or-map, length-map}
-use Rattle.std.proofs.lemmas.List.Elements.{Contains-get_or}
-use Rattle.std.proofs.lemmas.List.Sorted.{IsPermutation-map}
-use Rattle.std.proofs.lemmas.Map.Keys.{IsDistinct-IsPermutation, IsDistinct-cons}
-use Rattle.std.proofs.lemmas.Map.Keys.{IsStrictlyIncreasing-from_distinct}
-use Rattle.std.proofs.lemmas.Bool.{ne_eqb}
-use Rattle.std.specs.Prelude.{Option, Some, None, slice_get}
-use Rattle.std.specs.List.{AllByRecursion, Contains, IsDistinct, cons_option, filter_map}
-use Rattle.std.specs.List.Sorted.{IsNonDecreasing, IsStrictlyIncreasing}
-use Rattle.grid_moves.specs.declared.Cell.{Cell}
-use Rattle.grid_moves.specs.Grid.{cell_number}
-use Rattle.grid_moves.proofs.Legal.{same_cell}
-use Rattle.plain_search.specs.Listing.{IsSortedFrom, place_number}
+-- What is made number by number is a list whose members ascend strictly by their numbers.
+use Rattle.std.proofs.Common.{◌≡◌, ℕ, zero, suc, ◌+◌, ◌<◌, ◌≤◌, ◌⊎◌, inl, inr, arith, refl, ap, sym, ◌∙◌, subst}
+use Rattle.std.proofs.Common.{List, [], ◌∷◌, ◌++◌, length, map}
+use Rattle.std.proofs.lemmas.Bool.{cases_eq}
+use Rattle.std.specs.Prelude.{⊤, Option, Some, None, slice_index}
+use Rattle.std.specs.List.{Contains, cons_option, filter_map, range_with_len}
+use Rattle.std.specs.List.Sorted.{IsStrictlyIncreasing}
 
-module _ {X Y : Type 0} (make : X → Option Y) (number : Y → ℕ) where
-  all_made : (P : ℕ → Type 0) (xs : List X)
-      → ((i : ℕ) (x : X) (y : Y) → slice_get xs i ≡ Some x → make x ≡ Some y → P (number y))
-      → AllByRecursion P (map number (filter_map make xs))
-  all_made P [] h = tt
-  all_made P (z ∷ xs) h = by_head (make z) refl (all_made P xs (λ i x y a b. h (suc i) x y a b))
-    where
-      by_head : (o : Option Y) → make z ≡ o → AllByRecursion P (map number (filter_map make xs))
-          → AllByRecursion P (map number (cons_option o (filter_map make xs)))
-      by_head None e rest = rest
-      by_head (Some v) e rest = (h 0 z v refl e, rest)
+module _ {X : Type 0} where
+  first_member : (x : X) (xs : List X) → Contains (x ∷ xs) x
+  first_member x xs = (0, omega arith, refl)
 
-  -- where different elements make items of different numbers, the numbers are distinct
-  pub distinct_made : (xs : List X)
-      → ((i j : ℕ) (a b : X) (y z : Y) → slice_get xs i ≡ Some a → slice_get xs j ≡ Some b → make a ≡ Some y
-      → make b ≡ Some z → number y ≡ number z → i ≡ j)
-      → IsDistinct eqb (map number (filter_map make xs))
-  unfolding IsDistinct
-  distinct_made [] h = tt
-  distinct_made (w ∷ xs) h =
-      by_head (make w) refl
-      (distinct_made xs (λ i j a b y z p q r s e. (let next = h (suc i) (suc j) a b y z p q r s e in cc)))
-    where
-      other : (v : Y) → make w ≡ Some v → (i : ℕ) (x : X) (y : Y) → slice_get xs i ≡ Some x → make x ≡ Some y
-          → eqb (number v) (number y) ≡ false
-      other v e i x y a b = ne_eqb (number v) (number y) (λ same. (let no : 0 ≡ suc i =
-          h 0 (suc i) w x v y refl a e b same in omega arith))
+  later_member : (x z : X) (xs : List X) → Contains xs z → Contains (x ∷ xs) z
+  later_member x z xs m = (suc m.0, (let l = m.1 in omega arith), m.2)
 
-      by_head : (o : Option Y) → make w ≡ o → IsDistinct eqb (map number (filter_map make xs))
-          → IsDistinct eqb (map number (cons_option o (filter_map make xs)))
-      by_head None e rest = rest
-      by_head (Some v) e rest = IsDistinct-cons eqb (number v) (map number (filter_map make xs))
-          (all_made (λ n. eqb (number v) n ≡ false) xs (λ i x y a b. other v e i x y a b)) rest
+  none_in : {A : Type 0} (z : X) → Contains [] z → A
+  none_in z m = absurd (let l = m.1 in omega arith)
 
--- what is made of each element
-pub filter_map-some : {X Y : Type 0} (f : X → Y) (xs : List X) → filter_map (λ x. Some (f x)) xs ≡ map f xs
-filter_map-some f [] = refl
-filter_map-some f (x ∷ xs) = ap (λ (ys : List _). f x ∷ ys) (filter_map-some f xs)
+  -- a member is the first one or a later one
+  member_of : (x z : X) (xs : List X) → Contains (x ∷ xs) z → (x ≡ z) ⊎ Contains xs z
+  member_of x z xs (zero, l, e) = inl e
+  member_of x z xs (suc k, l, e) = inr (k, omega arith, e)
 
--- cells of one place number are one
-pub one_place_number : (c d : Cell) → c.x < 65536 → d.x < 65536 → place_number c ≡ place_number d → c ≡ d
-one_place_number c d h1 h2 h3 = grind (arith, nat_tests, same_cell)
+module _ {X : Type 0} (number : X → ℕ) where
+  -- each member has a lesser number than the later ones
+  abbrev Ascends : List X → Type 0
+  Ascends [] = ⊤
+  Ascends (x ∷ xs) = ((z : X) → Contains xs z → number x < number z) × Ascends xs
 
--- and their order is that of the numbers on a map
-number_less : (width : ℕ) (c d : Cell) → c.x < width → d.x < width → width ≤ 65536
-    → place_number c < place_number d → cell_number width c < cell_number width d
-number_less width c d h1 h2 h3 h4 = grind (arith, nat_tests, mul-le-mul)
+  increasing : (xs : List X) → Ascends xs → (k : ℕ) → k + 1 < length (map number xs)
+      → slice_index (map number xs) k < slice_index (map number xs) (k + 1)
+  increasing [] up k l = absurd (omega arith)
+  increasing (x ∷ []) up k l = absurd (omega arith)
+  increasing (x ∷ y ∷ xs) up zero l = up.0 y (first_member y xs)
+  increasing (x ∷ y ∷ xs) up (suc k) l =
+      let place : suc (k + 1) ≡ suc k + 1 = omega arith in
+      subst (λ (n : ℕ). slice_index (map number (y ∷ xs)) k < slice_index (map number (x ∷ y ∷ xs)) n) place
+      (increasing (y ∷ xs) up.1 k (omega arith))
 
--- cells that were sorted by place numbers, all different, ascend strictly by their numbers
-pub ascending : {X : Type 0} (cell : X → Cell) (width : ℕ) (some sorted : List X) → width ≤ 65536
-    → IsSortedFrom cell some sorted → IsDistinct eqb (map (λ x. place_number (cell x)) some)
-    → ((x : X) → Contains sorted x → (cell x).x < width)
-    → IsStrictlyIncreasing (map (λ x. cell_number width (cell x)) sorted)
-ascending {X} cell width some sorted narrow by apart columns = by_sorted sorted by apart columns
-  where
-    flips : (x y : ℕ) → eqb x y ≡ eqb y x
-    flips x y = grind (arith, nat_tests)
+  -- what is made of each number, if anything is, has it
+  module _ (make : ℕ → Option X) (numbered : (k : ℕ) (x : X) → make k ≡ Some x → number x ≡ k) where
+    -- of the n numbers from k on
+    abbrev made : ℕ → ℕ → List X
+    made n k = filter_map make (range_with_len k n)
 
-    abbrev_place : X → ℕ
-    abbrev_place x = place_number (cell x)
+    abbrev IsMade : ℕ → X → Type 0
+    IsMade k x = (k ≤ number x) × (make (number x) ≡ Some x)
 
-    by_sorted : (sorted : List X) → IsSortedFrom cell some sorted
-        → IsDistinct eqb (map (λ x. place_number (cell x)) some)
-        → ((x : X) → Contains sorted x → (cell x).x < width)
-        → IsStrictlyIncreasing (map (λ x. cell_number width (cell x)) sorted)
-    by_sorted [] by apart columns = λ k h. absurd (omega arith)
-    by_sorted (d ∷ rest) by apart columns = λ k h.
-        let n : k + 1 < length (d ∷ rest) =
-        rw (length-map (d ∷ rest) (λ x. cell_number width (cell x))) at h in
-        let distinct = IsDistinct-IsPermutation eqb flips (map (λ x. place_number (cell x)) some)
-        (map (λ x. place_number (cell x)) (d ∷ rest))
-        (IsPermutation-map (λ x. place_number (cell x)) some (d ∷ rest) by.permutation) apart in
-        let up : IsNonDecreasing (map (λ x. place_number (cell x)) (d ∷ rest)) = λ i j e l m.
-        (let m2 : j < length (d ∷ rest) = rw (length-map (d ∷ rest) (λ x. place_number (cell x))) at m in
-        let a = get_or-map (λ x. place_number (cell x)) (d ∷ rest) i d e
-        (lower i j (length (d ∷ rest)) l m2) in
-        let b = get_or-map (λ x. place_number (cell x)) (d ∷ rest) j d e m2 in
-        rw (a, b) (by.ordered i j d l m2)) in
-        let strict = IsStrictlyIncreasing-from_distinct (map (λ x. place_number (cell x)) (d ∷ rest)) up
-        distinct in
-        let less = strict k (rw (length-map (d ∷ rest) (λ x. place_number (cell x))) n) in
-        let a = get_or-map (λ x. place_number (cell x)) (d ∷ rest) k d 0 (before k (length (d ∷ rest)) n) in
-        let b = get_or-map (λ x. place_number (cell x)) (d ∷ rest) (k + 1) d 0 n in
-        let c = get_or-map (λ x. cell_number width (cell x)) (d ∷ rest) k d 0
-        (before k (length (d ∷ rest)) n) in
-        let e = get_or-map (λ x. cell_number width (cell x)) (d ∷ rest) (k + 1) d 0 n in
-        rw (c, e) (number_less width (cell (get_or (d ∷ rest) k d)) (cell (get_or (d ∷ rest) (k + 1) d))
-        (columns (get_or (d ∷ rest) k d) (Contains-get_or (d ∷ rest) k d (before k (length (d ∷ rest)) n)))
-        (columns (get_or (d ∷ rest) (k + 1) d) (Contains-get_or (d ∷ rest) (k + 1) d n)) narrow
-        (rw (a, b) at less))
+    pub only_made : (n k : ℕ) (x : X) → Contains (made n k) x → IsMade k x
+    only_made zero k x m = none_in x m
+    only_made (suc n) k x m = by_first (only_made n (k + 1) x) (make k) refl m
       where
-        lower : (i j n : ℕ) → i ≤ j → j < n → i < n
-        lower i j n l m = omega arith
+        later : IsMade (k + 1) x → IsMade k x
+        later o = (let l = o.0 in omega arith, o.1)
 
-        before : (k n : ℕ) → k + 1 < n → k < n
-        before k n h = omega arith
+        by_first : (Contains (made n (k + 1)) x → IsMade (k + 1) x) → (o : Option X) → make k ≡ o
+            → Contains (cons_option o (made n (k + 1))) x → IsMade k x
+        by_first rest None e m = later (rest m)
+        by_first rest (Some y) e m = elim (member_of y x (made n (k + 1)) m) [
+          | inl same ↦ (
+              let here : make k ≡ Some x = e ∙ ap (λ (z : X). Some z) same in
+              let at : number x ≡ k = numbered k x here in
+              (omega arith, ap make at ∙ here))
+          | inr m ↦ later (rest m)
+        ]
+
+    pub all_made : (n k : ℕ) (x : X) → k ≤ number x → number x < k + n → make (number x) ≡ Some x
+        → Contains (made n k) x
+    all_made zero k x low high e = absurd (omega arith)
+    all_made (suc n) k x low high e = elim (cases_eq k (number x)) [
+      | inl at ↦ subst (λ (o : Option X). Contains (cons_option o (made n (k + 1))) x) (sym (ap make at ∙ e))
+          (first_member x (made n (k + 1)))
+      | inr apart ↦ after (make k) (all_made n (k + 1) x (omega arith) (omega arith) e)
+    ]
+      where
+        after : (o : Option X) → Contains (made n (k + 1)) x → Contains (cons_option o (made n (k + 1))) x
+        after None m = m
+        after (Some y) m = later_member y x (made n (k + 1)) m
+
+    ascends_made : (n k : ℕ) → Ascends (made n k)
+    ascends_made zero k = tt
+    ascends_made (suc n) k = by_first (make k) refl (ascends_made n (k + 1))
+      where
+        by_first : (o : Option X) → make k ≡ o → Ascends (made n (k + 1))
+            → Ascends (cons_option o (made n (k + 1)))
+        by_first None e up = up
+        by_first (Some y) e up = (
+          λ z m. (let l = (only_made n (k + 1) z m).0 in let at = numbered k y e in omega arith),
+          up,
+        )
+
+    pub made_up : (n : ℕ) → IsStrictlyIncreasing (map number (made n 0))
+    made_up n = increasing (made n 0) (ascends_made n 0)
+
+-- what is made of one number more
+pub made_more : {X : Type 0} (make : ℕ → Option X) (n a j m : ℕ) → a + n ≡ j → m ≡ suc n
+    → filter_map make (range_with_len a m) ≡ filter_map make (range_with_len a n) ++ cons_option (make j) []
+made_more {X} make n a j m at e = ap (λ (k : ℕ). filter_map make (range_with_len a k)) e ∙ by_count n a at
+  where
+    after : (o : Option X) (xs ys : List X) → cons_option o (xs ++ ys) ≡ cons_option o xs ++ ys
+    after None xs ys = refl
+    after (Some x) xs ys = refl
+
+    by_count : (n a : ℕ) → a + n ≡ j
+        → filter_map make (range_with_len a (suc n)) ≡ filter_map make (range_with_len a n) ++ cons_option (make j) []
+    by_count zero a at = let same : a ≡ j = omega arith in ap (λ (k : ℕ). cons_option (make k) []) same
+    by_count (suc n) a at =
+        ap (λ (l : List X). cons_option (make a) l) (by_count n (a + 1) (omega arith))
+        ∙ after (make a) (filter_map make (range_with_len (a + 1) n)) (cons_option (make j) [])

@@ -26,7 +26,8 @@ use Rattle.best_first.proofs.Ways.{offers_after}
 use Rattle.grid_moves.specs.Around.{IsAround}
 use Rattle.grid_moves.proofs.Legal.{is_same-cell}
 use Rattle.plain_search.specs.Offers.{less_offered, sides_of, ways_over, MayExpand, HasExpanded}
-use Rattle.plain_search.specs.Progress.{HasTaken, HasStopped}
+use Rattle.plain_search.specs.Answer.{IsExhausted}
+use Rattle.plain_search.specs.Progress.{HasTaken}
 use Rattle.plain_search.specs.Room.{IsReady}
 use Rattle.plain_search.specs.Rule.{plain_rule, plain_links, is_led}
 use Rattle.plain_search.proofs.Offering.{may_expand, all_over, are_links, enough}
@@ -117,20 +118,15 @@ module _ {g : GridData} {s t : Cell} (asked : IsAsked g s t (plain_links g)) {at
         numbered = h.numbered;
       }
 
--- where no node is open, the search has stopped
-pub has_stopped : {g : GridData} {s t : Cell} {at : ℕ} {k : Table} {taken : List ℕ}
-    → search.HasOffered ByCell g.width t (plain_links g) s at k taken → NoneOpen k → HasStopped g s t k taken
-has_stopped {g = g} {t = t} o none =
+-- where no node is open, the run is exhausted
+pub has_stopped : (g : GridData) (s t : Cell) {at : ℕ} {k : Table} {taken : List ℕ}
+    → search.HasOffered ByCell g.width t (plain_links g) s at k taken → NoneOpen k → IsExhausted g s t taken
+has_stopped g s t o none =
     let run = o.last ∷ o.earlier in
-    let all = same_best o.searching.mirrors (least_offer (plain_rule g t) run) o.all_made in
     record {
-      exhausted = record {
-        run = run;
-        is_run = o.searching.run;
-        no_goal = rw o.open_ended o.searching.no_goal;
-        none_waits = none_open all none;
-        numbered = o.numbered;
-      };
-      mirrors = all;
-      none_open = none;
+      run = run;
+      is_run = o.searching.run;
+      no_goal = rw o.open_ended o.searching.no_goal;
+      none_waits = none_open (same_best o.searching.mirrors (least_offer (plain_rule g t) run) o.all_made) none;
+      numbered = o.numbered;
     }

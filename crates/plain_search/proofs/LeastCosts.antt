@@ -1,11 +1,11 @@
 -- What a least walk costs, and with which moves least walks begin, as functions.
-use Rattle.std.proofs.Common.{◌≡◌, refl, ap, sym, ◌∙◌, subst, true, false, ◌∷◌}
+use Rattle.std.proofs.Common.{◌≡◌, ◌+◌, ◌*◌, ◌≤◌, arith, refl, ap, sym, ◌∙◌, subst, true, false, ◌∷◌}
 use Rattle.std.specs.Prelude.{Option, Some, None, IsTrue, ◌↔◌}
 use Rattle.std.specs.Option.{option_map, option_map_or}
 use Rattle.root2_cost.specs.declared.Cost.{Cost}
 use Rattle.root2_cost.specs.Order.{IsAtMost}
 use Rattle.root2_cost.specs.Sums.{add_costs}
-use Rattle.root2_cost.proofs.AtMost.{IsAtMost-refl}
+use Rattle.root2_cost.proofs.AtMost.{IsAtMost-antisymmetric, IsAtMost-refl}
 use Rattle.root2_cost.proofs.Less.{is_same_cost-of, is_same_cost-tells}
 use Rattle.root2_cost.proofs.Sums.{add_costs-comm}
 use Rattle.grid_moves.specs.declared.Cell.{Cell}
@@ -15,7 +15,8 @@ use Rattle.grid_moves.specs.Move.{dir_cost, legal_ahead, move_cost}
 use Rattle.grid_moves.specs.Walk.{cost_of}
 use Rattle.grid_moves.proofs.Ahead.{legal_ahead-ahead, legal_ahead-free}
 use Rattle.grid_moves.proofs.Costs.{cost_there}
-use Rattle.grid_moves.proofs.Short.{least_rest}
+use Rattle.grid_moves.proofs.Short.{least_rest, least_steps}
+use Rattle.grid_moves.proofs.Walks.{steps-cost_of}
 use Rattle.path_points.specs.declared.points.Walk.{Walk}
 use Rattle.path_points.specs.Least.{IsLeastOrNone}
 use Rattle.cost_waves.specs.Begin.{Begins, IsLeastCost}
@@ -24,7 +25,21 @@ use Rattle.plain_search.specs.Answer.{plain_found}
 use Rattle.plain_search.specs.Costs.{BeginsIs, IsCostTo, LeastCostsAre, begins, falls_by}
 use Rattle.plain_search.specs.Costs.{least_cost}
 use Rattle.plain_search.proofs.Answering.{answers_are}
-use Rattle.plain_search.proofs.Closing.{one_least}
+
+-- two least costs of one cell are one
+pub one_least : (g : GridData) (s c : Cell) (p q : Cost) → IsLeastCost g s c p → IsLeastCost g s c q → p ≡ q
+one_least g s c p q a b = sym a.priced
+    ∙ IsAtMost-antisymmetric (cost_of (s ∷ a.cells)) (cost_of (s ∷ b.cells))
+    (a.least.least b.cells b.least.walk) (b.least.least a.cells a.least.walk)
+    ∙ b.priced
+
+-- it takes fewer moves than there are cells
+pub few_least : (g : GridData) (s c : Cell) (cost : Cost) → IsLeastCost g s c cost
+    → cost.a + cost.b ≤ g.height * g.width
+few_least g s c cost l =
+    let steps = least_steps g s c l.cells l.least in
+    let counts = rw l.priced at (steps-cost_of s l.cells) in
+    omega arith
 
 -- the cost to a cell is one, or there is none
 pub one_cost : (g : GridData) (s t : Cell) (p q : Option Cost) → IsCostTo g s t p → IsCostTo g s t q → p ≡ q

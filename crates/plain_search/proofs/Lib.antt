@@ -8,11 +8,9 @@ pub mod Posed
 pub mod Moving
 pub mod Offering
 pub mod Concluding
-pub mod Entries
-pub mod Ascending
-pub mod Pricing
-pub mod Closing
 pub mod ToAll
-pub mod Reaching
 pub mod Answering
 pub mod LeastCosts
+pub mod Numbering
+pub mod Ascending
+pub mod Listing

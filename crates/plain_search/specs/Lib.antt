@@ -6,4 +6,3 @@ pub mod Progress
 pub mod Lists
 pub mod One
 pub mod Costs
-pub mod Listing

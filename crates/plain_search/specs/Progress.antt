@@ -2,30 +2,21 @@
 use Rattle.std.specs.Prelude.{◌≡◌, ℕ, List, Option, Some, None, slice_get}
 use Rattle.grid_moves.specs.declared.Cell.{Cell}
 use Rattle.grid_moves.specs.Grid.{GridData}
-use Rattle.search_run.specs.Run.{least_offer}
 use Rattle.best_first.specs.declared.state.Layout.TheVariants.{ByCell}
-use Rattle.best_first.specs.Mirror.{Mirrors}
 use Rattle.best_first.specs.Progress as search
-use Rattle.best_first.specs.Table.{Table, NoneOpen}
+use Rattle.best_first.specs.Table.{Table}
 use Rattle.best_first.specs.Trace.{node_cell}
 use Rattle.best_first.specs.declared.node.Node.{Node}
 use Rattle.plain_search.specs.Answer.{IsExhausted}
-use Rattle.plain_search.specs.Rule.{plain_rule, plain_links}
+use Rattle.plain_search.specs.Rule.{plain_links}
 
 -- the search from s for t has taken states of these numbers, the last one with the node of this number
 abbrev pub HasTaken : GridData → Cell → Cell → ℕ → Table → List ℕ → Type 0
 HasTaken g s t at k taken = search.HasTaken ByCell g.width t (plain_links g) s at k taken
 
--- the search ended with the goal not taken: no node is open, and each keeps the offer of its taken state
-pub record HasStopped (g : GridData) (s t : Cell) (k : Table) (taken : List ℕ) : Type 0 where
-  pub exhausted : IsExhausted g s t taken
-  pub mirrors : Mirrors ByCell g.width t (plain_links g) exhausted.run
-      (least_offer (plain_rule g t) exhausted.run) k
-  pub none_open : NoneOpen k
-
 -- the search has taken one state more, or ends as none waits
 abbrev pub GoesOn : GridData → Cell → Cell → Table → List ℕ → Option ℕ → Type 0
-GoesOn g s t k taken None = HasStopped g s t k taken
+GoesOn g s t k taken None = IsExhausted g s t taken
 GoesOn g s t k taken (Some id) = HasTaken g s t id k taken
 
 -- the node of that number is the goal's
@@ -34,5 +25,5 @@ IsAtGoal t k at = (n : Node) → slice_get k.nodes at ≡ Some n → node_cell n
 
 -- the search ended: it took the goal last, or none waits
 abbrev pub HasEnded : GridData → Cell → Cell → Table → List ℕ → Option ℕ → Type 0
-HasEnded g s t k taken None = HasStopped g s t k taken
+HasEnded g s t k taken None = IsExhausted g s t taken
 HasEnded g s t k taken (Some at) = HasTaken g s t at k taken × IsAtGoal t k at

@@ -1,6 +1,6 @@
 //! Laws of the plain search: each is the contract of a call that does nothing.
 
-ghost use Rattle.best_first.specs.Answer.{AnswersAre, AnswersExist, RunsAreOne};
+ghost use Rattle.best_first.specs.Answer.{AnswersAre};
 ghost use Rattle.plain_search.specs.Answer.{IsPlainRun, plain_found};
 ghost use Rattle.plain_search.specs.Costs.{BeginsIs, LeastCostsAre, begins, least_cost};
 
@@ -8,18 +8,6 @@ ghost use Rattle.plain_search.specs.Costs.{BeginsIs, LeastCostsAre, begins, leas
 /// first is free, and no other answer is the run's.
 pub fn answers_are_found()
     ensures { AnswersAre IsPlainRun plain_found }
-{}
-
-/// From each free cell to each cell of a map there is an answer that is right and that of the plain
-/// engine's run: its run from there ends.
-pub fn answers_exist()
-    ensures { AnswersExist IsPlainRun }
-{}
-
-/// The plain engine's run from one cell to another is one: two answers that are its run have the same
-/// points, the same cost and the same taken states.
-pub fn runs_are_one()
-    ensures { RunsAreOne IsPlainRun }
 {}
 
 /// What a least walk costs is a function of the grid and the two cells: from a free cell to each cell it tells

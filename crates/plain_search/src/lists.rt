@@ -1,20 +1,18 @@
 //! The lists of a search, by which its answer can be checked without one.
 //!
-//! After a search whose goal was taken, the nodes of a key below the goal's are those of the cells
-//! whose least cost and estimate are together below the least cost: each of them was taken. A node
-//! has the rank of its cost alone, and the rank tells the cost.
+//! They are made of the least costs to all cells, in the order of the cells' numbers.
 
-ghost use Rattle.std.specs.Prelude.{◌≡◌, ◌<◌, ◌≤◌, ◌*◌, IfOk, map};
-ghost use Rattle.root2_cost.specs.Rank.{cost_of_rank};
-ghost use Rattle.best_first.specs.State.{cell_of_number};
-ghost use Rattle.best_first.specs.Trace.{rank_left};
-ghost use Rattle.plain_search.specs.Listing as spec;
-ghost use Rattle.plain_search.specs.Listing.{ArePriced, IsPriced, IsSortedFrom, AreOn, place_number, entries_below};
+ghost use Rattle.std.specs.Prelude.{◌≡◌, ◌*◌, ◌+◌, ◌++◌, ◌<◌, ◌≤◌, ◌^◌, [], true, IfOk, OnOk, length};
+ghost use Rattle.std.specs.List.{cons_option};
+ghost use Rattle.grid_moves.specs.Grid.{cell_numbered, is_free};
+ghost use Rattle.plain_search.specs.Costs.{AreCostsToAll};
+ghost use Rattle.plain_search.specs.Lists as spec;
+ghost use Rattle.plain_search.specs.Lists.{AreLists, closed_of, plain_of, reached_of};
 
 use crate::{NoMemory, Taken};
-use best_first::{Node, Space, State};
-use grid_moves::Cell;
-use path_points::{Cells, Costs, Points};
+use best_first::Found;
+use grid_moves::{Cell, Ends, Terrain, estimate};
+use path_points::{Cells, Costs, Points, Walk, push_item};
 use root2_cost::Cost;
 use std::alloc::Global;
 
@@ -38,91 +36,138 @@ pub enum Listed {
     },
 }
 
-// The cost of a node.
-fn cost_of_node(goal: Cell, node: Node) -> Cost
-    requires { IsPriced goal node }
-    ensures { result ≡ cost_of_rank (rank_left goal node) }
+// The cell of this number.
+fn cell_numbered(width: u16, number: usize) -> Cell
+    requires wide { 1 ≤ width }
+    requires on { number < 65536 * width }
+    ensures { result ≡ cell_numbered width number }
 {
-    Cost::of_rank(node.cost_rank(goal))
+    let width = width as usize;
+    Cell {
+        x: (number % width) as u16,
+        y: (number / width) as u16,
+    }
 }
 
-// The cell and the cost of a node, if its key is below this.
-fn entry_below(goal: Cell, limit: u64, node: Node) -> Option<(Cell, Cost)>
-    requires { IsPriced goal node }
-    ensures { result ≡ spec.entry_below goal limit node }
+// The cell with its cost, if that and the estimate to the goal are together below the bound.
+fn if_below(goal: Cell, bound: Cost, cell: Cell, cost: Cost) -> Option<(Cell, Cost)>
+    requires { cost.a + cost.b ≤ 2 ^ 24 }
+    ensures { result ≡ spec.if_below goal bound cell cost }
 {
-    if node.key < limit {
-        Some((node.place.cell(), cost_of_node(goal, node)))
+    if cost.add(estimate(cell, goal)).is_below(bound) {
+        Some((cell, cost))
     } else {
         None
     }
 }
 
-// The cells and costs of the nodes whose keys are below this.
-fn entries_below(
-    alloc: Global,
-    space: &Space,
-    goal: Cell,
-    limit: u64,
-) -> Result<Vec<(Cell, Cost)>, NoMemory>
-    requires { ArePriced goal space.now.table.nodes }
-    ensures { IfOk result (λ entries. entries.items ≡ entries_below goal limit space.now.table.nodes) }
+// The cell of this number with its least cost, if it is closed.
+fn closed_at<T: Terrain>(
+    t: &T,
+    ends: Ends,
+    bound: Cost,
+    costs: &[Option<Cost>],
+    number: usize,
+) -> Option<(Cell, Cost)>
+    requires from { is_free (T.grid t.now) ends.from ≡ true }
+    requires costs { AreCostsToAll (T.grid t.now) ends.from costs.now }
+    requires known { number < length costs.now }
+    ensures { result ≡ spec.closed_at (T.grid t.now) ends.from ends.to bound
+        (cell_numbered (T.grid t.now).width number) }
 {
-    let mut entries = Vec::new(alloc);
-    for id in 0..space.len() {
-        if let Some(entry) = entry_below(goal, limit, space.node(id)) {
-            entries.push(entry)?;
+    match costs[number] {
+        Some(cost) => if_below(ends.to, bound, cell_numbered(t.width(), number), cost),
+        None => None,
+    }
+}
+
+// The cell of this number, if it is reached.
+fn reached_at<T: Terrain>(t: &T, from: Cell, costs: &[Option<Cost>], number: usize) -> Option<Cell>
+    requires from { is_free (T.grid t.now) from ≡ true }
+    requires costs { AreCostsToAll (T.grid t.now) from costs.now }
+    requires known { number < length costs.now }
+    ensures { result ≡ spec.reached_at (T.grid t.now) from (cell_numbered (T.grid t.now).width number) }
+{
+    match costs[number] {
+        Some(_) => Some(cell_numbered(t.width(), number)),
+        None => None,
+    }
+}
+
+// Appends the item, if there is one.
+fn push_some<T: Drop>(items: &mut Vec<T>, item: Option<T>) -> Result<(), NoMemory>
+    ensures { OnOk result (items.new.items ≡ items.old.items ++ cons_option item []) }
+{
+    match item {
+        Some(item) => push_item(items, item),
+        None => Ok(()),
+    }
+}
+
+// The closed cells, given the least costs from the start.
+fn closed_cells<T: Terrain>(
+    alloc: Global,
+    t: &T,
+    ends: Ends,
+    bound: Cost,
+    costs: &[Option<Cost>],
+) -> Result<Costs, NoMemory>
+    requires from { is_free (T.grid t.now) ends.from ≡ true }
+    requires costs { AreCostsToAll (T.grid t.now) ends.from costs.now }
+    ensures { IfOk result (λ closed. closed ≡ closed_of (T.grid t.now) ends.from ends.to bound) }
+{
+    let mut closed = Vec::new(alloc);
+    for number in 0..costs.len() {
+        push_some(&mut closed, closed_at(t, ends, bound, costs, number))?;
+    }
+    Ok(Costs::of(closed))
+}
+
+// The reached cells, given the least costs from the start.
+fn reached_cells<T: Terrain>(
+    alloc: Global,
+    t: &T,
+    start: Cell,
+    costs: &[Option<Cost>],
+) -> Result<Cells, NoMemory>
+    requires from { is_free (T.grid t.now) start ≡ true }
+    requires costs { AreCostsToAll (T.grid t.now) start costs.now }
+    ensures { IfOk result (λ reached. reached ≡ reached_of (T.grid t.now) start) }
+{
+    let mut reached = Vec::new(alloc);
+    for number in 0..costs.len() {
+        push_some(&mut reached, reached_at(t, start, costs, number))?;
+    }
+    Ok(Cells::of(reached))
+}
+
+/// The answer with its list, given the least costs from the start.
+pub(crate) fn with_list<T: Terrain>(
+    alloc: Global,
+    t: &T,
+    ends: Ends,
+    found: Found,
+    costs: &[Option<Cost>],
+) -> Result<Listed, NoMemory>
+    requires from { is_free (T.grid t.now) ends.from ≡ true }
+    requires costs { AreCostsToAll (T.grid t.now) ends.from costs.now }
+    ensures same { IfOk result (λ listed. plain_of listed ≡ found) }
+    ensures lists { IfOk result (AreLists (T.grid t.now) ends.from ends.to) }
+{
+    let Found { walk, taken } = found;
+    match walk {
+        Some(Walk { points, cost }) => {
+            let closed = closed_cells(alloc, t, ends, cost, costs)?;
+            Ok(Listed::Found {
+                points,
+                cost,
+                closed,
+                taken,
+            })
+        }
+        None => {
+            let reached = reached_cells(alloc, t, ends.from, costs)?;
+            Ok(Listed::None { reached, taken })
         }
     }
-    Ok(entries)
-}
-
-// A number by which cells are ordered as by their numbers on a map.
-fn place_number(c: Cell) -> u32
-    ensures { result ≡ place_number c }
-{
-    u32::from(c.y) * 65536 + u32::from(c.x)
-}
-
-// Puts the entries into the order of their cells.
-fn sort_entries(entries: &mut Vec<(Cell, Cost)>)
-    ensures { IsSortedFrom (λ entry. entry.0) entries.old.items entries.new.items }
-{
-    entries.sort_unstable_by_key(|entry| place_number(entry.0));
-}
-
-// Puts the cells into their order.
-fn sort_cells(cells: &mut Vec<Cell>)
-    ensures { IsSortedFrom (λ c. c) cells.old.items cells.new.items }
-{
-    cells.sort_unstable_by_key(|c| place_number(*c));
-}
-
-/// The cells of the nodes whose keys are below this, in order, with their costs.
-pub(crate) fn closed_cells(
-    alloc: Global,
-    space: &Space,
-    goal: Cell,
-    limit: u64,
-) -> Result<Costs, NoMemory>
-    requires { ArePriced goal space.now.table.nodes }
-    ensures { IfOk result (IsSortedFrom (λ entry. entry.0) (entries_below goal limit space.now.table.nodes)) }
-{
-    let mut entries = entries_below(alloc, space, goal, limit)?;
-    sort_entries(&mut entries);
-    Ok(Costs::of(entries))
-}
-
-/// The cells of the states of these printed numbers, in order.
-pub(crate) fn reached_cells(alloc: Global, width: u16, states: &[u32]) -> Result<Cells, NoMemory>
-    requires wide { 1 ≤ width }
-    requires on { AreOn width states.now }
-    ensures { IfOk result (IsSortedFrom (λ c. c) (map (cell_of_number width) states.now)) }
-{
-    let mut cells = Vec::new(alloc);
-    for state in states {
-        cells.push(State::cell_of_number(width, *state))?;
-    }
-    sort_cells(&mut cells);
-    Ok(Cells::of(cells))
 }

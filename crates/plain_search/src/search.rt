@@ -2,8 +2,9 @@
 //!
 //! A state is taken by the least sum of its cost and the octile distance to the goal; among equal sums
 //! the one of the lesser cell number goes first, and of equal offers to a cell the earlier one stands.
-//! The search ends where the goal is taken, or where no state waits. Both have to be free. Moves that the parent
-//! has offered at no greater cost are left out (module `moves`), which changes nothing in the run.
+//! The search ends where the goal is taken, or where no state waits. Both ends have to be free. Moves that
+//! the parent has offered at no greater cost are left out (module `moves`), which changes nothing in the
+//! run.
 //!
 //! A* after Hart, Nilsson and Raphael (1968); the order of ties is this project's. The machine under it is
 //! `best_first`.
@@ -20,8 +21,9 @@ ghost use Rattle.plain_search.specs.Lists.{AreLists, plain_of};
 ghost use Rattle.plain_search.specs.Progress.{HasTaken, GoesOn, HasEnded};
 ghost use Rattle.plain_search.specs.Room.{HasRoom, IsReady};
 
-use crate::lists::{Listed, closed_cells, reached_cells};
+use crate::lists::{Listed, with_list};
 use crate::offers::offer_all;
+use crate::to_all::least_to_all;
 use crate::{NoMemory, Taken, Workspace};
 use best_first::{Found, Layout, Space, State};
 use grid_moves::{Cell, Corner, Ends, Ruled, Terrain};
@@ -240,59 +242,10 @@ pub fn least_in<T: Terrain>(
     }
 }
 
-// The answer where the goal was taken last, with the list of closed cells.
-fn found_listed<T: Terrain>(
-    alloc: Global,
-    t: &T,
-    ends: Ends,
-    space: &Space,
-    at: u32,
-    taken: Taken,
-) -> Result<Listed, NoMemory>
-    requires whole { IsGrid (T.grid t.now) }
-    requires from { is_free (T.grid t.now) ends.from ≡ true }
-    requires to { is_free (T.grid t.now) ends.to ≡ true }
-    requires taken { HasTaken (T.grid t.now) ends.from ends.to at space.now.table taken }
-    requires goal { (n : _) → slice_get space.now.table.nodes at ≡ Some n → node_cell n ≡ ends.to }
-    ensures run { IfOk result (λ found. IsPlainRun (T.grid t.now) ends.from ends.to (plain_of found)) }
-    ensures least { IfOk result (λ found. IsLeastOrNone (T.grid t.now) ends.from ends.to (plain_of found).walk) }
-    ensures lists { IfOk result (AreLists (T.grid t.now) ends.from ends.to) }
-{
-    let way = space.way_to(alloc, ends.to, at)?;
-    let points = turns(alloc, way.points.as_slice())?;
-    let limit = space.node(at).key;
-    let closed = closed_cells(alloc, space, ends.to, limit)?;
-    Ok(Listed::Found {
-        points,
-        cost: way.cost,
-        closed,
-        taken,
-    })
-}
-
-// The answer where the goal was not taken, with the list of reached cells.
-fn none_listed<T: Terrain>(
-    alloc: Global,
-    t: &T,
-    ends: Ends,
-    taken: Taken,
-) -> Result<Listed, NoMemory>
-    requires whole { IsGrid (T.grid t.now) }
-    requires from { is_free (T.grid t.now) ends.from ≡ true }
-    requires to { is_free (T.grid t.now) ends.to ≡ true }
-    requires taken { IsExhausted (T.grid t.now) ends.from ends.to taken }
-    ensures run { IfOk result (λ found. IsPlainRun (T.grid t.now) ends.from ends.to (plain_of found)) }
-    ensures least { IfOk result (λ found. IsLeastOrNone (T.grid t.now) ends.from ends.to (plain_of found).walk) }
-    ensures lists { IfOk result (AreLists (T.grid t.now) ends.from ends.to) }
-{
-    let reached = reached_cells(alloc, t.width(), taken.as_slice())?;
-    Ok(Listed::None { reached, taken })
-}
-
 /// The plain engine's run from one free cell to another, with the lists by which its answer can be
 /// checked without a search: its answer is a least walk, or that none exists.
 ///
-/// The lists take time and memory by their lengths; `least_in` makes none.
+/// The lists are made by a pass over all cells; `least_in` makes none.
 pub fn least<T: Terrain>(alloc: Global, t: &T, from: Cell, to: Cell) -> Result<Listed, NoMemory>
     requires from { is_free (T.grid t.now) from ≡ true }
     requires to { is_free (T.grid t.now) to ≡ true }
@@ -300,12 +253,9 @@ pub fn least<T: Terrain>(alloc: Global, t: &T, from: Cell, to: Cell) -> Result<L
     ensures least { IfOk result (λ found. IsLeastOrNone (T.grid t.now) from to (plain_of found).walk) }
     ensures lists { IfOk result (AreLists (T.grid t.now) from to) }
 {
-    let ends = Ends { from, to };
-    let mut taken = Taken::new(alloc);
-    let mut memory = Workspace::of_grid(alloc, t)?;
-    let space = &mut memory.space;
-    match take_counted::<T, Brand>(t, ends, space, &mut taken, Blank::new(1))? {
-        Some(at) => found_listed(alloc, t, ends, space, at, taken),
-        None => none_listed(alloc, t, ends, taken),
-    }
+    let mut space = Workspace::of_grid(alloc, t)?;
+    let found = least_in(alloc, t, from, to, &mut space)?;
+    drop(space);
+    let costs = least_to_all(alloc, t, from)?;
+    with_list(alloc, t, Ends { from, to }, found, costs.as_slice())
 }

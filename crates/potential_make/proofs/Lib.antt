@@ -1,5 +1,4 @@
 pub mod Potentials
-pub mod Ascending
 pub mod Listing
 pub mod Spelled
 pub mod Lengths

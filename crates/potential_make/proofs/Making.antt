@@ -28,15 +28,17 @@ use Rattle.grid_moves.specs.Walk.{is_walk, cost_of}
 use Rattle.grid_moves.specs.Walk as walks
 use Rattle.grid_moves.proofs.Legal.{free_inside, is_same-cell, is_same-itself, legal_is}
 use Rattle.grid_moves.proofs.Short.{least_steps, few_cells}
-use Rattle.grid_moves.proofs.Walks.{end_free, steps-cost_of, one_more}
+use Rattle.grid_moves.proofs.Walks.{end_free, one_more}
 use Rattle.grid_moves.proofs.Consistent.{estimate_nothing, never_exceeds}
 use Rattle.path_points.specs.declared.points.Walk.{Walk}
 use Rattle.path_points.specs.Corners.{corners, turns_after}
 use Rattle.path_points.specs.Least.{IsLeastOrNone}
 use Rattle.plain_search.specs.Answer.{IsFound, IsPlainRun, plain_found}
-use Rattle.plain_search.specs.Lists.{AreClosed, AreReached, IsLeastCost}
+use Rattle.plain_search.specs.Lists.{AreClosed, AreReached, IsLeastCost, closed_of, reached_of}
 use Rattle.plain_search.specs.Rule.{plain_rule}
 use Rattle.plain_search.proofs.Answering.{answers_are}
+use Rattle.plain_search.proofs.LeastCosts.{few_least}
+use Rattle.plain_search.proofs.Listing.{closed_are, reached_are}
 use Rattle.plain_search.proofs.Right.{HasLeast, way_is_least}
 use Rattle.potential_check.specs.declared.certificate.Claim.{Claim}
 use Rattle.potential_check.specs.declared.certificate.Claim.TheVariants.{Least, NoWalk}
@@ -46,19 +48,10 @@ use Rattle.potential_check.specs.Certificate.{is_small, lies_inside}
 use Rattle.potential_check.specs.Potential.{is_listed, potential_of}
 use Rattle.potential_check.proofs.Spelled.{certificate_of_spelled}
 use Rattle.potential_make.specs.Certified.{CertificatesAreAccepted, HasItsCells, stated}
-use Rattle.potential_make.specs.Made.{claim_on, closed_of, made_certificate, made_claim, reached_of}
+use Rattle.potential_make.specs.Made.{claim_on, made_certificate, made_claim}
 use Rattle.potential_make.proofs.Lengths.{HasFewPoints, text_length, turns_few}
-use Rattle.potential_make.proofs.Listing.{closed_are, reached_are}
 use Rattle.potential_make.proofs.Potentials.{feasible, has_potential, signed_is, same_nothing}
 use Rattle.potential_make.proofs.Spelled.{Fits, text_spells, fits_line}
-
--- a least walk takes fewer moves than there are cells
-few_least : (g : GridData) (s c : Cell) (cost : Cost) → IsLeastCost g s c cost
-    → cost.a + cost.b ≤ g.height * g.width
-few_least g s c cost l =
-    let steps = least_steps g s c l.cells l.least in
-    let counts = rw l.priced at (steps-cost_of s l.cells) in
-    omega arith
 
 -- the cells of a list that satisfy a test
 all_contained : {X : Type 0} (p : X → Bool) (xs : List X) → ((x : X) → Contains xs x → p x ≡ true)

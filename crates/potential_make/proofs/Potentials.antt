@@ -22,8 +22,9 @@ use Rattle.grid_moves.proofs.Legal.{is_same-cell, is_same-itself}
 use Rattle.path_points.specs.declared.points.Walk.{Walk}
 use Rattle.path_points.specs.Least.{IsLeastOrNone}
 use Rattle.plain_search.specs.Lists.{AreClosed, IsBelow, IsLeastCost}
-use Rattle.plain_search.proofs.Answering.{has_answer}
-use Rattle.plain_search.proofs.Closing.{one_least}
+use Rattle.plain_search.specs.Answer.{plain_found}
+use Rattle.plain_search.proofs.Answering.{answers_are}
+use Rattle.plain_search.proofs.LeastCosts.{one_least}
 use Rattle.grid_moves.proofs.Walks.{Goes, one_more}
 use Rattle.grid_moves.proofs.Consistent.{estimate_falls}
 use Rattle.potential_check.specs.Potential.{IsFeasible, potential_of}
@@ -134,7 +135,7 @@ module _ (g : GridData) (s t : Cell) (cost : Cost) (values : List (Cell × Cost)
 
     module _ (from : is_free g s ≡ true) where
       height_at : (c : Cell) → Height g s t cost values c
-      height_at c = let a = has_answer g s c from in by_answer a.answer.walk a.least
+      height_at c = by_answer (plain_found g s c).walk (answers_are.least g s c from)
         where
           by_sum : (paid : Cost) → IsLeastCost g s c paid → (b : Bool)
               → is_less (add_costs paid (estimate c t)) cost ≡ b → Height g s t cost values c

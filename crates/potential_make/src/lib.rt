@@ -1,10 +1,9 @@
 //! Certificates: texts from which anyone can see that a walk is least, or that there is none.
 //!
-//! The plain engine's run tells all that a certificate needs. With C the least cost, the potential of
-//! a cell is the lesser of its least cost from the start and of C less its octile estimate to the
-//! goal, and the cells where the first is the lesser are those that the run closed before its last
-//! sums: only these are listed. Where no walk exists, the reached cells are listed. The checker is
-//! crate `potential_check`, which knows nothing of a search.
+//! With C the least cost, the potential of a cell is the lesser of its least cost from the start and of C
+//! less its octile estimate to the goal. Only the cells where the first is the lesser are listed. Where no
+//! walk exists, the reached cells are listed. The checker is crate `potential_check`, which knows nothing
+//! of a search.
 #![tactic(auto)]
 
 pub mod laws;

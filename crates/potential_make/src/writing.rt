@@ -16,7 +16,7 @@ use text_line::{put, put_number};
 /// The certificate of the least cost between two free cells of a grid, or that no walk exists: the
 /// plain engine's points, and its closed or reached cells. It is accepted: law `certificates_are_accepted`.
 ///
-/// It takes as long as the plain engine, and then as long as sorting and writing the list.
+/// It takes as long as the plain engine, a pass over all cells, and writing the list.
 pub fn certificate(alloc: Global, g: &Grid, from: Cell, to: Cell) -> Result<Vec<u8>, NoMemory>
     requires from { is_free g.now from ≡ true }
     requires to { is_free g.now to ≡ true }

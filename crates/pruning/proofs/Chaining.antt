@@ -173,6 +173,55 @@ module _ (explained : TurnsAreMarked) (g : GridData) (t : Cell) where
             (none_yet x v d k r (no_stop v d n) b) on.2 e)
       ])
 
+  -- the cell m moves on, on the run from x in d, lies on the walk from v, k moves from x
+  pub record IsOnWay (x : Cell) (d : Dir) (k m : ℕ) (v : Cell) (cells : List Cell) : Type 0 where
+    pub cell : Cell
+    pub left : List Cell
+    pub reached : run_end g d (k + m) x ≡ Some cell
+    pub rule : FollowsRule g (By d) cell left
+    pub ends : last_of cell left ≡ t
+    pub priced : cost_of (v ∷ cells) ≡ add_costs (run_cost d m) (cost_of (cell ∷ left))
+    pub fewer : length left ≤ length cells
+
+  on_later : (x : Cell) (d : Dir) (k m : ℕ) (v w : Cell) (cells : List Cell) → ahead d v ≡ Some w
+      → IsOnWay x d (suc k) m w cells → IsOnWay x d k (suc m) v (w ∷ cells)
+  on_later x d k m v w cells a n =
+      let plus : k + suc m ≡ suc k + m = omega arith in
+      record {
+        cell = n.cell;
+        left = n.left;
+        reached = rw plus n.reached;
+        rule = n.rule;
+        ends = n.ends;
+        priced = grind (arith, cost_there, run_cost-next, add_costs-assoc, dir_cost);
+        fewer = (let less = n.fewer in omega arith);
+      }
+
+  -- so it is of all that no stop lies before
+  pub on_way : (x : Cell) (d : Dir) (k m : ℕ) (v : Cell) (cells : List Cell) → 1 ≤ k
+      → run_end g d k x ≡ Some v → NoneBelow (StopsAfter g t x d) 1 (k + m) → FollowsRule g (By d) v cells
+      → last_of v cells ≡ t → IsOnWay x d k m v cells
+  on_way x d k zero v cells i r b f e =
+      let plus : k + 0 ≡ k = omega arith in
+      record {
+        cell = v;
+        left = cells;
+        reached = rw plus r;
+        rule = f;
+        ends = e;
+        priced = rw (run_cost-nothing d) (sym (add_costs-no_cost_left (cost_of (v ∷ cells))));
+        fewer = omega arith;
+      }
+  on_way x d k (suc m) v [] i r b f e =
+      absurd (b k i (omega arith) (record { cell = v; reached = r; stops = at_goal e }))
+  on_way x d k (suc m) v (w ∷ cells) i r b (c, a, f) e =
+      elim (goes_on d v w cells c a (explained g v d c a.allowed) f e) [
+        | inl s ↦ absurd (b k i (omega arith) (record { cell = v; reached = r; stops = s }))
+        | inr on ↦ on_later x d k m v w cells on.1
+            (on_way x d (suc k) m w cells (omega arith) (run_end-next g d k x v w r on.0)
+            (λ j l h. b j l (omega arith)) on.2 e)
+      ]
+
   -- a chain along the walk, of the walk's cost
   record HasChainAlong (by : Arrival) (x : Cell) (cells : List Cell) : Type 0 where
     pub states : List State

@@ -1,6 +1,6 @@
 -- A search that keeps one state for each cell misses no least walk: where its arrival drops a turn, the
--- diagonal move goes first, from the cell that it jumped from.
-use Rattle.std.proofs.Common.{◌≡◌, ◌≢◌, ℕ, zero, suc, ◌+◌, ◌<◌, ◌≤◌, ◌⊎◌, inl, inr, arith, true, false, refl}
+-- diagonal move goes first, from the cell that it came from.
+use Rattle.std.proofs.Common.{◌≡◌, ◌≢◌, ℕ, zero, suc, ◌+◌, ◌-◌, ◌<◌, ◌≤◌, ◌⊎◌, inl, inr, arith, true, false, refl}
 use Rattle.std.proofs.Common.{ap, sym, ◌∙◌, subst, List, [], ◌∷◌, ◌++◌, length}
 use Rattle.root2_cost.specs.declared.Cost.{Cost}
 use Rattle.root2_cost.specs.Order.{IsAtMost, is_less}
@@ -12,6 +12,7 @@ use Rattle.root2_cost.proofs.Most.{Most, Most-then, Most-same, Most-add_left, Mo
 use Rattle.grid_moves.specs.declared.Cell.{Cell}
 use Rattle.grid_moves.specs.declared.Dir.{Dir}
 use Rattle.grid_moves.specs.Grid.{GridData, is_free}
+use Rattle.grid_moves.specs.Least.{NoneBelow}
 use Rattle.grid_moves.specs.Move.{is_legal, is_same, dir_cost, move_cost}
 use Rattle.grid_moves.specs.Walk.{IsWalk, is_walk, cost_of, last_of}
 use Rattle.grid_moves.proofs.Costs.{cost_there}
@@ -22,14 +23,15 @@ use Rattle.pruning.specs.declared.Arrival.TheVariants.{Start, By}
 use Rattle.pruning.specs.Turns.{is_diagonal}
 use Rattle.pruning.specs.Allowed.{is_allowed}
 use Rattle.pruning.specs.Canonical.{IsAllowedMove, FollowsRule, IsCanonicalWalk}
+use Rattle.pruning.specs.Stop.{StopsAfter}
 use Rattle.pruning.specs.Chain.{start_state, run_cost}
 use Rattle.pruning.specs.Swap.{NoneCheaper, IsSwapped, DroppedTurnsAreSwapped, DiagonalsGoFirst}
-use Rattle.pruning.specs.Explored.{Reached, IsOneOf, here, there, LeadsTo, AreReached, begun, further}
-use Rattle.pruning.specs.Explored.{IsReachedAt, OffersMore, OneStateSuffices}
+use Rattle.pruning.specs.Explored.{Reached, IsOneOf, here, there, IsHop, HopsTo, AreReached, begun, further}
+use Rattle.pruning.specs.Explored.{IsReachedAt, Stops, PassesNoStop, OffersMore, OneStateSuffices}
 use Rattle.pruning.proofs.Table.{by_parity, by_test}
 use Rattle.pruning.proofs.Bridging.{Leads, leads_can, leads_legal, legal_leads, allowed_leads}
 use Rattle.pruning.proofs.Running.{run_walked}
-use Rattle.pruning.proofs.Chaining.{leg_priced, IsNext, next_stop}
+use Rattle.pruning.proofs.Chaining.{leg_priced, IsNext, next_stop, IsOnWay, on_way}
 use Rattle.pruning.proofs.Law.{canonical_from}
 use Rattle.pruning.proofs.Replacing.{turns_are_replaced}
 use Rattle.pruning.proofs.Explaining.{turns_are_marked}
@@ -52,10 +54,10 @@ begin_member : (g : GridData) (t s : Cell) (all : List Reached) → AreReached g
 begin_member g t s _ begun = here []
 begin_member g t s _ (further x p earlier r m l) = there x earlier (begin_member g t s earlier r)
 
--- what holds of the start, and of each that a jump leads to from one of which it holds, holds of all
+-- what holds of the start, and of each that is come to from one of which it holds, holds of all
 reached_induction : (g : GridData) (t s : Cell) (all : List Reached) (P : Reached → Type 0)
     → P (beginning s)
-    → ((p u : Reached) → IsOneOf p all → P p → LeadsTo g t p u → P u)
+    → ((p u : Reached) → IsOneOf p all → P p → HopsTo g t p u → P u)
     → (list : List Reached) → ((u : Reached) → IsOneOf u list → IsOneOf u all) → AreReached g t s list
     → (u : Reached) → IsOneOf u list → P u
 reached_induction g t s all P h next _ sub begun =
@@ -115,7 +117,7 @@ rule_started g by u (v ∷ cells) (d, m, f) = (
 )
 
 -- a walk and what goes on from its end
-goes_further : (g : GridData) (s p v : Cell) (first cells : List Cell) (c : Cost) → Goes g s p first c
+pub goes_further : (g : GridData) (s p v : Cell) (first cells : List Cell) (c : Cost) → Goes g s p first c
     → IsWalk g p v cells → Goes g s v (first ++ cells) (add_costs c (cost_of (p ∷ cells)))
 goes_further g s p v first cells c w k = record {
   legal = walk-joined g s first cells w.legal
@@ -230,11 +232,11 @@ module _ (g : GridData) (s t : Cell) where
       → Leads g u v h.rule.pruned.0
   good_move u v c cells h = allowed_leads g Start u v h.rule.pruned.0 h.rule.pruned.1
 
-  jump_came : (p u : Reached) → is_free g s ≡ true → CameTo p.state.cell p.cost → LeadsTo g t p u
+  hop_came : (p u : Reached) → is_free g s ≡ true → CameTo p.state.cell p.cost → HopsTo g t p u
       → CameTo u.state.cell u.cost
-  jump_came p u f w l =
+  hop_came p u f w l =
       let p_free = subst (λ (x : Cell). is_free g x ≡ true) w.goes.ends (last_free g s w.cells w.goes.legal) in
-      let r = run_walked g l.dir l.moves p.state.cell u.state.cell p_free l.jump.reached in
+      let r = run_walked g l.dir l.moves p.state.cell u.state.cell p_free l.hop.reached in
       subst (λ (c : Cost). CameTo u.state.cell c)
       (ap (λ (c : Cost). add_costs p.cost c) r.priced ∙ sym l.priced)
       (came_further p.state.cell u.state.cell p.cost r.cells w (record { legal = r.walks; ends = r.ends }))
@@ -243,7 +245,7 @@ module _ (g : GridData) (s t : Cell) where
       → IsOneOf u all → CameTo u.state.cell u.cost
   came_to all f r u m = reached_induction g t s all (λ (u : Reached). CameTo u.state.cell u.cost)
       (record { cells = []; goes = record { legal = f; ends = refl; priced = refl } })
-      (λ p u i w l. jump_came p u f w l) all (λ u i. i) r u m
+      (λ p u i w l. hop_came p u f w l) all (λ u i. i) r u m
 
   -- from p a rest that begins with a diagonal move, of which there are no more than these
   record IsGoodBefore (p : Cell) (c : Cost) (count : ℕ) : Type 0 where
@@ -254,22 +256,22 @@ module _ (g : GridData) (s t : Cell) where
     pub no_more : (cost_of (p ∷ first ∷ left)).b ≤ count
 
 module _ (dropped : DroppedTurnsAreSwapped) (diagonals : DiagonalsGoFirst) (g : GridData) (s t : Cell) where
-  -- a next move after a jump is allowed, or swaps with it
+  -- a next move after a hop is allowed, or swaps with it
   allowed_or_swaps : (p u : Reached) (v : Cell) (cells : List Cell) (e : Dir)
-      → CameTo g s t p.state.cell p.cost → (j : LeadsTo g t p u)
+      → CameTo g s t p.state.cell p.cost → (j : HopsTo g t p u)
       → IsGood g s t u.state.cell u.cost (v ∷ cells) → Leads g u.state.cell v e
       → (is_allowed g u.state.cell u.state.arrival e ≡ true) ⊎ IsSwapped g p.state.cell v j.dir e j.moves
   allowed_or_swaps p u v cells e w j h l = by_test (is_allowed g u.state.cell u.state.arrival e) (λ a. inl a)
-      (λ n. inr (dropped g t p.state.cell u.state.cell v j.dir e j.moves j.jump.first j.jump.reached
+      (λ n. inr (dropped g t p.state.cell u.state.cell v j.dir e j.moves j.hop.some j.hop.no_stop_before j.hop.reached
       (leads_legal g u.state.cell v e l)
-      (subst (λ (a : Arrival). is_allowed g u.state.cell a e ≡ false) j.jump.arrives n)
+      (subst (λ (a : Arrival). is_allowed g u.state.cell a e ≡ false) j.hop.arrives n)
       (between g s t p.state.cell v p.cost (add_costs (run_cost j.dir j.moves) (dir_cost e)) cells w
       (good_walk g s t u.state.cell v u.cost cells h)
       (subst (λ (c : Cost). NoneCheaper g s t c)
       (back_total u.cost p.cost (run_cost j.dir j.moves) (move_cost u.state.cell v) (dir_cost e)
       (cost_of (v ∷ cells)) j.priced (cost_there e u.state.cell v l.ahead_is)) h.least))))
 
-  -- and so the cell that was jumped from is good with the diagonal move first
+  -- and so the cell that was come from is good with the diagonal move first
   swapped_good : (p v : Cell) (c total : Cost) (d e : Dir) (k : ℕ) (cells : List Cell) → CameTo g s t p c
       → IsWalk g v t cells → IsSwapped g p v d e k
       → total ≡ add_costs c (add_costs (add_costs (run_cost d k) (dir_cost e)) (cost_of (v ∷ cells)))
@@ -305,7 +307,7 @@ module _ (dropped : DroppedTurnsAreSwapped) (diagonals : DiagonalsGoFirst) (g : 
       }
 
   back_good : (p u : Reached) (v : Cell) (cells : List Cell) (e : Dir)
-      → CameTo g s t p.state.cell p.cost → (j : LeadsTo g t p u)
+      → CameTo g s t p.state.cell p.cost → (j : HopsTo g t p u)
       → IsGood g s t u.state.cell u.cost (v ∷ cells) → Leads g u.state.cell v e
       → IsSwapped g p.state.cell v j.dir e j.moves
       → IsGoodBefore g s t p.state.cell p.cost (cost_of (u.state.cell ∷ v ∷ cells)).b
@@ -327,7 +329,7 @@ module _ (dropped : DroppedTurnsAreSwapped) (diagonals : DiagonalsGoFirst) (g : 
         → IsGood g s t u.state.cell u.cost (v ∷ cells) → Leads g u.state.cell v e → is_diagonal e ≡ false
         → is_allowed g u.state.cell u.state.arrival e ≡ true
 
-    straight_after : (p u : Reached) → CameTo g s t p.state.cell p.cost → LeadsTo g t p u
+    straight_after : (p u : Reached) → CameTo g s t p.state.cell p.cost → HopsTo g t p u
         → AllowsStraight u
     straight_after p u w j v cells e h l i = elim (allowed_or_swaps p u v cells e w j h l) [
       | inl may ↦ may
@@ -339,11 +341,12 @@ module _ (dropped : DroppedTurnsAreSwapped) (diagonals : DiagonalsGoFirst) (g : 
         (λ v cells e h l i. leads_can g s v e l)
         (λ p u i w j. straight_after p u (came p i) j) all (λ u i. i) r
 
-    module _ (not_goal : (u : Reached) → IsOneOf u all → u.state.cell ≢ t) (least : List Cell)
+    module _ (stops : Stops) (enough : (u : Reached) → IsOneOf u all → PassesNoStop g t stops u)
+        (not_goal : (u : Reached) → IsOneOf u all → u.state.cell ≢ t) (least : List Cell)
         (w : IsWalk g s t least) where
       -- what is to be shown
       abbrev Offers : Type 0
-      Offers = OffersMore g t all (cost_of (s ∷ least))
+      Offers = OffersMore g t stops all (cost_of (s ∷ least))
 
       -- a good one further on, with so many moves and diagonal ones left at most
       record IsGoodThere (moves count : ℕ) : Type 0 where
@@ -354,7 +357,7 @@ module _ (dropped : DroppedTurnsAreSwapped) (diagonals : DiagonalsGoFirst) (g : 
         pub fewer : length left ≤ moves
         pub no_more : (cost_of (by.state.cell ∷ left)).b ≤ count
 
-      -- where a jump leads to from a good one is another, or it is offered
+      -- where a good one goes on to is another, or it is offered
       there_good : (x : Cell) (c : Cost) (left : List Cell) → IsGood g s t x c left → IsReachedAt all x c
           → IsGoodThere (length left) (cost_of (x ∷ left)).b
       there_good x c left h a =
@@ -368,16 +371,17 @@ module _ (dropped : DroppedTurnsAreSwapped) (diagonals : DiagonalsGoFirst) (g : 
             no_more = omega arith;
           }
 
-      jumped : (u x : Reached) (left : List Cell) → IsOneOf u all → LeadsTo g t u x
-          → IsGood g s t x.state.cell x.cost left
+      hopped : (u x : Reached) (left : List Cell) → IsOneOf u all → (j : HopsTo g t u x)
+          → stops u j.dir j.moves ≡ true → IsGood g s t x.state.cell x.cost left
           → Offers ⊎ IsGoodThere (length left) (cost_of (x.state.cell ∷ left)).b
-      jumped u x left m j h = elim (reached_or_not all x.state.cell x.cost) [
+      hopped u x left m j k h = elim (reached_or_not all x.state.cell x.cost) [
         | inl a ↦ inr (there_good x.state.cell x.cost left h a)
         | inr n ↦ inl (record {
           by = u;
           member = m;
           offered = x;
-          leads = j;
+          hops = j;
+          stops_there = k;
           fresh = n;
           cells = left;
           walk = h.rule.walk;
@@ -399,33 +403,34 @@ module _ (dropped : DroppedTurnsAreSwapped) (diagonals : DiagonalsGoFirst) (g : 
         })
       ]
 
-      -- the jump along an allowed next move
-      along : (u : Reached) (v : Cell) (cells : List Cell) (d : Dir) → IsOneOf u all
+      -- so far along an allowed next move, before the first stop or to it
+      along : (u : Reached) (v : Cell) (cells : List Cell) (d : Dir) (more : ℕ) → IsOneOf u all
           → IsGood g s t u.state.cell u.cost (v ∷ cells)
           → IsAllowedMove g u.state.arrival u.state.cell v d
-          → IsNext turns_are_marked g t u.state.cell d 1 v cells
+          → NoneBelow (StopsAfter g t u.state.cell d) 1 (1 + more) → stops u d (1 + more) ≡ true
+          → IsOnWay turns_are_marked g t u.state.cell d 1 more v cells
           → Offers ⊎ IsGoodThere (length cells) (cost_of (v ∷ cells)).b
-      along u v cells d m h a n =
+      along u v cells d more m h a below k n =
           let l = allowed_leads g u.state.arrival u.state.cell v d a in
-          let run = run_walked g d (1 + n.more) u.state.cell n.cell
+          let run = run_walked g d (1 + more) u.state.cell n.cell
           (legal_is g u.state.cell v l.legal).source n.reached in
-          let total = leg_total u.cost d n.more (move_cost u.state.cell v) (cost_of (v ∷ cells))
+          let total = leg_total u.cost d more (move_cost u.state.cell v) (cost_of (v ∷ cells))
           (cost_of (n.cell ∷ n.left)) (cost_there d u.state.cell v l.ahead_is) n.priced in
           let x : Reached = record {
             state = record { cell = n.cell; arrival = By d };
-            cost = add_costs u.cost (run_cost d (1 + n.more));
+            cost = add_costs u.cost (run_cost d (1 + more));
+          } in
+          let hop : IsHop g t u.state x.state d (1 + more) = record {
+            allowed = a.allowed;
+            some = omega arith;
+            no_stop_before = below;
+            reached = n.reached;
+            arrives = refl;
           } in
           further_on (length n.left) (cost_of (n.cell ∷ n.left)).b (length cells) (cost_of (v ∷ cells)).b
           n.fewer
-          (no_more_left (cost_of (v ∷ cells)) (run_cost d n.more) (cost_of (n.cell ∷ n.left)) n.priced)
-          (jumped u x n.left m
-          (record {
-            dir = d;
-            moves = 1 + n.more;
-            jump =
-                record { allowed = a.allowed; first = n.first; reached = n.reached; arrives = refl };
-            priced = refl;
-          })
+          (no_more_left (cost_of (v ∷ cells)) (run_cost d more) (cost_of (n.cell ∷ n.left)) n.priced)
+          (hopped u x n.left m (record { dir = d; moves = 1 + more; hop = hop; priced = refl }) k
           (record {
             rule = record {
               walk = record {
@@ -437,6 +442,22 @@ module _ (dropped : DroppedTurnsAreSwapped) (diagonals : DiagonalsGoFirst) (g : 
             least = subst (λ (c : Cost). NoneCheaper g s t c) total h.least;
           }))
 
+      -- the moves that it goes on by, where the first stop of the run lies on the walk
+      to_a_stop : (u : Reached) (v : Cell) (cells : List Cell) (d : Dir) → IsOneOf u all
+          → IsGood g s t u.state.cell u.cost (v ∷ cells)
+          → IsAllowedMove g u.state.arrival u.state.cell v d → FollowsRule g (By d) v cells
+          → IsNext turns_are_marked g t u.state.cell d 1 v cells
+          → Offers ⊎ IsGoodThere (length cells) (cost_of (v ∷ cells)).b
+      to_a_stop u v cells d m h a f n =
+          let on = enough u m d (1 + n.more) a.allowed n.first in
+          let one : 1 + (on.moves - 1) ≡ on.moves = (let some = on.some in omega arith) in
+          let below : NoneBelow (StopsAfter g t u.state.cell d) 1 (1 + (on.moves - 1)) =
+          λ k low high. n.first.least k low (let up_to = on.up_to in omega arith) in
+          along u v cells d (on.moves - 1) m h a below (ap (λ k. stops u d k) one ∙ on.stops_there)
+          (on_way turns_are_marked g t u.state.cell d 1 (on.moves - 1) v cells (omega arith)
+          (rw (leads_legal g u.state.cell v d (allowed_leads g u.state.arrival u.state.cell v d a)) refl)
+          below f h.rule.walk.ends)
+
       allowed_on : (u : Reached) (v : Cell) (cells : List Cell) → IsOneOf u all
           → (h : IsGood g s t u.state.cell u.cost (v ∷ cells))
           → is_allowed g u.state.cell u.state.arrival h.rule.pruned.0 ≡ true
@@ -444,7 +465,7 @@ module _ (dropped : DroppedTurnsAreSwapped) (diagonals : DiagonalsGoFirst) (g : 
       allowed_on u v cells m h a =
           let d = h.rule.pruned.0 in
           let l = good_move g s t u.state.cell v u.cost cells h in
-          along u v cells d m h (record { leads = l.ahead_is; allowed = a })
+          to_a_stop u v cells d m h (record { leads = l.ahead_is; allowed = a }) h.rule.pruned.2
           (next_stop turns_are_marked g t u.state.cell d 1 v cells (omega arith)
           (rw (leads_legal g u.state.cell v d l) refl) (λ k low high i. absurd (omega arith))
           h.rule.pruned.2 h.rule.walk.ends)
@@ -474,7 +495,7 @@ module _ (dropped : DroppedTurnsAreSwapped) (diagonals : DiagonalsGoFirst) (g : 
           (leads_can g s v h.rule.pruned.0 (good_move g s t s v no_cost cells h))
 
       diagonal_after : (n : ℕ) → IsShown n → (p u : Reached) → IsOneOf p all → IsShownAt n p
-          → LeadsTo g t p u → IsShownAt n u
+          → HopsTo g t p u → IsShownAt n u
       diagonal_after n shown p u k before l v cells m h i j =
           let d = h.rule.pruned.0 in
           let move = good_move g s t u.state.cell v u.cost cells h in
@@ -514,9 +535,9 @@ module _ (dropped : DroppedTurnsAreSwapped) (diagonals : DiagonalsGoFirst) (g : 
 
 -- one state for each cell is enough, from what dropped turns come to
 pub one_state_from : DroppedTurnsAreSwapped → DiagonalsGoFirst → OneStateSuffices
-one_state_from dropped diagonals g s t all cells f r not_goal least =
+one_state_from dropped diagonals g s t stops all cells f r enough not_goal least =
     let c = canonical_from turns_are_replaced g s t cells least.walk in
-    all_shown dropped diagonals g s t all f r not_goal cells least.walk
+    all_shown dropped diagonals g s t all f r stops enough not_goal cells least.walk
     (suc (cost_of (s ∷ c.others)).b) (beginning s) c.others (begin_member g t s all r)
     (record {
       rule = c.canonical;

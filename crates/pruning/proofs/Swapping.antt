@@ -119,7 +119,7 @@ run_last g d (suc k) u v h = by_cell (legal_ahead g u d) refl (λ y. run_last g 
     by_cell (Some y) e next h = let r = next y h in (r.0, rw e r.1, r.2)
 
 -- a run of a move or more begins on a free cell
-run_begins : (g : GridData) (d : Dir) (k : ℕ) (u v : Cell) → run_end g d (suc k) u ≡ Some v
+pub run_begins : (g : GridData) (d : Dir) (k : ℕ) (u v : Cell) → run_end g d (suc k) u ≡ Some v
     → is_free g u ≡ true
 run_begins g d k u v h = by_cell (legal_ahead g u d) refl h
   where
@@ -205,8 +205,7 @@ module _ (g : GridData) (goal : Cell) (d e : Dir) (u : Cell) (free : is_free g u
       }
 
 pub dropped_turns_are_swapped : DroppedTurnsAreSwapped
-dropped_turns_are_swapped g goal u v w d e k first r m n none =
-    by_moves k first.in_range first.least r none
+dropped_turns_are_swapped g goal u v w d e k some below r m n none = by_moves k some below r none
   where
     by_moves : (k : ℕ) → 1 ≤ k → NoneBelow (StopsAfter g goal u d) 1 k → run_end g d k u ≡ Some v
         → NoneCheaper g u w (add_costs (run_cost d k) (dir_cost e)) → IsSwapped g u w d e k

@@ -1,13 +1,13 @@
 -- What a dropped turn comes to where no walk is cheaper: the diagonal move goes first.
 -- Harabor and Grastien, AAAI 2011; Sturtevant and Rabin, "Canonical Orderings on Grids", IJCAI 2016.
-use Rattle.std.specs.Prelude.{◌≡◌, ℕ, true, false, List, ◌∷◌, Some}
+use Rattle.std.specs.Prelude.{◌≡◌, ◌≤◌, ℕ, true, false, List, ◌∷◌, Some}
 use Rattle.root2_cost.specs.declared.Cost.{Cost}
 use Rattle.root2_cost.specs.Order.{IsAtMost}
 use Rattle.root2_cost.specs.Sums.{add_costs}
 use Rattle.grid_moves.specs.declared.Cell.{Cell}
 use Rattle.grid_moves.specs.declared.Dir.{Dir}
 use Rattle.grid_moves.specs.Grid.{GridData}
-use Rattle.grid_moves.specs.Least.{IsLeast}
+use Rattle.grid_moves.specs.Least.{NoneBelow}
 use Rattle.grid_moves.specs.Move.{legal_ahead, dir_cost}
 use Rattle.grid_moves.specs.Walk.{IsWalk, cost_of}
 use Rattle.pruning.specs.declared.Arrival.TheVariants.{By}
@@ -30,11 +30,11 @@ pub record IsSwapped (g : GridData) (u w : Cell) (d e : Dir) (k : ℕ) : Type 0 
   pub first : legal_ahead g u e ≡ Some by
   pub run : run_end g d k by ≡ Some w
 
--- where a jump in d stops first after k moves, e is not allowed behind it, and no walk is cheaper than these
--- moves with e behind them, e can go first
+-- where k moves in d meet no stop before the last one's end, e is not allowed behind them, and no walk is cheaper
+-- than these moves with e behind them, e can go first
 abbrev pub DroppedTurnsAreSwapped : Type 0
 DroppedTurnsAreSwapped = (g : GridData) (goal u v w : Cell) (d e : Dir) (k : ℕ)
-    → IsLeast (StopsAfter g goal u d) 1 k → run_end g d k u ≡ Some v → legal_ahead g v e ≡ Some w
+    → 1 ≤ k → NoneBelow (StopsAfter g goal u d) 1 k → run_end g d k u ≡ Some v → legal_ahead g v e ≡ Some w
     → is_allowed g v (By d) e ≡ false → NoneCheaper g u w (add_costs (run_cost d k) (dir_cost e))
     → IsSwapped g u w d e k
 

@@ -2,4 +2,3 @@ pub mod Commands
 pub mod Laws
 pub mod Cuts
 pub mod Feeding
-pub mod Joining

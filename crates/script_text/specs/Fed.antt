@@ -7,7 +7,7 @@ use Rattle.script_text.specs.declared.command.ScriptCommand.{ScriptCommand}
 use Rattle.script_text.specs.declared.fault.ScriptFault.{ScriptFault}
 use Rattle.text_line.specs.Lines.{is_line_feed}
 use Rattle.script_text.specs.declared.feeder.LineFeeder.{LineFeeder}
-use Rattle.script_text.specs.Feeding.{cut, fault_so_far, fault_of, commands_so_far, commands_of, text_of}
+use Rattle.script_text.specs.Feeding.{cut, fault_so_far, fault_of, commands_so_far, commands_of}
 use Rattle.script_text.specs.Feeding.{Appended, Answers}
 
 -- the line that is to be completed next, by its number from 1 and its bytes
@@ -61,9 +61,3 @@ pub record IsFeeding (first now : LineFeeder) (piece : List ℕ) (count : ℕ) (
       ≤ vec_capacity got + count_by is_line_feed (take count piece)
   pub fed : (text : List ℕ) → HasTaken first text
       → HasFed text (text ++ take count piece) now before.items got.items (Ok tt)
-
--- so many pieces were fed, and no fault was met
-pub record IsReading (feeder : LineFeeder) (pieces : List (Vec ℕ)) (count : ℕ)
-    (before got : List ScriptCommand) : Type 0 where
-  pub counted : feeder.taken ≡ length (text_of (take count pieces))
-  pub fed : HasFed [] (text_of (take count pieces)) feeder before got (Ok tt)

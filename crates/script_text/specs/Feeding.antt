@@ -1,8 +1,6 @@
 -- A script that comes in pieces: what is known of it by the bytes that came so far.
 use Rattle.std.specs.Prelude.{◌≡◌, ◌≢◌, ℕ, ◌+◌, nat_lt, if◌then◌else◌, List, [], ◌∷◌, ◌++◌, length, take}
 use Rattle.std.specs.Prelude.{Option, Some, None, Result, Ok, Err}
-use Rattle.std.specs.Global.{Vec}
-use Rattle.std.specs.List.{flat_map}
 use Rattle.std.specs.Option.{option_or}
 use Rattle.text_line.specs.Left.{Numbered, numbered_from, numbered_pieces}
 use Rattle.text_line.specs.Lines.{is_line_feed}
@@ -89,7 +87,3 @@ pub record IsMet (text piece : List ℕ) (before now : ℕ) (fault : ScriptFault
   pub taken : now ≡ before + (count + 1)
   pub clean : fault_so_far (text ++ take count piece) ≡ None
   pub known : fault_so_far (text ++ take (count + 1) piece) ≡ Some fault
-
--- the script that comes in these pieces
-abbrev pub text_of : List (Vec ℕ) → List ℕ
-text_of pieces = flat_map (λ piece. piece.items) pieces

@@ -25,5 +25,5 @@ mod room;
 pub use command::ScriptCommand;
 pub use fault::ScriptFault;
 pub use feeder::LineFeeder;
-pub use pieces::read_pieces;
+pub use pieces::pieces_are_the_whole;
 pub use reading::read_script;

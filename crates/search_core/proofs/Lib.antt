@@ -5,7 +5,6 @@ pub mod Ways
 pub mod Right
 pub mod ByCell
 pub mod Least
-pub mod AnyTies
 pub mod Answering
 pub mod Offers
 pub mod Serving

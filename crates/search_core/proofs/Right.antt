@@ -1,13 +1,13 @@
 -- What the runs of jumps answer stands for a walk; with a state for each arrival no walk undercuts it, as chains
 -- of first stops are links.
 use Rattle.std.proofs.Common.{◌≡◌, ℕ, ap, sym, ◌∙◌, subst, true, List, ◌∷◌}
-use Rattle.std.specs.Prelude.{Option, Some, None, map}
+use Rattle.std.specs.Prelude.{map}
 use Rattle.root2_cost.specs.declared.Cost.{Cost}
 use Rattle.root2_cost.proofs.Most.{Most, Most-then, Most-same}
 use Rattle.grid_moves.specs.declared.Cell.{Cell}
 use Rattle.grid_moves.specs.Grid.{GridData, is_free}
 use Rattle.grid_moves.specs.Move.{is_same}
-use Rattle.grid_moves.specs.Walk.{IsWalk, IsLeastWalk, cost_of, NoWalk}
+use Rattle.grid_moves.specs.Walk.{IsWalk, cost_of, NoWalk}
 use Rattle.grid_moves.specs.Reply.{StandsForWalk, StandsForLeast}
 use Rattle.grid_moves.proofs.Legal.{is_same-itself}
 use Rattle.pruning.specs.Chain.{start_state, last_state}
@@ -19,16 +19,12 @@ use Rattle.pruning.proofs.Unfolding.{chains_are_walks}
 use Rattle.search_run.specs.Run.{here}
 use Rattle.search_run.specs.Chain.{Chain}
 use Rattle.search_run.proofs.Leastness.{run_is_least, run_finds_all}
-use Rattle.path_points.specs.declared.points.Walk.{Walk}
 use Rattle.best_first.specs.declared.state.Layout.{Layout}
 use Rattle.best_first.specs.declared.state.Layout.TheVariants.{ByArrival}
 use Rattle.best_first.specs.declared.state.State.{State}
 use Rattle.best_first.specs.State.{start_at}
-use Rattle.best_first.specs.Made.{found_of}
-use Rattle.best_first.proofs.Answering.{found_answers}
-use Rattle.search_core.specs.Jumps.{jump_links, jump_rule, state_at}
-use Rattle.search_core.specs.Answer.{IsFound, IsExhausted, IsJumpRun}
-use Rattle.search_core.proofs.Links.{jumps_are_links}
+use Rattle.search_core.specs.Jumps.{jump_rule, state_at}
+use Rattle.search_core.specs.Answer.{IsFound, IsExhausted}
 use Rattle.search_core.proofs.Ways.{jumps_consistent, chain_linked, way}
 
 -- the points of a run stand for a walk of its cost
@@ -106,21 +102,3 @@ module _ (g : GridData) (s t : Cell) where
       let l = walk_linked cells w in
       run_finds_all (jump_rule ByArrival g t) (jumps_consistent ByArrival g t) (start_at s) l.to x.run l.cost
       x.is_run x.none_waits x.no_goal l.chain l.at_goal
-
-  -- so a least walk exists, or none does
-  pub data HasLeastWalk : Type 0 where
-    by_walk : (cells : List Cell) → IsLeastWalk g s t cells → HasLeastWalk
-    by_none : NoWalk g s t → HasLeastWalk
-
-  pub least_or_none : is_free g s ≡ true → HasLeastWalk
-  least_or_none free =
-      let f = found_of g.width g.height t (jump_links ByArrival g t) (λ cells. cells) s in
-      by_answer f.walk f.taken
-      (found_answers g.width g.height t (jump_links ByArrival g t) (jumps_are_links ByArrival g t)
-      (λ cells. cells) s)
-    where
-      by_answer : (o : Option Walk) (taken : List ℕ)
-          → IsJumpRun ByArrival g s t (record { walk = o; taken = taken }) → HasLeastWalk
-      by_answer None taken is = by_none (arrivals_none taken is)
-      by_answer (Some w) taken is =
-          let l = arrivals_least w.points w.cost taken free is in by_walk l.cells l.least

@@ -5,4 +5,4 @@ pub mod Serving
 pub mod Room
 pub mod Counting
 pub mod Jumping
-pub mod AnyTies
+pub mod OneState

@@ -2,9 +2,9 @@
 
 ghost use Rattle.best_first.specs.declared.state.Layout.{Layout};
 ghost use Rattle.best_first.specs.Answer.{AnswersAre};
-ghost use Rattle.search_core.specs.AnyTies.{AnyTiesEndRight, RunsByCellAreSuch};
 ghost use Rattle.search_core.specs.Answer.{IsJumpRun, jump_found};
 ghost use Rattle.search_core.specs.Laws.{CostsFit, EstimateSuits, RunsAreRight};
+ghost use Rattle.search_core.specs.OneState.{RunsByCellAreSuch};
 
 /// The answer of the jump engines' run is a function of its states, the grid and the two cells: it is right
 /// where the first is free, and no other answer is the run's, whichever source found the jumps.
@@ -18,17 +18,9 @@ pub fn runs_are_right()
     ensures { RunsAreRight }
 {}
 
-/// With one state for each cell it does not hang on how ties are broken. Take a search from a free cell that
-/// always takes one of the cells that are offered at the least sum, whichever, with one of the arrivals of
-/// that cost, whichever. Where it takes the goal, that is at the cost of a least walk; where it did not and
-/// nothing is offered, no walk leads there; and it takes no more cells than the map has.
-pub fn any_ties_end_right()
-    ensures { AnyTiesEndRight }
-{}
-
-/// The jump engines' run with one state for each cell is such a search, at its end: the answer shows what
-/// was taken, in order; a walk that it tells has the cost at which the goal was taken; and where it tells
-/// none, the goal was not taken and nothing is offered.
+/// With one state for each cell the jump engines' run is one of the searches of one_state, at its end: the answer
+/// shows what was taken, in order; a walk that it tells has the cost at which the goal was taken; and where it
+/// tells none, the goal was not taken and nothing is offered.
 pub fn runs_by_cell_are_such()
     ensures { RunsByCellAreSuch }
 {}

@@ -4,7 +4,6 @@
 #![tactic(auto)]
 
 #[cfg(test)]
-mod all_pairs_tests;
 #[cfg(test)]
 mod cost_waves_tests;
 #[cfg(test)]

@@ -127,20 +127,3 @@ fn a_long_line_is_refused_at_its_129th_byte(rt: HostRuntime) -> Result<(), Fail>
     assert_eq!(rt; got.len(), 1);
     Ok(())
 }
-
-// A script that is cut within a number and within a line's end.
-#[test]
-fn a_list_of_pieces_is_the_script(rt: HostRuntime) -> Result<(), Fail> {
-    let mut pieces = Vec::new(rt.alloc());
-    pieces.push(Vec::from_slice(rt.alloc(), b"block 1 1")?)?;
-    pieces.push(Vec::from_slice(rt.alloc(), b"2\r")?)?;
-    pieces.push(Vec::from_slice(rt.alloc(), b"\nfree 3 4")?)?;
-    let mut got = Vec::new(rt.alloc());
-    read_pieces(&pieces, &mut got)?;
-    let wanted = [
-        ScriptCommand::Block { x: 1, y: 12 },
-        ScriptCommand::Free { x: 3, y: 4 },
-    ];
-    assert_eq!(rt; got.as_slice(), wanted.as_slice());
-    Ok(())
-}

@@ -10,7 +10,7 @@ use Rattle.grid_moves.specs.Reply.{StandsForLeast}
 use Rattle.grid_moves.specs.Walk.{NoWalk, cost_of}
 use Rattle.plain_search.specs.Costs.{IsCostTo}
 use Rattle.plain_search.specs.Lists.{IsLeastCost}
-use Rattle.plain_search.proofs.Closing.{one_least}
+use Rattle.plain_search.proofs.LeastCosts.{one_least}
 use Rattle.potential_check.specs.Walks.{IsRightWalk, IsWalkAnswer, walk_answer}
 use Rattle.root2_cost.proofs.Less.{is_same_cost-of, is_same_cost-tells}
 use Rattle.potential_check.proofs.Walks.{walks_are_answered}

@@ -1,27 +1,27 @@
-use Rattle.std.proofs.Common.{◌≡◌, ◌∙◌, ◌++◌, ◌+◌, ◌<◌, ℕ, List, [], ◌∷◌, length, take, map, ap, sym, refl}
-use Rattle.std.proofs.Common.{rules, slice_index_or}
-use Rattle.std.proofs.lemmas.List.{take_more, map-append}
-use Rattle.std.proofs.lemmas.Option.{slice_get_read}
+use Rattle.std.proofs.Common.{◌≡◌, ◌+◌, ◌++◌, ◌∙◌, [], ap, arith, sym, List, ℕ, length}
+use Rattle.std.specs.Prelude.{Option}
+use Rattle.std.specs.List.{cons_option, filter_map, range_with_len}
 use Rattle.grid_moves.specs.declared.Cell.{Cell}
-use Rattle.best_first.specs.State.{cell_of_number}
+use Rattle.grid_moves.specs.Grid.{cell_numbered}
+use Rattle.plain_search.specs.Lists.{reached_at, reached_of}
+use Rattle.plain_search.proofs.Ascending.{made_more}
 use Rattle.plain_search.proofs.lists.reached_cells.Goals as goal
 
-one_more : (w : ℕ) (states : List ℕ) (i d : ℕ) → i < length states
-    → map (cell_of_number w) (take (i + 1) states)
-    ≡ map (cell_of_number w) (take i states) ++ cell_of_number w (slice_index_or states i d) ∷ []
-one_more w states i d h =
-    ap (λ (ns : List ℕ). map (cell_of_number w) ns) (take_more states i d h)
-    ∙ map-append (cell_of_number w) (take i states) (slice_index_or states i d ∷ [])
+pub loop-number-preserved : goal.loop-number-preserved
+loop-number-preserved g c =
+    let grid = g.T.Terrain.grid c.args.t.now in
+    let n : ℕ = c.loop-number.number in
+    let make : ℕ → Option Cell = λ k. reached_at grid c.args.start (cell_numbered grid.width k) in
+    c.in_ok-push_some.ensures
+    ∙ ap (λ (l : List Cell). l ++ cons_option c.reached_at.result []) c.loop-number.invariant
+    ∙ ap (λ (o : Option Cell). filter_map make (range_with_len 0 n) ++ cons_option o []) c.reached_at.ensures
+    ∙ sym (made_more make n 0 n (n + 1) (omega arith) (omega arith))
 
-pub cell_of_number-requires-clause-on : goal.cell_of_number-requires-clause-on
-cell_of_number-requires-clause-on c =
-    c.requires.on c.loop-state.state-index _
-    (slice_get_read c.args.states.now _ c.loop-state.state-index _ refl c.loop-state-test.true (search rules))
-
-pub loop-state-preserved : goal.loop-state-preserved
-loop-state-preserved c =
-    let cells = map (cell_of_number c.args.width) (take c.loop-state.state-index c.args.states.now) in
-    c.in_ok-push.ensures.items
-    ∙ ap (λ (before : List Cell). before ++ c.cell_of_number.result ∷ []) c.loop-state.invariant
-    ∙ ap (λ (u : Cell). cells ++ u ∷ []) c.cell_of_number.ensures
-    ∙ sym (one_more c.args.width c.args.states.now c.loop-state.state-index 0 c.loop-state-test.true)
+pub returns : goal.returns
+unfolding reached_of
+returns g c =
+    let grid = g.T.Terrain.grid c.args.t.now in
+    let all : c.loop-number.number ≡ length c.args.costs.now = omega arith in
+    c.of.ensures ∙ c.loop-number.invariant
+    ∙ ap (λ (n : ℕ). filter_map (λ k. reached_at grid c.args.start (cell_numbered grid.width k)) (range_with_len 0 n))
+    (all ∙ c.requires.costs.as_many)

@@ -9,7 +9,6 @@ use Rattle.best_first.specs.declared.state.Layout.TheVariants.{ByCell}
 use Rattle.best_first.specs.State.{state_number, start_at}
 use Rattle.best_first.specs.Table.{Table}
 use Rattle.best_first.specs.Trace.{node_cell}
-use Rattle.plain_search.specs.Progress.{HasStopped}
 use Rattle.plain_search.specs.Rule.{plain_links}
 use Rattle.best_first.proofs.Progress.{next_taken, shown_plainly}
 use Rattle.plain_search.proofs.Concluding.{taken_free, may_go_on, has_offered, has_stopped}
@@ -54,8 +53,7 @@ returns-in-None-clause-goes_on g c =
     c.requires.to in
     let offered = has_offered asked c.requires.taken c.reserve.new.self.table
     c.offer_all.new.space.table c.reserve.ensures.table c.requires.open_ended c.offer_all.ensures.expanded in
-    subst (λ (l : Table). HasStopped grid c.args.ends.from c.args.ends.to l c.args.taken.now)
-    (sym c.in-None.ensures.unchanged) (has_stopped offered c.in-None.ensures.none)
+    has_stopped grid c.args.ends.from c.args.ends.to offered c.in-None.ensures.none
 
 pub returns-in_ok-push-in-Some-clause-goes_on : goal.returns-in_ok-push-in-Some-clause-goes_on
 returns-in_ok-push-in-Some-clause-goes_on g c =

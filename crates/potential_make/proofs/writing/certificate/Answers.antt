@@ -12,5 +12,5 @@ returns c =
     ∙ ap (λ (l : List ℕ). l ++ codes "end\n") (c.in_ok-put_claim.ensures
     ∙ ap (λ (l : List ℕ). l ++ claim) (c.in_ok-put_head.ensures
     ∙ ap (λ (l : List ℕ). l ++ head) c.new-text.ensures.items))
-    ∙ text-made c.args.g.now c.args.from c.args.to c.requires.from c.in_ok-found.found c.in_ok-found.ensures.run
+    ∙ text-made c.args.g.now c.args.from c.args.to c.in_ok-found.found c.in_ok-found.ensures.run
     c.in_ok-found.ensures.lists

@@ -1,0 +1,5 @@
+use Rattle.one_state.proofs.Stopping as lemmas
+use Rattle.one_state.proofs.laws.first_is_in_time.Goals as goal
+
+pub returns : goal.returns
+returns c = lemmas.first_is_in_time
