@@ -16,6 +16,8 @@ def colours(results):
     """The colour of each program, and the dashes of its line: an engine's name in it gives the engine's colour."""
     others, found, used = itertools.cycle(OTHERS), {}, []
     for number, program in enumerate(results.programs):
+        if program.form == "walks":      # it has a mean alone, and no curve
+            continue
         engine = next((it for it in plots.COLOURS if it in program.name.replace("-", " ").replace("_", " ").split()), None)
         colour = plots.COLOURS[engine] if engine else next(others)
         found[number] = (colour, DASHES[used.count(colour) % len(DASHES)])
