@@ -1,5 +1,5 @@
 -- What an edit leaves of the labels.
-use Rattle.std.proofs.Common.{◌≡◌, ◌≢◌, ℕ, ◌+◌, ◌<◌, ◌≤◌, ◌⊎◌, inl, inr, arith, refl, ap, sym, ◌∙◌, subst}
+use Rattle.std.proofs.Common.{◌≡◌, ◌≢◌, ℕ, ◌<◌, ◌≤◌, ◌⊎◌, inl, inr, arith, refl, ap, sym, ◌∙◌, subst}
 use Rattle.std.proofs.Common.{Bool, true, false, List, length}
 use Rattle.std.specs.Prelude.{nat_eq, not, IsTrue}
 use Rattle.std.proofs.lemmas.Bool.Decides.{nat_tests}
@@ -13,12 +13,12 @@ use Rattle.grid_moves.specs.Move.{beyond, may_slip}
 use Rattle.grid_moves.specs.Ring.{is_free_on}
 use Rattle.grid_moves.proofs.Legal.{free_inside}
 use Rattle.grid_moves.proofs.Places.{inside_from}
-use Rattle.joined_cells.specs.Joined.{Labels, TellsJoined, label_of}
+use Rattle.joined_cells.specs.Joined.{label_of}
 use Rattle.components.specs.declared.shape.Shape.{Shape}
 use Rattle.components.specs.Around.{is_whole}
 use Rattle.components.specs.Classes.{root_of}
-use Rattle.components.specs.Kept.{AreFor, KeptLabels, Tells}
-use Rattle.components.specs.Links.{Adds, Chain, IsLink, TellsLinked}
+use Rattle.components.specs.Kept.{KeptLabels, Tells}
+use Rattle.components.specs.Links.{Adds, TellsLinked}
 use Rattle.components.specs.Stored.{AreKept, AreStored, class_in, classes_in, labels_in}
 use Rattle.components.proofs.Chains.{blocked, freed, link_apart}
 use Rattle.components.proofs.Offsets.{among_linked, any_dir, link_off, no_offset, offset, stands, stands_itself}
@@ -141,65 +141,65 @@ module _ (shape : Shape) (corner : Corner) (used : ℕ) (labels classes : List �
   -- a cell is blocked
   module _ (f : fresh ≡ true) (ring : Ring)
       (reads : (d : Dir) → is_free_on ring d ≡ not (nat_eq (label_of (labels_in shape labels) (beyond d c)) 0))
-      where
-    not_zero : (n : ℕ) → not (nat_eq n 0) ≡ true → n ≢ 0
-    not_zero n h z = grind (arith, nat_tests)
+    where
+      not_zero : (n : ℕ) → not (nat_eq n 0) ≡ true → n ≢ 0
+      not_zero n h z = grind (arith, nat_tests)
 
-    is_not_zero : (n : ℕ) → n ≢ 0 → not (nat_eq n 0) ≡ true
-    is_not_zero n h = grind (arith, nat_tests)
+      is_not_zero : (n : ℕ) → n ≢ 0 → not (nat_eq n 0) ≡ true
+      is_not_zero n h = grind (arith, nat_tests)
 
-    on_ring : (d : Dir) → is_free_on ring d ≡ true → label_of (labels_in shape labels) (beyond d c) ≢ 0
-    on_ring d h = not_zero (label_of (labels_in shape labels) (beyond d c)) (sym (reads d) ∙ h)
+      on_ring : (d : Dir) → is_free_on ring d ≡ true → label_of (labels_in shape labels) (beyond d c) ≢ 0
+      on_ring d h = not_zero (label_of (labels_in shape labels) (beyond d c)) (sym (reads d) ∙ h)
 
-    apart : (d : Dir) → label_of (labels_in shape labels) (beyond d c) ≢ 0 → beyond d c ≢ c
-    apart d n e =
-        let on = labelled_inside (labels_in shape labels) (beyond d c) n in
-        let x : (beyond d c).x < shape.width = on.column in
-        let y : (beyond d c).y < shape.height = on.row in
-        let w : shape.width ≤ 4096 = stored.sides.narrow in
-        let h : shape.height ≤ 4096 = stored.sides.low in
-        link_apart true c (beyond d c) (link_off true c c (beyond d c) no_offset (offset d) (stands_itself c)
-        (stands c d (omega arith) (omega arith)) (among_linked true d (any_dir d))) (sym e)
+      apart : (d : Dir) → label_of (labels_in shape labels) (beyond d c) ≢ 0 → beyond d c ≢ c
+      apart d n e =
+          let on = labelled_inside (labels_in shape labels) (beyond d c) n in
+          let x : (beyond d c).x < shape.width = on.column in
+          let y : (beyond d c).y < shape.height = on.row in
+          let w : shape.width ≤ 4096 = stored.sides.narrow in
+          let h : shape.height ≤ 4096 = stored.sides.low in
+          link_apart true c (beyond d c) (link_off true c c (beyond d c) no_offset (offset d) (stands_itself c)
+          (stands c d (omega arith) (omega arith)) (among_linked true d (any_dir d))) (sym e)
 
-    ring_free : (d : Dir) → is_free_on ring d ≡ true → is_free (grid_with g c false) (beyond d c) ≡ true
-    ring_free d h =
-        let n = on_ring d h in
-        edited_others g tells.grid c inside false (beyond d c) (apart d n) ∙ labelled_free f (beyond d c) n
+      ring_free : (d : Dir) → is_free_on ring d ≡ true → is_free (grid_with g c false) (beyond d c) ≡ true
+      ring_free d h =
+          let n = on_ring d h in
+          edited_others g tells.grid c inside false (beyond d c) (apart d n) ∙ labelled_free f (beyond d c) n
 
-    shut : is_free (grid_with g c false) c ≡ false
-    shut = edited_here g tells.grid c inside false
+      shut : is_free (grid_with g c false) c ≡ false
+      shut = edited_here g tells.grid c inside false
 
-    ring_tells : (d : Dir) → is_free (grid_with g c false) (beyond d c) ≡ true → is_free_on ring d ≡ true
-    ring_tells d h =
-        let other : beyond d c ≢ c = λ e. let x : true ≡ false = sym h
-        ∙ ap (λ (v : Cell). is_free (grid_with g c false) v) e ∙ shut in absurd (cc) in
-        reads d ∙ is_not_zero (label_of (labels_in shape labels) (beyond d c)) (free_labelled f (beyond d c)
-        (sym (edited_others g tells.grid c inside false (beyond d c) other) ∙ h))
+      ring_tells : (d : Dir) → is_free (grid_with g c false) (beyond d c) ≡ true → is_free_on ring d ≡ true
+      ring_tells d h =
+          let other : beyond d c ≢ c = λ e. let x : true ≡ false = sym h
+          ∙ ap (λ (v : Cell). is_free (grid_with g c false) v) e ∙ shut in absurd (cc) in
+          reads d ∙ is_not_zero (label_of (labels_in shape labels) (beyond d c)) (free_labelled f (beyond d c)
+          (sym (edited_others g tells.grid c inside false (beyond d c) other) ∙ h))
 
-    on_map : (v : Cell) → is_free (grid_with g c false) v ≡ true → (v.x < 4096) × (v.y < 4096)
-    on_map v h =
-        let i = free_inside (grid_with g c false) v h in
-        let x : v.x < g.width = i.0 in
-        let y : v.y < g.height = i.1 in
-        let w : g.width ≤ 4096 = tells.grid.sides.narrow in
-        let k : g.height ≤ 4096 = tells.grid.sides.low in
-        (omega arith, omega arith)
+      on_map : (v : Cell) → is_free (grid_with g c false) v ≡ true → (v.x < 4096) × (v.y < 4096)
+      on_map v h =
+          let i = free_inside (grid_with g c false) v h in
+          let x : v.x < g.width = i.0 in
+          let y : v.y < g.height = i.1 in
+          let w : g.width ≤ 4096 = tells.grid.sides.narrow in
+          let k : g.height ≤ 4096 = tells.grid.sides.low in
+          (omega arith, omega arith)
 
-    none : class_in shape (put shape labels stored.whole c column row 0) classes c ≡ 0
-    none = ap (λ (l : ℕ). root_of classes l) (put_here shape labels stored.whole c column row 0)
+      none : class_in shape (put shape labels stored.whole c column row 0) classes c ≡ 0
+      none = ap (λ (l : ℕ). root_of classes l) (put_here shape labels stored.whole c column row 0)
 
-    pub edited_blocked : (whole : Bool) → whole ≡ is_whole shape.eight ring
-        → Tells (grid_with g c false)
-        (seen shape corner (put shape labels stored.whole c column row 0) classes whole)
-    edited_blocked whole e = edited false (put shape labels stored.whole c column row 0) classes whole (λ h.
-        blocked shape.eight (is_free g) (is_free (grid_with g c false)) c shut
-        (edited_others g tells.grid c inside false) (class_in shape labels classes)
-        (class_in shape (put shape labels stored.whole c column row 0) classes) (links f) none
-        (λ u o. ap (λ (l : ℕ). root_of classes l) (put_elsewhere shape labels stored.whole c column row 0 u o))
-        (λ u v p q k l. joined_around shape.eight (is_free (grid_with g c false)) c ring ring_free on_map
-        (sym e ∙ h) ring_tells u v
-        (edited_others g tells.grid c inside false u (λ s. link_apart shape.eight c u k (sym s)) ∙ p)
-        (edited_others g tells.grid c inside false v (λ s. link_apart shape.eight c v l (sym s)) ∙ q) k l))
+      pub edited_blocked : (whole : Bool) → whole ≡ is_whole shape.eight ring
+          → Tells (grid_with g c false)
+          (seen shape corner (put shape labels stored.whole c column row 0) classes whole)
+      edited_blocked whole e = edited false (put shape labels stored.whole c column row 0) classes whole (λ h.
+          blocked shape.eight (is_free g) (is_free (grid_with g c false)) c shut
+          (edited_others g tells.grid c inside false) (class_in shape labels classes)
+          (class_in shape (put shape labels stored.whole c column row 0) classes) (links f) none
+          (λ u o. ap (λ (l : ℕ). root_of classes l) (put_elsewhere shape labels stored.whole c column row 0 u o))
+          (λ u v p q k l. joined_around shape.eight (is_free (grid_with g c false)) c ring ring_free on_map
+          (sym e ∙ h) ring_tells u v
+          (edited_others g tells.grid c inside false u (λ s. link_apart shape.eight c u k (sym s)) ∙ p)
+          (edited_others g tells.grid c inside false v (λ s. link_apart shape.eight c v l (sym s)) ∙ q) k l))
 
 -- the test of an edit that changes nothing
 pub same_bools : (a b : Bool) → beq a b ≡ true → a ≡ b

@@ -1,5 +1,5 @@
 -- What comes of labels that meet.
-use Rattle.std.proofs.Common.{◌≡◌, ◌≢◌, ℕ, ◌+◌, ◌<◌, ◌≤◌, ◌⊎◌, inl, inr, arith, refl, ap, sym, ◌∙◌, subst}
+use Rattle.std.proofs.Common.{◌≡◌, ◌≢◌, ℕ, ◌⊎◌, inl, inr, arith, refl, ap, sym, ◌∙◌, subst}
 use Rattle.std.proofs.Common.{Bool, true, false, ◌||◌, List, [], ◌∷◌}
 use Rattle.std.specs.Prelude.{nat_eq, if◌then◌else◌}
 use Rattle.std.proofs.lemmas.Bool.Decides.{nat_tests}
@@ -8,9 +8,9 @@ use Rattle.grid_moves.specs.declared.Dir.{Dir}
 use Rattle.grid_moves.specs.Move.{beyond, is_dir, dir_number}
 use Rattle.grid_moves.proofs.Dirs.{one_dir}
 use Rattle.components.specs.Classes.{AreMerged, IsOfEither}
-use Rattle.components.specs.Links.{IsLink, Adds, Touches}
+use Rattle.components.specs.Links.{IsLink, Adds}
 use Rattle.components.specs.Meeting.{HaveMet, Borders, Gathers, linked_dirs, is_among}
-use Rattle.components.proofs.Offsets.{HasDir, has_dir}
+use Rattle.components.proofs.Offsets.{has_dir}
 
 one_or_not : (m n : ℕ) → (m ≡ n) ⊎ (m ≢ n)
 one_or_not m n = grind arith
@@ -117,10 +117,13 @@ module _ (eight : Bool) (c : Cell) (at : Cell → ℕ) (d : Dir) (dirs : List Di
             | inl same ↦ inl same
             | inr own ↦ inr (own.0, m.kept l label own.1)
           ]
-          | inr both ↦ inr (n, elim both.0 [
-            | inl e ↦ m.kept l label e
-            | inr e ↦ m.kept l other e ∙ sym m.one
-          ])
+          | inr both ↦ inr (
+            n,
+            elim both.0 [
+              | inl e ↦ m.kept l label e
+              | inr e ↦ m.kept l other e ∙ sym m.one
+            ],
+          )
         ];
         from = λ l h k. elim (m.only l label h) [
           | inl e ↦ g.from l e k
@@ -157,8 +160,8 @@ module _ (eight : Bool) (c : Cell) (at : Cell → ℕ) (d : Dir) (dirs : List Di
         ]
         | inr n ↦ subst (λ (m : ℕ). Gathers eight c at (d ∷ dirs) before later m) (sym (r.1 n))
             (elim (one_or_not other 0) [
-            | inl y ↦ no_other y (r.1 n)
-            | inr s ↦ both_some n s (r.1 n)
+              | inl y ↦ no_other y (r.1 n)
+              | inr s ↦ both_some n s (r.1 n)
             ])
       ]
 

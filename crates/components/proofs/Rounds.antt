@@ -1,6 +1,6 @@
 -- Where the way around a cell ends once at most, the cells that it is linked with are joined without it.
-use Rattle.std.proofs.Common.{◌≡◌, ◌≢◌, ℕ, zero, suc, ◌+◌, ◌-◌, ◌<◌, ◌≤◌, ◌⊎◌, inl, inr, arith, refl, ap, sym}
-use Rattle.std.proofs.Common.{◌∙◌, subst, Bool, true, false, ◌&&◌, ◌||◌}
+use Rattle.std.proofs.Common.{◌≡◌, ℕ, zero, suc, ◌+◌, ◌-◌, ◌<◌, ◌≤◌, ◌⊎◌, inl, inr, arith, refl, ap, sym}
+use Rattle.std.proofs.Common.{◌∙◌, subst, Bool, true, false, ◌&&◌}
 use Rattle.std.specs.Prelude.{nat_le, if◌then◌else◌}
 use Rattle.std.proofs.lemmas.Bool.Decides.{nat_tests}
 use Rattle.grid_moves.specs.declared.Cell.{Cell}
@@ -12,10 +12,10 @@ use Rattle.grid_moves.specs.Ring.{is_free_on}
 use Rattle.grid_moves.proofs.Dirs.{dir_number-few}
 use Rattle.grid_moves.proofs.Legal.{and_both}
 use Rattle.components.specs.Around.{clockwise, ends, ends_in, is_on_way, is_passed, is_whole}
-use Rattle.components.specs.Links.{IsLink, Chain, here, more}
+use Rattle.components.specs.Links.{IsLink, Chain, here}
 use Rattle.components.specs.Meeting.{linked_dirs, is_among}
 use Rattle.components.proofs.Chains.{chain_on, chain_one, chain_back}
-use Rattle.components.proofs.Offsets.{HasDir, has_dir, are_linked, offset, stands, link_off}
+use Rattle.components.proofs.Offsets.{has_dir, are_linked, offset, stands, link_off}
 
 -- the direction after so many places
 abbrev turned : ℕ → Dir → Dir
@@ -106,9 +106,9 @@ module _ (way : Dir → Bool) where
         subst (λ (a : Dir). Chain eight free (at a) (at d)) (turned_number e)
         (subst (λ (b : Dir). Chain eight free (at (turned (dir_number e) N)) (at b)) (turned_number d)
         (elim (order (dir_number d) (dir_number e)) [
-        | inl le ↦ ordered (dir_number d) (dir_number e) le (omega arith) f g once
-        | inr le ↦ chain_back eight free (at (turned (dir_number d) N)) (at (turned (dir_number e) N))
-            (ordered (dir_number e) (dir_number d) le (omega arith) g f once)
+          | inl le ↦ ordered (dir_number d) (dir_number e) le (omega arith) f g once
+          | inr le ↦ chain_back eight free (at (turned (dir_number d) N)) (at (turned (dir_number e) N))
+              (ordered (dir_number e) (dir_number d) le (omega arith) g f once)
         ]))
 
 -- the cell that stands for a corner: itself where it is linked, else the one before it

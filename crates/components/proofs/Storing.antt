@@ -1,6 +1,6 @@
 -- The labels of cells in memory.
-use Rattle.std.proofs.Common.{◌≡◌, ◌≢◌, ℕ, ◌+◌, ◌*◌, ◌<◌, ◌≤◌, ◌⊎◌, inl, inr, arith, refl, ap, sym, ◌∙◌, subst}
-use Rattle.std.proofs.Common.{Bool, true, false, ◌&&◌, List, length, get_or, set, length-set, map}
+use Rattle.std.proofs.Common.{◌≡◌, ◌≢◌, ℕ, ◌+◌, ◌*◌, ◌<◌, ◌≤◌, ◌⊎◌, inl, inr, arith, refl, sym, ◌∙◌, subst}
+use Rattle.std.proofs.Common.{Bool, true, false, ◌&&◌, List, length, get_or, set, length-set}
 use Rattle.std.specs.Prelude.{nat_lt, if◌then◌else◌}
 use Rattle.std.proofs.lemmas.Bool.Decides.{nat_tests}
 use Rattle.std.proofs.lemmas.List.{get_or-set_same, get_or-set_other}
@@ -9,17 +9,16 @@ use Rattle.grid_moves.specs.declared.Cell.{Cell}
 use Rattle.grid_moves.specs.declared.Dir.{Dir}
 use Rattle.grid_moves.specs.Grid.{AreSides, cell_number}
 use Rattle.grid_moves.specs.Move.{beyond}
-use Rattle.grid_moves.proofs.Legal.{and_both}
 use Rattle.grid_moves.proofs.Places.{number_below, one_cell}
 use Rattle.joined_cells.specs.Joined.{Labels, label_of}
 use Rattle.components.specs.declared.shape.Shape.{Shape}
-use Rattle.components.specs.Classes.{IsForest, root_of, AreMerged}
+use Rattle.components.specs.Classes.{root_of}
 use Rattle.components.specs.Links.{IsLink, Adds}
 use Rattle.components.specs.Meeting.{Gathers, linked_dirs, is_among}
 use Rattle.components.specs.Stored.{AreFit, AreStored, class_in, classes_in, labels_in}
 use Rattle.components.proofs.Gathering.{adds_met, adds_new}
 use Rattle.components.proofs.Offsets.{among_linked, link_off, no_offset, offset, stands, stands_itself}
-use Rattle.components.proofs.Roots.{forest-put, root-down, root-itself, root-new, root-some}
+use Rattle.components.proofs.Roots.{root-down, root-itself, root-new, root-some}
 
 pub record IsOnMap (p : Labels) (c : Cell) : Type 0 where
   pub column : c.x < p.width

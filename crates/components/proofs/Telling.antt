@@ -1,7 +1,7 @@
 -- Walks and chains of linked cells join the same cells.
-use Rattle.std.proofs.Common.{◌≡◌, ◌≢◌, ℕ, ◌+◌, ◌<◌, ◌≤◌, ◌⊎◌, inl, inr, arith, refl, ap, sym, ◌∙◌, subst}
-use Rattle.std.proofs.Common.{Bool, true, false, ◌&&◌, ◌||◌, List, [], ◌∷◌}
-use Rattle.std.specs.Prelude.{nat_eq, not, IsTrue}
+use Rattle.std.proofs.Common.{◌≡◌, ◌≢◌, ℕ, ◌⊎◌, inl, inr, arith, refl, ap, sym, ◌∙◌, subst}
+use Rattle.std.proofs.Common.{Bool, true, false, ◌&&◌, List, [], ◌∷◌}
+use Rattle.std.specs.Prelude.{nat_eq, not}
 use Rattle.std.proofs.lemmas.Bool.Decides.{nat_tests}
 use Rattle.grid_moves.specs.declared.Cell.{Cell}
 use Rattle.grid_moves.specs.declared.Corner.{Corner}
@@ -11,10 +11,9 @@ use Rattle.grid_moves.specs.Move.{corner_of, is_legal, is_passable, may_slip}
 use Rattle.grid_moves.specs.Walk.{is_walk, last_of}
 use Rattle.grid_moves.proofs.Edited.{is_free-with_other, is_free-with_same, is_grid-with}
 use Rattle.grid_moves.proofs.Legal.{IsLegal, and_both, is_legal-from, legal_is, passable-both, same_cell}
-use Rattle.grid_moves.proofs.Walks.{end_free, walk_free}
-use Rattle.joined_cells.specs.Joined.{IsJoined, Labels, TellsJoined, are_joined, label_of}
-use Rattle.joined_cells.proofs.Joining.{joined_back, joined_itself, joined_more, joined_on}
-use Rattle.components.specs.Kept.{AreFor, KeptLabels, Tells}
+use Rattle.grid_moves.proofs.Walks.{walk_free}
+use Rattle.joined_cells.specs.Joined.{IsJoined, Labels, TellsJoined, label_of}
+use Rattle.joined_cells.proofs.Joining.{joined_itself, joined_more, joined_on}
 use Rattle.components.specs.Links.{Chain, IsLink, TellsLinked, here, more}
 use Rattle.components.proofs.Chains.{chain_class, chain_free, chain_more, chain_on, chain_one, one_or_other}
 
@@ -77,35 +76,35 @@ module _ (g : GridData) where
         | inl e ↦ one (inr (inr e))
         | inr e ↦ elim (one_free g.corner e (is_free g (corner_of u v)) (is_free g (corner_of v u)) l.passes) [
           | inl f ↦ over (corner_of u v) f (record {
-              x_low = omega arith;
-              x_high = omega arith;
-              y_low = l.y_low;
-              y_high = l.y_high;
-              differ = λ a b. y b;
-              lined = inl refl;
-            }) (record {
-              x_low = l.x_low;
-              x_high = l.x_high;
-              y_low = omega arith;
-              y_high = omega arith;
-              differ = λ a b. x a;
-              lined = inr (inl refl);
-            })
+            x_low = omega arith;
+            x_high = omega arith;
+            y_low = l.y_low;
+            y_high = l.y_high;
+            differ = λ a b. y b;
+            lined = inl refl;
+          }) (record {
+            x_low = l.x_low;
+            x_high = l.x_high;
+            y_low = omega arith;
+            y_high = omega arith;
+            differ = λ a b. x a;
+            lined = inr (inl refl);
+          })
           | inr f ↦ over (corner_of v u) f (record {
-              x_low = l.x_low;
-              x_high = l.x_high;
-              y_low = omega arith;
-              y_high = omega arith;
-              differ = λ a b. x a;
-              lined = inr (inl refl);
-            }) (record {
-              x_low = omega arith;
-              x_high = omega arith;
-              y_low = l.y_low;
-              y_high = l.y_high;
-              differ = λ a b. y b;
-              lined = inl refl;
-            })
+            x_low = l.x_low;
+            x_high = l.x_high;
+            y_low = omega arith;
+            y_high = omega arith;
+            differ = λ a b. x a;
+            lined = inr (inl refl);
+          }) (record {
+            x_low = omega arith;
+            x_high = omega arith;
+            y_low = l.y_low;
+            y_high = l.y_high;
+            differ = λ a b. y b;
+            lined = inl refl;
+          })
         ]
       ]
     ]
@@ -158,13 +157,13 @@ module _ (g : GridData) where
   tells_walks p class same tells = record {
     joined = λ s t. (
       (λ e.
-      let two = test_says (label_of p s) (label_of p t) e in
-      chain_joined t s (tells.joined s t (λ z. two.0 (same s ∙ z)) (sym (same s) ∙ two.1 ∙ same t))),
+          let two = test_says (label_of p s) (label_of p t) e in
+          chain_joined t s (tells.joined s t (λ z. two.0 (same s ∙ z)) (sym (same s) ∙ two.1 ∙ same t))),
       (λ j.
-      let chain = joined_chain s t j in
-      test_of (label_of p s) (label_of p t)
-      (λ z. tells.some s (walk_free g s j.cells j.walk.legal) (sym (same s) ∙ z))
-      (same s ∙ chain_class slips (is_free g) class tells t s chain ∙ sym (same t)))
+          let chain = joined_chain s t j in
+          test_of (label_of p s) (label_of p t)
+          (λ z. tells.some s (walk_free g s j.cells j.walk.legal) (sym (same s) ∙ z))
+          (same s ∙ chain_class slips (is_free g) class tells t s chain ∙ sym (same t))),
     );
   }
 

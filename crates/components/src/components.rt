@@ -57,9 +57,9 @@ impl Model for Components {
     ghost Value = { KeptLabels };
 
     ghost view = { λ p. record {
-        labels = classes_in p.shape p.labels.items p.classes.items;
-        corner = p.corner;
-        fresh = p.fresh
+      labels = classes_in p.shape p.labels.items p.classes.items;
+      corner = p.corner;
+      fresh = p.fresh;
     } };
 
     ghost invariant = { λ p. AreKept p.shape p.corner p.used p.labels.items p.classes.items };

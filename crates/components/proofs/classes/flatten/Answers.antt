@@ -1,4 +1,4 @@
-use Rattle.std.proofs.Common.{◌≡◌, ◌<◌, ◌∙◌, length, arith}
+use Rattle.std.proofs.Common.{◌<◌, ◌∙◌, length, arith}
 use Rattle.components.proofs.Roots.{halved-forest, halved-same}
 use Rattle.components.proofs.classes.flatten.Goals as goal
 

@@ -1,4 +1,4 @@
-use Rattle.std.proofs.Common.{◌≡◌, ◌≤◌, ◌∙◌, sym, get_or, arith}
+use Rattle.std.proofs.Common.{◌≤◌, ◌∙◌, sym, get_or, arith}
 use Rattle.components.proofs.Roots.{root-itself, root-step}
 use Rattle.components.proofs.classes.root.Goals as goal
 

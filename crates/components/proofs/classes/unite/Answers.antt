@@ -1,4 +1,4 @@
-use Rattle.std.proofs.Common.{◌≡◌, ◌<◌, length, arith}
+use Rattle.std.proofs.Common.{arith}
 use Rattle.components.proofs.Roots.{p_below, q_below, united, united-turned}
 use Rattle.components.proofs.classes.unite.Goals as goal
 

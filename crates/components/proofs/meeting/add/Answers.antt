@@ -1,4 +1,4 @@
-use Rattle.std.proofs.Common.{◌≡◌, ℕ, ◌+◌, arith, subst, sym, set}
+use Rattle.std.proofs.Common.{ℕ, ◌+◌, arith, subst, sym, set}
 use Rattle.components.specs.Links.{Adds}
 use Rattle.components.specs.Stored.{class_in}
 use Rattle.components.proofs.Storing.{adds_another, adds_old}

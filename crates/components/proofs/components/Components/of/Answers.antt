@@ -1,4 +1,4 @@
-use Rattle.std.proofs.Common.{◌≡◌, arith, subst, sym, List, ℕ, true}
+use Rattle.std.proofs.Common.{arith, subst, sym, List, ℕ, true}
 use Rattle.std.specs.Vec.{with_items}
 use Rattle.std.proofs.lemmas.List.{with_items_is}
 use Rattle.components.specs.declared.shape.Shape.{Shape}

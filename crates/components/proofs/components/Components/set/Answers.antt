@@ -1,10 +1,9 @@
-use Rattle.std.proofs.Common.{◌≡◌, ◌+◌, ◌<◌, ap, arith, subst, sym, ◌∙◌, Bool, true, false, List, ℕ, refl, set}
+use Rattle.std.proofs.Common.{◌≡◌, ◌<◌, ap, arith, subst, sym, ◌∙◌, Bool, true, false, List, ℕ, set}
 use Rattle.std.specs.Vec.{with_items}
 use mathlib.Core.Bool.{beq}
 use Rattle.std.specs.Prelude.{nat_eq, not}
-use Rattle.std.proofs.lemmas.Bool.Decides.{nat_tests}
 use Rattle.std.proofs.lemmas.List.{with_items_is}
-use Rattle.grid_moves.specs.Grid.{GridData, cell_number, grid_with}
+use Rattle.grid_moves.specs.Grid.{grid_with}
 use Rattle.grid_moves.specs.Move.{beyond}
 use Rattle.joined_cells.specs.Joined.{label_of}
 use Rattle.components.specs.Kept.{KeptLabels, Tells}
