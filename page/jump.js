@@ -279,6 +279,7 @@ const SEARCHED = [
 
 async function begin() {
   beginTheme(byId("theme"), () => {});
+  for (const it of document.querySelectorAll("a[href='./']")) [it.search, it.hash] = [location.search, location.hash];
   try {
     await api.open();
     api.stayOpen(() => showBanner("The program can't be reached."), () => {});
