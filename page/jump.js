@@ -99,7 +99,8 @@ async function forcedSteps(figure) {
   const count = (rule) => `under ${rule} ${byRule[rule]?.map(({ cell }) => told(cell)).join(" and ") || "nothing"}`;
   const cells = forced.map(({ cell }) => ({ ...cell, kind: "forced" }));
   const words = `Forced by these walls: ${count("none")}; ${count("one")}; ${count("both")}.`;
-  return [...steps, { words, cells, letters: marks(arrival) }];
+  const lines = [{ from: arrival.from, to: X, kind: "walk" }, ...forced.map(({ cell }) => ({ from: X, to: cell, kind: "ray", isArrow: true }))];
+  return [...steps, { words, cells, lines, letters: marks(arrival) }];
 }
 
 // 3 and 4: one jump
@@ -274,7 +275,7 @@ function beginFigures() {
 }
 
 const SEARCHED = [
-  "...........", ".....@.....", ".@.........", ".......@...", "...@....@..", "...........", "..@@..@.@..", ".....@.....", "...........",
+  "........@.@", "....@.@....", "........@..", "......@.@@.", "...........", "..@........", "@..........", "..@....@.@@", ".....@...@.",
 ];
 
 async function begin() {
