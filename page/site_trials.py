@@ -196,7 +196,7 @@ def figures(tried):
         expect(f"{form}: the swap is shown", said[-1].startswith("Nothing is lost."))
         check_whole(tried, said)
         pick("straight", "none")
-        browser.run("document.querySelector('#straight svg').focus()")
+        browser.run("document.querySelector('#straight > svg').focus()")
         for key in ["ArrowRight"] * 5 + ["ArrowDown"] * 2:  # the first one shows the cell that the keys look at
             browser.key(key)
         before = browser.run("document.querySelector('#straight').dataset.ready")
