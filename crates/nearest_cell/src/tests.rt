@@ -1,12 +1,11 @@
 //! Small maps by hand. The tests of `components` stand here too, as a crate is proved once more with its tests.
 
-ghost use Rattle.std.specs.Prelude.{◌≡◌, length, true};
-ghost use Rattle.grid_moves.specs.Grid.{AreCells, is_inside as is_on};
-ghost use Rattle.components.specs.Kept.{Tells};
+ghost use Rattle.std.specs.Prelude.{◌≡◌, length};
+ghost use Rattle.grid_moves.specs.Grid.{AreCells};
 
 use crate::nearest;
 use components::{Components, NoMemory};
-use grid_moves::{Cell, Corner, Grid, is_inside};
+use grid_moves::{Cell, Corner, Grid};
 use std::alloc::Global;
 use std::test::Fail;
 
@@ -56,47 +55,6 @@ fn labels_stay_fresh_where_nothing_parts(rt: HostRuntime) -> Result<(), Fail> {
             );
         }
     }
-    Ok(())
-}
-
-// An edit of a grid and of its labels.
-fn edit(grid: &mut Grid, p: &mut Components, c: Cell, free: bool)
-    requires tells { Tells grid.old p.old }
-    requires inside { is_on grid.old c ≡ true }
-    ensures tells { Tells grid.new p.new }
-    ensures fresh { p.new.fresh ≡ true }
-{
-    p.set(c, free);
-    grid.set(c, free);
-    if !p.is_fresh() {
-        p.refresh(grid);
-    }
-}
-
-// Whether the ends of a row of five cells are joined, at first and after each edit of its middle.
-fn ends_joined(alloc: Global, edits: &[bool], joined: &[bool]) -> Result<bool, NoMemory> {
-    let mut grid = Grid::of_cells(alloc, 5, 1, b"..@..", Corner::Never)?;
-    let mut p = Components::of(alloc, &grid)?;
-    let gate = cell(2, 0);
-    for (i, free) in edits.iter().enumerate() {
-        if joined.get(i).copied() != Some(p.joined(cell(0, 0), cell(4, 0))) {
-            return Ok(false);
-        }
-        if !is_inside(&grid, gate) {
-            return Ok(false);
-        }
-        edit(&mut grid, &mut p, gate, *free);
-    }
-    Ok(joined.last().copied() == Some(p.joined(cell(0, 0), cell(4, 0))))
-}
-
-#[test]
-fn a_gate_opens_and_shuts(rt: HostRuntime) -> Result<(), Fail> {
-    let joined = [false, true, true, false, true];
-    assert_eq!(rt;
-        ends_joined(rt.alloc(), &[true, true, false, true], &joined)?,
-        true
-    );
     Ok(())
 }
 
