@@ -3,6 +3,7 @@
 //
 // Names and words are UTF-8 for the program and UTF-16 for the system. No byte is changed on its way: all streams are
 // binary. Ctrl-C ends the program, as the system does it.
+#include <cpuid.h>
 #include <errno.h>
 #include <fcntl.h>
 #include <io.h>
@@ -193,3 +194,21 @@ int jps_statx(int fd, const char *name, int flags, unsigned mask, linux_statx *t
     CloseHandle(found);
     return status;
 }
+
+// What the processor can do, as glibc tells it: number 0 is leaf 1 of cpuid, 2 leaf 0x80000001. The program looks for
+// x86-64-v2 there as it starts; the system keeps what that has.
+struct leaf {
+    uint32_t told[4], active[4];
+};
+
+const struct leaf *__x86_get_cpuid_feature_leaf(unsigned number) {
+    static const unsigned leaves[] = {1, 7, 0x80000001};
+    static struct leaf found[4];
+    struct leaf *it = &found[number < 3 ? number : 3];
+    if (number < 3) __get_cpuid_count(leaves[number], 0, &it->told[0], &it->told[1], &it->told[2], &it->told[3]);
+    memcpy(it->active, it->told, sizeof it->told);
+    return it;
+}
+
+// The same as write, for what the program says where the processor is too old.
+int64_t __write(int fd, const void *buf, uint64_t n) { return jps_write(fd, buf, n); }
