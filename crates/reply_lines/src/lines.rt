@@ -1,7 +1,7 @@
 //! The lines that answer a query or an edit.
 
 ghost use Rattle.std.specs.Prelude.{◌≡◌, ◌<◌, ◌++◌, OnOk};
-ghost use Rattle.jps_run.specs.Lines as spec;
+ghost use Rattle.reply_lines.specs.Lines as spec;
 
 use crate::NoMemory;
 use cell_lines::{put_points, put_state};
