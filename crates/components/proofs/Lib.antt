@@ -1,0 +1,9 @@
+pub mod Roots
+pub mod Chains
+pub mod Offsets
+pub mod Gathering
+pub mod Rounds
+pub mod Storing
+pub mod Telling
+pub mod Before
+pub mod Editing

@@ -1,0 +1,13 @@
+//! Laws of nearest cells, as contracts of calls.
+
+ghost use Rattle.nearest_cell.specs.Laws.{NearestIsGoal, NearestIsOne};
+
+/// There is one nearest cell at most.
+pub fn nearest_is_one()
+    ensures { NearestIsOne }
+{}
+
+/// Where a walk leads from the start to the goal, the nearest cell is the goal.
+pub fn nearest_is_goal()
+    ensures { NearestIsGoal }
+{}
