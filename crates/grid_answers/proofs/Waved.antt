@@ -17,7 +17,8 @@ use Rattle.grid_moves.specs.Layers.{Layers, is_free_ground, query_grid}
 use Rattle.grid_answers.specs.Distances.{cost_field, costs_answer, row_line, cost_lines, line_of_costs, fields_to}
 use Rattle.plain_search.specs.Costs.{least_cost}
 use Rattle.plain_search.proofs.LeastCosts.{costs_are}
-use Rattle.grid_answers.specs.Framed.{frame_line, framed_costs}
+use Rattle.move_field.specs.Field.{field_text}
+use Rattle.grid_answers.specs.Framed.{frame_line, framed_costs, framed_field}
 use Rattle.grid_answers.specs.OfCell.{why_untold}
 use Rattle.grid_answers.specs.Printing.{ArePrinted, HavePrinted, TellCosts, printed_line, row_costs}
 use Rattle.grid_answers.proofs.Cells.{free-on, is-line, is-told}
@@ -192,3 +193,26 @@ framed-rows ls s w g h frame text is free none tells wide high is_h framed put =
     (lines-are g s (free-on ls s g is free) w tells wide high)
     ∙ ap (λ (k : GridData). frame_line (codes "costs") k ++ concat (cost_lines k s)) is
     ∙ is-told ls s (λ line. line) (λ k. frame_line (codes "costs") k ++ concat (cost_lines k s)) none
+
+-- a word with the sides, and the letters of all rows
+pub framed-letters : (ls : Layers) (t : Cell) (g : GridData) (frame text : List ℕ)
+    → g ≡ query_grid ls t → why_untold ls t ≡ None → frame ≡ frame_line (codes "field") g
+    → text ≡ frame ++ field_text g t → text ≡ framed_field ls t
+unfolding framed_field
+framed-letters ls t g frame text is none framed put =
+    put ∙ ap (λ (l : List ℕ). l ++ field_text g t) framed
+    ∙ ap (λ (k : GridData). frame_line (codes "field") k ++ field_text k t) is
+    ∙ is-told ls t (λ line. line) (λ k. frame_line (codes "field") k ++ field_text k t) none
+
+-- a line alone
+pub costs-untold : (ls : Layers) (s : Cell) (line text : List ℕ) → text ≡ line → why_untold ls s ≡ Some line
+    → text ≡ framed_costs ls s
+unfolding framed_costs
+costs-untold ls s line text is why =
+    is ∙ is-line ls s (λ l. l) (λ g. frame_line (codes "costs") g ++ concat (cost_lines g s)) line why
+
+pub field-untold : (ls : Layers) (t : Cell) (line text : List ℕ) → text ≡ line → why_untold ls t ≡ Some line
+    → text ≡ framed_field ls t
+unfolding framed_field
+field-untold ls t line text is why =
+    is ∙ is-line ls t (λ l. l) (λ g. frame_line (codes "field") g ++ field_text g t) line why

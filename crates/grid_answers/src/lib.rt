@@ -15,7 +15,7 @@ pub use boxes::boxes_at;
 pub use check::verdict;
 pub use costs::{CostLines, Distances, costs_at, write_costs};
 pub use encoded::{TableFile, file_of, write_file};
-pub use framed::{framed_costs, put_frame};
+pub use framed::{framed_costs, framed_field};
 pub use moves::moves_at;
 pub use prove::proof_of;
 pub use std::alloc::AllocError as NoMemory;

@@ -2,5 +2,9 @@
 #![tactic(auto)]
 
 mod asked;
+mod joined;
+mod server;
 
 pub use asked::Asked;
+pub use server::LineServer;
+pub use std::alloc::AllocError as NoMemory;

@@ -3,5 +3,5 @@
 
 mod lines;
 
-pub use lines::{put_edit_reply, put_reply};
+pub use lines::{edit_bytes, put_edit_reply, put_reply};
 pub use std::alloc::AllocError as NoMemory;
