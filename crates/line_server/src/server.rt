@@ -65,7 +65,7 @@ impl LineServer {
         ensures { ServesPiece self.old self.new piece.now (O.outflow out.old) (O.outflow out.new) result }
     {
         let mut left = piece;
-        while let Some((line, rest)) = self.feed.take(left) {
+        'lines: while let Some((line, rest)) = self.feed.take(left) {
             self.answer(alloc, Asked::by(&line), out, steps)?;
             left = rest;
         }
