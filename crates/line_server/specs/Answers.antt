@@ -1,5 +1,5 @@
 -- What answers the lines of a session.
-use Rattle.std.specs.Prelude.{◌≡◌, ◌×◌, ◌⊎◌, ◌&&◌, ⊤, ⊥, ℕ, true, List, [], ◌∷◌, ◌++◌, codes, map, MatchBool}
+use Rattle.std.specs.Prelude.{◌≡◌, ◌⊎◌, ◌&&◌, ⊤, ℕ, true, List, [], ◌∷◌, ◌++◌, codes, map, MatchBool}
 use Rattle.grid_moves.specs.declared.Cell.{Cell}
 use Rattle.grid_moves.specs.Layers.{Layers, is_free_ground, is_on_map, query_grid}
 use Rattle.edit_replay.specs.Edited.{Edit, edit_at, edit_reply, edited}
@@ -14,8 +14,8 @@ use Rattle.line_server.specs.declared.asked.Asked.{Asked}
 use Rattle.line_server.specs.declared.asked.Asked.TheVariants as asked
 use Rattle.line_server.specs.Asked.{asked_by, edits_by, may_want}
 
-abbrev pub at : ℕ → ℕ → Cell
-at x y = record { x = x; y = y }
+abbrev pub cell_at : ℕ → ℕ → Cell
+cell_at x y = record { x = x; y = y }
 
 module _ (engine : Engine) (show : Show) where
   -- the line of the reply to a query on these grids
@@ -38,10 +38,10 @@ module _ (engine : Engine) (show : Show) where
   IsAnswer ls asked.Refused text = text ≡ codes "refused T1\n"
   IsAnswer ls asked.TooLong text = text ≡ codes "refused T2\n"
   IsAnswer ls (asked.Edit x y to) text = text ≡ edit_line (edit_reply ls (edit_at x y to))
-  IsAnswer ls (asked.Query sx sy gx gy) text = text ≡ query_line ls (at sx sy) (at gx gy)
-  IsAnswer ls (asked.Near sx sy gx gy) text = IsNearAnswer ls (at sx sy) (at gx gy) text
-  IsAnswer ls (asked.Field x y) text = text ≡ framed_field ls (at x y)
-  IsAnswer ls (asked.Costs x y) text = text ≡ framed_costs ls (at x y)
+  IsAnswer ls (asked.Query sx sy gx gy) text = text ≡ query_line ls (cell_at sx sy) (cell_at gx gy)
+  IsAnswer ls (asked.Near sx sy gx gy) text = IsNearAnswer ls (cell_at sx sy) (cell_at gx gy) text
+  IsAnswer ls (asked.Field x y) text = text ≡ framed_field ls (cell_at x y)
+  IsAnswer ls (asked.Costs x y) text = text ≡ framed_costs ls (cell_at x y)
 
   -- it is printed; or that memory was refused, where some is taken
   abbrev pub Answers : Layers → Asked → List ℕ → Type 0

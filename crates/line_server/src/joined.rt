@@ -1,13 +1,13 @@
 //! A session that knows which cells are joined.
 
-ghost use Rattle.std.specs.Prelude.{◌≡◌, ◌×◌, ◌↔◌, ℕ, IfOk, IsTrue, true};
+ghost use Rattle.std.specs.Prelude.{◌≡◌, ◌↔◌, IfOk, IsTrue, true};
 ghost use Rattle.grid_moves.specs.Layers as spec;
 ghost use Rattle.joined_cells.specs.Joined.{IsJoined};
 ghost use Rattle.nearest_cell.specs.Nearest.{IsNearest};
 ghost use Rattle.components.specs.Kept.{Tells};
 ghost use Rattle.edit_replay.specs.Edited.{edit_at, edit_reply};
 ghost use Rattle.edit_replay.specs.Replies.{AddsEdit};
-ghost use Rattle.line_server.specs.Answers.{IsNearAnswer, query_line};
+ghost use Rattle.line_server.specs.Answers.{IsNearAnswer, cell_at, query_line};
 
 use crate::NoMemory;
 use components::Components;
@@ -132,9 +132,9 @@ impl JoinedSession {
 
     // Whether both ends are free in one layer and no walk joins them.
     fn are_parted(&mut self, sx: u32, sy: u32, gx: u32, gy: u32) -> bool
-        ensures parted { result ≡ true → (s : _) × (t : _) × (s ≡ record { x = sx; y = sy })
-            × (t ≡ record { x = gx; y = gy }) × (spec.in_one_layer self.old.layers s t ≡ true)
-            × ¬ IsJoined (spec.query_grid self.old.layers s) s t }
+        ensures parted { result ≡ true
+            → (spec.in_one_layer self.old.layers (cell_at sx sy) (cell_at gx gy) ≡ true)
+            × ¬ IsJoined (spec.query_grid self.old.layers (cell_at sx sy)) (cell_at sx sy) (cell_at gx gy) }
         ensures unchanged { self.new ≡ self.old }
     {
         let layers = self.session.layers();
@@ -156,7 +156,7 @@ impl JoinedSession {
         steps: &mut Steps<L>,
     ) -> Result<Vec<u8>, NoMemory>
         ensures line { IfOk result (λ text. text.items ≡ query_line self.old.engine show self.old.layers
-            (record { x = sx; y = sy }) (record { x = gx; y = gy })) }
+            (cell_at sx sy) (cell_at gx gy)) }
         ensures unchanged { self.new ≡ self.old }
     {
         if show != Show::Trace && self.are_parted(sx, sy, gx, gy) {
@@ -180,7 +180,7 @@ impl JoinedSession {
         steps: &mut Steps<L>,
     ) -> Result<Vec<u8>, NoMemory>
         ensures line { IfOk result (λ text. IsNearAnswer self.old.engine show self.old.layers
-            (record { x = sx; y = sy }) (record { x = gx; y = gy }) text.items) }
+            (cell_at sx sy) (cell_at gx gy) text.items) }
         ensures unchanged { self.new ≡ self.old }
     {
         let layers = self.session.layers();
