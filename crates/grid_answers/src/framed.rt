@@ -61,7 +61,10 @@ pub fn framed_costs(alloc: Global, layers: &Layers, x: u32, y: u32) -> Result<Ve
 {
     match free_cell(layers, x, y) {
         Ok(from) => costs_text(alloc, layers, from),
-        Err(line) => Vec::from_slice(alloc, line),
+        Err(line) => {
+            let text = Vec::from_slice(alloc, line)?;
+            Ok(text)
+        }
     }
 }
 
@@ -86,6 +89,9 @@ pub fn framed_field(alloc: Global, layers: &Layers, x: u32, y: u32) -> Result<Ve
 {
     match free_cell(layers, x, y) {
         Ok(to) => field_to(alloc, layers, to),
-        Err(line) => Vec::from_slice(alloc, line),
+        Err(line) => {
+            let text = Vec::from_slice(alloc, line)?;
+            Ok(text)
+        }
     }
 }

@@ -1,14 +1,17 @@
 -- How a server goes on, line by line.
 use Rattle.std.proofs.Common.{◌≡◌, refl, sym, ap, ◌∙◌, subst, List, [], ◌∷◌, ◌++◌, append_assoc, ℕ, ◌≤◌, arith}
 use Rattle.std.proofs.Common.{Bool, true, false, map, inl, inr}
-use Rattle.std.specs.Prelude.{Result, Ok, Err, Option, MatchResult, option_to_list}
+use Rattle.std.specs.Prelude.{Result, Ok, Err, IfOk, MatchResult}
 use Rattle.std.specs.List.{concat}
-use Rattle.std.specs.Io.KnownBytes.{Appends}
+use Rattle.std.specs.Global.{Vec}
 use Rattle.std.proofs.lemmas.Bool.{cases_Bool}
 use Rattle.std.proofs.lemmas.List.{append-nil, map-append}
 use Rattle.std.proofs.lemmas.List.Folds.{concat-append}
 use Rattle.grid_moves.specs.Layers.{Layers}
-use Rattle.edit_replay.specs.Edited.{Edit, edited}
+use Rattle.grid_moves.specs.declared.Ground.{Ground}
+use Rattle.edit_replay.specs.Edited.{Edit, edit_at, edit_reply, edited}
+use Rattle.edit_replay.specs.Replies.{AddsEdit}
+use Rattle.edit_replay.specs.Session.{SessionData}
 use Rattle.edit_replay.specs.declared.engine.Engine.{Engine}
 use Rattle.edit_replay.proofs.Edits.{edited-nothing}
 use Rattle.word_list.specs.declared.request.Show.{Show}
@@ -16,18 +19,20 @@ use Rattle.io_edge.specs.Known.{Outflow}
 use Rattle.io_edge.specs.Whole.{AppendsSome}
 use Rattle.line_work.specs.Sending.{Wrote, WroteSome}
 use Rattle.line_work.proofs.Pieces.{appends-both, appends-part, nothing, rose-since}
-use Rattle.script_text.specs.Feeding.{cut}
+use Rattle.script_text.specs.Feeding.{Cut, cut}
 use Rattle.script_text.proofs.Cuts.{cut-more}
 use Rattle.text_line.specs.Lines.{is_line_feed}
 use Rattle.line_feed.specs.declared.feed.FedLine.{FedLine}
 use Rattle.line_feed.specs.declared.feed.LineFeed.{LineFeed}
 use Rattle.line_feed.specs.Lines.{line_of, lines_of}
 use Rattle.line_feed.specs.Fed.{CompletesLine, HasTaken, TakesAll, whole_lines}
+use Rattle.reply_lines.specs.Lines.{edit_line}
 use Rattle.line_server.specs.declared.asked.Asked.{Asked}
+use Rattle.line_server.specs.declared.asked.Asked.TheVariants as asked
 use Rattle.line_server.specs.declared.server.LineServer.{LineServer}
-use Rattle.line_server.specs.Asked.{asked_by, edits_by}
-use Rattle.line_server.specs.Answers.{Answers, AreAnswers, all_asked, edits_of}
-use Rattle.line_server.specs.Served.{AnswersOne, HasServed, HaveAnswered, HaveStopped, WritesText}
+use Rattle.line_server.specs.Asked.{asked_by, edits_by, may_want}
+use Rattle.line_server.specs.Answers.{Answers, AreAnswers, IsAnswer, all_asked, edits_of}
+use Rattle.line_server.specs.Served.{AnswersOne, HasServed, HaveAnswered, HaveStopped, WritesText, text_or_memory}
 
 -- the edits of one line more
 edits-more : (some : List Asked) (a : Asked) → edits_of (some ++ a ∷ []) ≡ edits_of some ++ edits_by a
@@ -101,6 +106,54 @@ module _ {T E : Type 0} (first old new : LineServer) (lines : List Asked) (a : A
     );
   }
 
+-- a text that was made, or memory was refused
+answer-made : {E : Type 0} (engine : Engine) (show : Show) (ls : Layers) (a : Asked) (r : Result (Vec ℕ) E)
+    → may_want a ≡ true → IfOk r (λ t. IsAnswer engine show ls a t.items)
+    → Answers engine show ls a (text_or_memory r)
+answer-made engine show ls a (Ok t) wants is = inl is
+answer-made engine show ls a (Err error) wants is = inr (wants, refl)
+
+-- what changes nothing is answered
+pub answered-so : {T E : Type 0} (old new : LineServer) (a : Asked) (text : List ℕ) (at now : Outflow)
+    (result : Result T E) → new.session ≡ old.session → new.show ≡ old.show → edits_by a ≡ []
+    → Answers old.session.engine old.show old.session.layers a text → WritesText text at now result
+    → at.faults ≤ now.faults → AnswersOne old new a at now result
+answered-so old new a text at now result same shown none answers wrote later = record {
+  engine = ap (λ (d : SessionData). d.engine) same;
+  show = shown;
+  layers = λ m before is. ap (λ (d : SessionData). d.layers) same ∙ is
+      ∙ ap (λ (l : List Edit). edited m l)
+      (sym (ap (λ (l : List Edit). before ++ l) none ∙ append-nil before));
+  text = text;
+  answers = answers;
+  wrote = wrote;
+  later = later;
+}
+
+pub answered-made : {T E F : Type 0} (old new : LineServer) (a : Asked) (r : Result (Vec ℕ) F) (at now : Outflow)
+    (result : Result T E) → new.session ≡ old.session → new.show ≡ old.show → edits_by a ≡ [] → may_want a ≡ true
+    → IfOk r (λ t. IsAnswer old.session.engine old.show old.session.layers a t.items)
+    → WritesText (text_or_memory r) at now result → at.faults ≤ now.faults → AnswersOne old new a at now result
+answered-made old new a r at now result same shown none wants is wrote later =
+    answered-so old new a (text_or_memory r) at now result same shown none
+    (answer-made old.session.engine old.show old.session.layers a r wants is) wrote later
+
+-- so is an edit
+pub answered-edit : {T E : Type 0} (old new : LineServer) (x y : ℕ) (to : Ground) (text : List ℕ) (at now : Outflow)
+    (result : Result T E) → new.session.engine ≡ old.session.engine → new.show ≡ old.show
+    → AddsEdit old.session.layers (edit_at x y to) new.session.layers
+    → text ≡ edit_line (edit_reply old.session.layers (edit_at x y to)) → WritesText text at now result
+    → at.faults ≤ now.faults → AnswersOne old new (asked.Edit x y to) at now result
+answered-edit old new x y to text at now result same shown adds is wrote later = record {
+  engine = same;
+  show = shown;
+  layers = adds;
+  text = text;
+  answers = inl is;
+  wrote = wrote;
+  later = later;
+}
+
 -- nothing came yet
 pub served-none : (s : LineServer) (out : Outflow) → HasTaken s.feed [] → HasServed s s [] out out
 unfolding cut
@@ -121,18 +174,18 @@ served-none s out fed = record {
 grown : (text : List ℕ) (byte : ℕ)
     → (more : List (List ℕ)) × ((cut (text ++ byte ∷ [])).lines ≡ (cut text).lines ++ more)
 grown text byte = elim (cases_Bool (is_line_feed byte)) [
-  | inl e ↦ ((cut text).rest ∷ [], ap (λ c. c.lines) (cut-more text byte) ∙ rw e refl)
-  | inr e ↦ ([], ap (λ c. c.lines) (cut-more text byte) ∙ rw e (sym (append-nil (cut text).lines)))
+  | inl e ↦ ((cut text).rest ∷ [], ap (λ (c : Cut). c.lines) (cut-more text byte) ∙ rw e refl)
+  | inr e ↦ ([], ap (λ (c : Cut). c.lines) (cut-more text byte) ∙ rw e (sym (append-nil (cut text).lines)))
 ]
 
 lines-grow : (text bytes : List ℕ)
     → (more : List (List ℕ)) × ((cut (text ++ bytes)).lines ≡ (cut text).lines ++ more)
-lines-grow text [] = ([], ap (λ t. (cut t).lines) (append-nil text) ∙ sym (append-nil (cut text).lines))
+lines-grow text [] = ([], ap (λ (t : List ℕ). (cut t).lines) (append-nil text) ∙ sym (append-nil (cut text).lines))
 lines-grow text (byte ∷ bytes) =
     let here = grown text byte in
     let later = lines-grow (text ++ byte ∷ []) bytes in (
       here.0 ++ later.0,
-      ap (λ t. (cut t).lines) (sym (append_assoc text (byte ∷ []) bytes)) ∙ later.1
+      ap (λ (t : List ℕ). (cut t).lines) (sym (append_assoc text (byte ∷ []) bytes)) ∙ later.1
           ∙ ap (λ (l : List (List ℕ)). l ++ later.0) here.1
           ∙ append_assoc (cut text).lines here.0 later.0,
     )
@@ -171,8 +224,8 @@ with_feed s feed = record { session = s.session; show = s.show; feed = feed }
 
 module _ (first old : LineServer) (text piece left : List ℕ) (before at : Outflow)
     (s : IsServing first old text piece left before at) (feed : LineFeed) where
-  fed : HaveAnswered first (with_feed old feed) (all_asked (whole_lines (text ++ s.eaten))) before at
-  fed = record {
+  stands : HaveAnswered first (with_feed old feed) (all_asked (whole_lines (text ++ s.eaten))) before at
+  stands = record {
     engine = s.served.answered.engine;
     show = s.served.answered.show;
     layers = s.served.answered.layers;
@@ -211,7 +264,7 @@ module _ (first old : LineServer) (text piece left : List ℕ) (before at : Outf
             (subst (λ (t : List ℕ). HasTaken feed t) (append_assoc text s.eaten (its.head ++ 10 ∷ [])) its.taken);
         answered = subst (λ (l : List Asked). HaveAnswered first new l before now) (sym lines-are)
             (answered-more first (with_feed old feed) new (all_asked (whole_lines (text ++ s.eaten))) (asked_by line)
-            before at now result fed one wrote);
+            before at now result stands one wrote);
       };
     }
 
@@ -220,7 +273,7 @@ module _ (first old : LineServer) (text piece left : List ℕ) (before at : Outf
     serving-stopped wrote =
         let more = whole-grow (text ++ eaten) rest in
         stopped-more first (with_feed old feed) new (all_asked (whole_lines (text ++ s.eaten))) (asked_by line)
-        before at now result fed one more.0 (all_asked (whole_lines (text ++ piece)))
+        before at now result stands one more.0 (all_asked (whole_lines (text ++ piece)))
         (ap (λ (t : List ℕ). all_asked (whole_lines t))
         (ap (λ (p : List ℕ). text ++ p) parts ∙ sym (append_assoc text eaten rest))
         ∙ more.1 ∙ ap (λ (l : List Asked). l ++ more.0) lines-are) wrote
@@ -236,7 +289,7 @@ module _ (first old : LineServer) (text piece left : List ℕ) (before at : Outf
         fed = subst (λ (t : List ℕ). HasTaken feed t) (sym whole) its.taken;
         answered = subst (λ (l : List Asked). HaveAnswered first (with_feed old feed) l before at)
             (sym (ap (λ (t : List ℕ). all_asked (whole_lines t)) whole
-            ∙ ap (λ (l : List FedLine). all_asked l) its.none)) fed;
+            ∙ ap (λ (l : List FedLine). all_asked l) its.none)) stands;
       }
 
 -- the end

@@ -1,6 +1,6 @@
 //! A session that knows which cells are joined.
 
-ghost use Rattle.std.specs.Prelude.{◌≡◌, ◌↔◌, IfOk, IsTrue, true};
+ghost use Rattle.std.specs.Prelude.{◌≡◌, ◌↔◌, IfOk, IsTrue, codes, true};
 ghost use Rattle.grid_moves.specs.Layers as spec;
 ghost use Rattle.joined_cells.specs.Joined.{IsJoined};
 ghost use Rattle.nearest_cell.specs.Nearest.{IsNearest};
@@ -85,17 +85,17 @@ impl JoinedSession {
         ensures engine { self.new.engine ≡ self.old.engine }
     {
         let Some(c) = self.session.cell_at(x, y) else {
-            return EditReply::Outside;
+            return self.session.edit(x, y, to, steps);
         };
-        let reply = self.session.edit(x, y, to, steps);
-        match reply {
+        match self.session.edit(x, y, to, steps) {
             EditReply::Done => {
                 self.land.set(c, to == Ground::Land);
                 self.water.set(c, to == Ground::Water);
+                EditReply::Done
             }
-            EditReply::Same | EditReply::Outside => (),
+            EditReply::Same => EditReply::Same,
+            EditReply::Outside => EditReply::Outside,
         }
-        reply
     }
 
     // Whether a walk leads from one cell to the other, by at most one pass.
@@ -114,7 +114,7 @@ impl JoinedSession {
     }
 
     // The nearest cell to a goal of the map to which a walk leads, by at most one pass.
-    fn nearest(&mut self, s: Cell, goal: Cell) -> Cell
+    fn nearest_to(&mut self, s: Cell, goal: Cell) -> Cell
         requires free { spec.is_free_ground self.old.layers s ≡ true }
         requires goal { spec.is_on_map self.old.layers goal ≡ true }
         ensures nearest { IsNearest (spec.query_grid self.old.layers s) s goal result }
@@ -130,18 +130,26 @@ impl JoinedSession {
         }
     }
 
-    // Whether both ends are free in one layer and no walk joins them.
-    fn are_parted(&mut self, sx: u32, sy: u32, gx: u32, gy: u32) -> bool
-        ensures parted { result ≡ true
-            → (spec.in_one_layer self.old.layers (cell_at sx sy) (cell_at gx gy) ≡ true)
-            × ¬ IsJoined (spec.query_grid self.old.layers (cell_at sx sy)) (cell_at sx sy) (cell_at gx gy) }
+    // Whether labels show that the line of the reply is `none`: the ends are free in one layer, and no walk joins them.
+    fn is_none(&mut self, show: Show, sx: u32, sy: u32, gx: u32, gy: u32) -> bool
+        ensures none { result ≡ true → codes "none\n"
+            ≡ query_line self.old.engine show self.old.layers (cell_at sx sy) (cell_at gx gy) }
         ensures unchanged { self.new ≡ self.old }
     {
+        if show == Show::Trace {
+            return false;
+        }
         let layers = self.session.layers();
-        let (Some(s), Some(t)) = (layers.cell_at(sx, sy), layers.cell_at(gx, gy)) else {
+        let Some(s) = layers.cell_at(sx, sy) else {
             return false;
         };
-        layers.in_one_layer(s, t) && !self.are_joined(s, t)
+        let Some(t) = layers.cell_at(gx, gy) else {
+            return false;
+        };
+        if !layers.in_one_layer(s, t) {
+            return false;
+        }
+        !self.are_joined(s, t)
     }
 
     /// The line of the reply to a query.
@@ -159,8 +167,9 @@ impl JoinedSession {
             (cell_at sx sy) (cell_at gx gy)) }
         ensures unchanged { self.new ≡ self.old }
     {
-        if show != Show::Trace && self.are_parted(sx, sy, gx, gy) {
-            return Vec::from_slice(alloc, b"none\n");
+        if self.is_none(show, sx, sy, gx, gy) {
+            let none = Vec::from_slice(alloc, b"none\n")?;
+            return Ok(none);
         }
         let reply = self.session.query(alloc, sx, sy, gx, gy, steps)?;
         let mut text = Vec::new(alloc);
@@ -184,13 +193,20 @@ impl JoinedSession {
         ensures unchanged { self.new ≡ self.old }
     {
         let layers = self.session.layers();
-        let (Some(s), Some(goal)) = (layers.cell_at(sx, sy), layers.cell_at(gx, gy)) else {
-            return Vec::from_slice(alloc, b"outside\n");
+        let Some(s) = layers.cell_at(sx, sy) else {
+            let outside = Vec::from_slice(alloc, b"outside\n")?;
+            return Ok(outside);
+        };
+        let Some(goal) = layers.cell_at(gx, gy) else {
+            let outside = Vec::from_slice(alloc, b"outside\n")?;
+            return Ok(outside);
         };
         if !layers.is_free_ground(s) {
-            return Vec::from_slice(alloc, b"blocked\n");
+            let blocked = Vec::from_slice(alloc, b"blocked\n")?;
+            return Ok(blocked);
         }
-        let c = self.nearest(s, goal);
-        self.query_text(alloc, show, sx, sy, u32::from(c.x), u32::from(c.y), steps)
+        let c = self.nearest_to(s, goal);
+        let text = self.query_text(alloc, show, sx, sy, u32::from(c.x), u32::from(c.y), steps)?;
+        Ok(text)
     }
 }

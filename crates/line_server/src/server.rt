@@ -26,14 +26,22 @@ pub struct LineServer {
     feed: LineFeed,
 }
 
+// Writes a text, or a first part of it where a write fails.
+fn write_text<O: Sink>(out: &mut O, text: &[u8]) -> Result<(), WriteFault>
+    ensures wrote { WritesText text.now (O.outflow out.old) (O.outflow out.new) result }
+    ensures later { (O.outflow out.old).faults ≤ (O.outflow out.new).faults }
+{
+    write_whole(out, text)
+}
+
 // Writes a text, or `memory`, where it could not be made.
 fn write_made<O: Sink>(out: &mut O, text: Result<Vec<u8>, NoMemory>) -> Result<(), WriteFault>
     ensures wrote { WritesText (spec.text_or_memory text) (O.outflow out.old) (O.outflow out.new) result }
     ensures later { (O.outflow out.old).faults ≤ (O.outflow out.new).faults }
 {
     match text {
-        Ok(text) => write_whole(out, text.as_slice()),
-        Err(_) => write_whole(out, b"memory\n"),
+        Ok(text) => write_text(out, text.as_slice()),
+        Err(_) => write_text(out, b"memory\n"),
     }
 }
 
@@ -44,8 +52,9 @@ impl LineServer {
         ensures show { IfOk result (λ s. s.show ≡ show) }
         ensures begun { IfOk result (λ s. (out : _) → HasServed s s [] out out) }
     {
+        let session = JoinedSession::new(alloc, session)?;
         Ok(LineServer {
-            session: JoinedSession::new(alloc, session)?,
+            session,
             show,
             feed: LineFeed::new(),
         })
@@ -100,11 +109,11 @@ impl LineServer {
     {
         match asked {
             Asked::Nothing => Ok(()),
-            Asked::Refused => write_whole(out, b"refused T1\n"),
-            Asked::TooLong => write_whole(out, b"refused T2\n"),
+            Asked::Refused => write_text(out, b"refused T1\n"),
+            Asked::TooLong => write_text(out, b"refused T2\n"),
             Asked::Edit { x, y, to } => {
                 let reply = self.session.edit(x, y, to, steps);
-                write_whole(out, edit_bytes(reply))
+                write_text(out, edit_bytes(reply))
             }
             Asked::Query { sx, sy, gx, gy } => {
                 let text = self
