@@ -4,33 +4,27 @@
 //     const { status, out, err } = await answer(["query", "m", "1", "1", "23", "23"], { m: map });
 //
 // The words are those of the command line, the files are all that there are, as bytes or text by their names, and the
-// input is what `live` reads. `out` and `err` are bytes: those that the program prints. As a command,
-//
-//     node jps.mjs query maps/game49.map 1 1 23 23
-//
-// prints what ./jps prints; by `live` it answers once its input has ended.
+// input is what `live` reads. `out` and `err` are bytes: those that the program prints. As a command, `node jps.mjs`
+// and the same words, it prints what ./jps prints; by `live` it answers once its input has ended.
 
 // The sum of the jps.wasm that belongs to this file (SHA-256): tools/ship writes it.
 const SUM = "";
 
 const IN_NODE = typeof process === "object" && Boolean(process.versions?.node);
 
-// A module that has nothing but a 64-bit memory.
-const WIDE = new Uint8Array([0, 97, 115, 109, 1, 0, 0, 0, 5, 3, 1, 4, 1]);
-
 // Room for what is printed, in bytes: where it is too small, the module says how much it takes.
 const ROOMS = [2 ** 20, 2 ** 12];
 
-const OUT_OF_MEMORY = { status: 6, out: new Uint8Array(), err: new TextEncoder().encode("jps: memory\n") };
-
 const bytesOf = (text) => (typeof text === "string" ? new TextEncoder().encode(text) : text);
+const OUT_OF_MEMORY = { status: 6, out: new Uint8Array(), err: bytesOf("jps: memory\n") };
 
-// Whether there are 64-bit memories here: Node 20 and 22 have them behind a flag.
+// Whether there are 64-bit memories here, as in a module of nothing else: Node 20 and 22 have them behind a flag.
 async function isWide() {
-  if (WebAssembly.validate(WIDE)) return true;
+  const wide = new Uint8Array([0, 97, 115, 109, 1, 0, 0, 0, 5, 3, 1, 4, 1]);
+  if (WebAssembly.validate(wide)) return true;
   if (!IN_NODE) return false;
   (await import("node:v8")).setFlagsFromString("--experimental-wasm-memory64");
-  return WebAssembly.validate(WIDE);
+  return WebAssembly.validate(wide);
 }
 
 async function fetched(url) {
@@ -61,7 +55,6 @@ let instance; // what answers: a new one where a call broke off
 
 /** Takes the bytes of jps.wasm, where these are at hand. Else they are read from beside this file. */
 export const load = (bytes) => (ready = compiled(bytes));
-
 const found = () => (ready ??= fetched(new URL("jps.wasm", import.meta.url)).then(compiled));
 
 // The names of the files that a call may read: of `tables=NAME`, and the first words behind the command; three at most.
@@ -72,26 +65,24 @@ function namesOf(words, has) {
 
 const bytesAt = (at, count) => new Uint8Array(instance.exports.memory.buffer, Number(at), count);
 
-// Puts bytes into the module's memory; gives where they lie, and how many they are.
-function put(bytes) {
-  const at = instance.exports.jps_room(BigInt(bytes.length));
-  if (at === 0n) throw OUT_OF_MEMORY;
-  bytesAt(at, bytes.length).set(bytes);
-  return [at, BigInt(bytes.length)];
-}
-
+// Room in the module's memory: where it lies, and how many bytes it has.
 function room(count) {
   const at = instance.exports.jps_room(BigInt(count));
   if (at === 0n) throw OUT_OF_MEMORY;
   return [at, BigInt(count)];
 }
 
-const ended = (words) => words.map((it) => `${it}\0`).join("");
+function put(bytes) {
+  const [at, count] = room(bytes.length);
+  bytesAt(at, bytes.length).set(bytes);
+  return [at, count];
+}
 
 // One call, with this much room for what is printed.
 function call(words, names, texts, input, rooms) {
   instance.exports.jps_reset();
-  const given = [ended(words), ended(names), texts[0] ?? "", texts[1] ?? "", texts[2] ?? "", input];
+  const [said, named] = [words, names].map((them) => them.map((it) => `${it}\0`).join(""));
+  const given = [said, named, texts[0] ?? "", texts[1] ?? "", texts[2] ?? "", input];
   const handed = given.flatMap((it) => put(bytesOf(it)));
   const [out, err, told] = [...rooms, 16].map(room);
   const status = instance.exports.jps_answer(...handed, ...out, ...err, told[0]);
@@ -127,30 +118,32 @@ function write(fs, stream, bytes) {
   return true;
 }
 
-// The bytes of a regular file, or nothing.
-function read(name, fs) {
+// The bytes of a regular file or, under the name 0, of the input; or nothing.
+function read(fs, name) {
   try {
-    return fs.statSync(name).isFile() ? fs.readFileSync(name) : undefined;
+    return name === 0 || fs.statSync(name).isFile() ? fs.readFileSync(name) : undefined;
   } catch {
     return undefined;
   }
 }
 
 // The command line.
-async function main(words, fs) {
-  const files = {};
-  namesOf(words, (name) => (files[name] = read(name, fs)));
-  const { status, out, err } = await answer(words, files, words[0] === "live" ? fs.readFileSync(0) : "");
-  const isWritten = write(fs, 1, out);
-  write(fs, 2, isWritten ? err : bytesOf("jps: write\n"));
-  process.exitCode = isWritten ? status : 5;
+async function main(fs, words) {
+  const files = Object.create(null);
+  namesOf(words, (name) => (files[name] = read(fs, name)));
+  const input = words[0] === "live" ? read(fs, 0) : "";
+  let { status, out, err } = await answer(words, files, input);
+  if (status === 0 && input === undefined) [status, err] = [4, bytesOf("jps: read\n")];
+  if (!write(fs, 1, out)) [status, err] = [5, bytesOf("jps: write\n")];
+  write(fs, 2, err);
+  process.exitCode = status;
 }
 
-if (IN_NODE && process.argv[1]) {
-  const fs = await import("node:fs");
-  const { pathToFileURL } = await import("node:url");
-  if (import.meta.url === pathToFileURL(fs.realpathSync(process.argv[1])).href)
-    await main(process.argv.slice(2), fs).catch((fault) => {
+if (IN_NODE) {
+  const [fs, { pathToFileURL }] = [await import("node:fs"), await import("node:url")];
+  const asked = process.argv[1] ?? "";
+  if (fs.existsSync(asked) && import.meta.url === pathToFileURL(fs.realpathSync(asked)).href)
+    await main(fs, process.argv.slice(2)).catch((fault) => {
       process.stderr.write(`jps.mjs: ${fault.message}\n`);
       process.exitCode = 126;
     });

@@ -99,10 +99,11 @@ taken rattle_realloc(void *at, size_t old, size_t size, size_t least) {
     if (want <= it->size) return told(at);
     if (is_last(it) && want <= MOST) {
         uint64_t wide = size_of(class_of(want));
-        if (!reaches((uint64_t)at + wide)) return told(NULL);
-        it->size = wide;
-        end = (uint64_t)at + wide;
-        return told(at);
+        if (reaches((uint64_t)at + wide)) {
+            it->size = wide;
+            end = (uint64_t)at + wide;
+            return told(at);
+        }
     }
     void *now = jps_room(want);
     if (!now) return told(NULL);

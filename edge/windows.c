@@ -94,8 +94,9 @@ static int64_t failed(void) {
     return -1;
 }
 
-// A name in UTF-16, absolute, and with the prefix by which the system takes names of over 260 signs. Null, and errno,
-// where it is no name or memory is wanting.
+// A name in UTF-16. One that is longer than the system takes otherwise (260 signs) is made whole, behind the prefix of
+// such names: on another machine's disk (\\there\..) another one than here. Null, and errno, where it is no name or memory
+// is wanting.
 static wchar_t *wide_name(const char *name) {
     int n = MultiByteToWideChar(CP_UTF8, MB_ERR_INVALID_CHARS, name, -1, NULL, 0);
     wchar_t *wide = n > 0 ? malloc((size_t)n * sizeof *wide) : NULL;
@@ -103,11 +104,17 @@ static wchar_t *wide_name(const char *name) {
     if (wide == NULL) return NULL;
     MultiByteToWideChar(CP_UTF8, 0, name, -1, wide, n);
     DWORD room = GetFullPathNameW(wide, 0, NULL, NULL);
-    if (n <= 1 || room < MAX_PATH - 12 || wcsncmp(wide, L"\\\\", 2) == 0) return wide;
-    wchar_t *whole = malloc((room + 4) * sizeof *whole);
+    if (room < MAX_PATH - 12 || wcsncmp(wide, L"\\\\?\\", 4) == 0) return wide;
+    // (The prefix takes at most six signs more than what it stands for.)
+    wchar_t *whole = malloc((room + 6) * sizeof *whole);
     if (whole != NULL) {
-        memcpy(whole, L"\\\\?\\", 4 * sizeof *whole);
-        GetFullPathNameW(wide, room, whole + 4, NULL);
+        wchar_t *at = whole + 6;
+        DWORD told = GetFullPathNameW(wide, room, at, NULL);
+        if (told == 0 || told >= room) at[0] = 0;
+        int is_far = wcsncmp(at, L"\\\\", 2) == 0;
+        const wchar_t *prefix = is_far ? L"\\\\?\\UNC" : L"\\\\?\\";
+        memmove(whole + wcslen(prefix), at + is_far, (wcslen(at + is_far) + 1) * sizeof *at);
+        memcpy(whole, prefix, wcslen(prefix) * sizeof *whole);
     }
     free(wide);
     return whole;
@@ -134,7 +141,8 @@ int64_t jps_open(const char *name, int flags, int mode) {
     return fd;
 }
 
-static unsigned at_most(uint64_t n) { return n > 1 << 20 ? 1 << 20 : (unsigned)n; }
+// (A console takes no more than some 60,000 bytes at once.)
+static unsigned at_most(uint64_t n) { return n > 1 << 15 ? 1 << 15 : (unsigned)n; }
 
 // read(fd, buf, n): some bytes, 0 at the end, -1 and errno on a fault.
 int64_t jps_read(int fd, void *buf, uint64_t n) { return _read(fd, buf, at_most(n)); }

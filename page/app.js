@@ -17,7 +17,8 @@ export const state = {
   showJumps: true,
   compare: false,
   answer: null,
-  edits: 0,
+  edits: 0, // that the program has taken, those that were taken back among them
+  changes: 0, // those of them that stand
   isNamed: true, // whether the map is one that can be opened by its name; else a link has its walls
   program: "jps",
   scen: null, // the paths of the files that were named
@@ -67,7 +68,7 @@ const lastPart = (path) => path.split("/").pop();
 /** The file of the map before edits; one that the page had made is named as the command that makes it names it. */
 export const firstMapWord = () => (state.made ? lastPart(state.map.path) : state.map.path);
 /** The file of the map as it is; behind an edit it is the one that is saved. */
-export const mapWord = () => (state.edits ? "edited.map" : firstMapWord());
+export const mapWord = () => (state.changes ? "edited.map" : firstMapWord());
 export const scenWord = () => (state.madeScen ? lastPart(state.scen) : state.scen);
 
 /** A command, and above it the commands that make its map and its scenario, where the page had them made. */
@@ -75,7 +76,7 @@ export function withMade(line, hasScen = false) {
   const lines = [line];
   const [name, ...numbers] = state.madeScen || [];
   if (hasScen && name) lines.unshift(`${commandLine([name, mapWord(), ...numbers])} > ${scenWord()}`);
-  if (state.made && !state.edits) lines.unshift(`${commandLine(state.made)} > ${firstMapWord()}`);
+  if (state.made && !state.changes) lines.unshift(`${commandLine(state.made)} > ${firstMapWord()}`);
   return lines.join("\n");
 }
 

@@ -322,6 +322,49 @@ def try_no_map(program, top, room):
         yield from place.end()
 
 
+def try_pipe(program, top, room):
+    """A pipe that takes the place of the map is not waited for, by who asks for it or by whoever comes later."""
+    path = f"{room}/said.map"
+    pathlib.Path(path).write_text("type octile\nheight 1\nwidth 1\nmap\n.\n", encoding="ascii")
+    place = Place(program, top, room, path)
+    try:
+        os.remove(path)
+        os.mkfifo(path)
+        yield from wrong([("a page of a pipe", place.send(open_request(place), 5), 200)])
+    except TimeoutError:
+        yield "a pipe in place of the map is waited for"
+        place.server.kill()
+    finally:
+        os.remove(path)
+        yield from place.end()
+
+
+def open_request(place):
+    return f"POST {place.home}open HTTP/1.1\r\nHost: {place.host}\r\nContent-Length: 2\r\n\r\n{{}}".encode()
+
+
+def try_site(program, top, room):
+    """A folder of files that fails midway: a line, and nothing is left."""
+    room = pathlib.Path(room)
+    for name in ("module/jps.mjs", "module/jps.wasm", "module/said", "file"):
+        (room / name).parent.mkdir(exist_ok=True)
+        (room / name).touch()
+    named = os.fsencode(room) + b"/module/\xff.map"
+    pathlib.Path(os.fsdecode(named)).touch()
+    (room / "link").symlink_to("none")
+    before = sorted(room.rglob("*"))
+    for what, told, limit in [
+        ("no name", [""], 100), ("a folder below a file", [room / "file/a"], 100), ("a link to nothing", [room / "link"], 100),
+        ("a long name", [room / ("x" * 300)], 100), ("little room", [room / "a/b"], 8),
+        ("a map's name in no UTF-8", [room / "a", named], 100),
+    ]:
+        call = [top / "jps-page", "--program", program, "--module", room / "module", "--site", *told]
+        shell = ["sh", "-c", f'ulimit -f {limit} && exec "$@"', "-", *call]
+        done = subprocess.run(shell, cwd=room, capture_output=True, timeout=60, check=False)
+        if done.returncode != 1 or not done.stderr.startswith(b"jps-page: ") or sorted(room.rglob("*")) != before:
+            yield f"--site, {what}: status {done.returncode}, {done.stderr[-200:]!r}, {sorted(room.rglob('*'))}"
+
+
 def wrong(answers):
     """Those answers that have another status than the wanted one."""
     for what, answer, wanted in answers:
@@ -331,6 +374,6 @@ def wrong(answers):
 
 def try_all(program, top):
     """Each fault in words."""
-    for part in (try_one_map, try_signals, try_no_map):
+    for part in (try_one_map, try_signals, try_no_map, try_pipe, try_site):
         with tempfile.TemporaryDirectory() as room:
             yield from part(program, top, room)

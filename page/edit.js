@@ -14,6 +14,7 @@ const undone = [];
 const waiting = []; // edits that were not sent yet
 let sending = null;
 let stroke = null;
+let kept = 0; // edits that can't be undone, as some behind them failed
 
 const chosen = (name) => document.querySelector(`input[name=${name}]:checked`).value;
 const verbOf = (byte) => VERBS[groundName(byte)];
@@ -139,6 +140,7 @@ async function sendWaiting() {
 
 /** Shows the map without the edits that the program has not answered. */
 async function takeBack(fault) {
+  kept = state.edits;
   waiting.length = done.length = undone.length = 0;
   showBanner(faultWords(fault)[0], "The edits that were under way are not on the map.");
   state.map.cells = await api.cells();
@@ -160,7 +162,8 @@ function showSaid(edits, answers) {
 function showButtons() {
   byId("undo").disabled = !done.length;
   byId("redo").disabled = !undone.length;
-  const count = done.reduce((sum, cells) => sum + cells.length, 0);
+  const count = kept + done.reduce((sum, cells) => sum + cells.length, 0);
+  state.changes = count;
   byId("edit-count").textContent = count ? `${count.toLocaleString("en")} edit${count === 1 ? "" : "s"}` : "";
   if (!state.map) return;
   const script = ["solve", firstMapWord(), "edited.script"];
@@ -184,7 +187,7 @@ export function beginEdit() {
   byId("save-script").onclick = () => save(api.savedScript, "edited.script");
   byId("copy-edit").onclick = (event) => copy(byId("edit-command").textContent, event.target);
   on("map", () => {
-    done.length = undone.length = waiting.length = 0;
+    kept = done.length = undone.length = waiting.length = 0;
     byId("edit-said").textContent = "";
     showButtons();
   });

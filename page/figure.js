@@ -32,16 +32,24 @@ function letters(cell, words, kind) {
   return made;
 }
 
+/** A colour of cells and what it means, for the caption. */
+function keyOf([kind, words]) {
+  const rect = (name) => svg("rect", { width: 16, height: 16, class: name });
+  return element("span", { className: "key" }, svg("svg", { viewBox: "0 0 16 16", "aria-hidden": "true" }, rect("cell"), rect(`on ${kind}`)), words);
+}
+
 /**
- * `box` is the figure's element; `rows` its map, `fixed` says which cells are no place for a wall, and `steps` makes the
- * steps: each has its words, and cells, lines and letters to be drawn.
+ * `box` is the figure's element; `rows` its map, `fixed` says which cells are no place for a wall, `key` what the colours
+ * mean, and `steps` makes the steps: each has its words, and cells, lines and letters to be drawn.
  */
 export class Figure {
-  constructor(box, { rows, rule = "none", hasRules = true, choices = [], fixed, steps }) {
+  constructor(box, { rows, rule = "none", choices = [], key, fixed, steps }) {
     Object.assign(this, { box, rows: [...rows], first: [...rows], rule, fixed, make: steps, at: 0, steps: [], cursor: null, asked: 0 });
     this.chosen = choices[0]?.[0];
     this.picture = svg("svg", { viewBox: `0 0 ${rows[0].length * CELL} ${rows.length * CELL}`, tabindex: 0, role: "application" });
-    this.picture.setAttribute("aria-label", `${box.querySelector("figcaption").textContent} Arrows move a cell, Enter draws or takes a wall.`);
+    const caption = box.querySelector("figcaption");
+    this.picture.setAttribute("aria-label", `${caption.textContent}: arrows move a cell, Enter draws or takes a wall`);
+    caption.append(...key.map(keyOf));
     this.words = element("p", { className: "step" });
     this.words.setAttribute("aria-live", "polite");
     this.back = element("button", { type: "button", onclick: () => this.go(this.at - 1) }, "◀");
@@ -52,7 +60,7 @@ export class Figure {
     const again = element("button", { type: "button", className: "quiet", onclick: () => this.reset() }, "Walls as at first");
     box.append(this.picture, element("div", { className: "row steps" }, this.back, this.on, this.count, again), this.words);
     if (choices.length) this.addChoice("choice", choices, (it) => (this.chosen = it));
-    if (hasRules) this.addChoice("corner rule", Object.entries(RULES).map(([it, words]) => [it, `${it}: ${words}`]), (it) => (this.rule = it));
+    this.addChoice("corner rule", Object.entries(RULES).map(([it, words]) => [it, `${it}: ${words}`]), (it) => (this.rule = it));
     this.listen();
     this.again();
   }
@@ -67,6 +75,7 @@ export class Figure {
       } }), element("span", {}, words))));
     group.setAttribute("role", "radiogroup");
     group.setAttribute("aria-label", what);
+    if (what === "corner rule") group.prepend(element("span", {}, "Corner rule"));
     this.box.append(group);
   }
 

@@ -16,7 +16,7 @@ function kindOf(bytes) {
 }
 
 /** What is said where a map with edits would be dropped. */
-export const lostWords = () => (state.edits ? `${state.edits.toLocaleString("en")} edits of this map are dropped: save it first (Edit).` : "");
+export const lostWords = () => (state.changes ? `${state.changes.toLocaleString("en")} edit${state.changes === 1 ? "" : "s"} of this map would be lost: save it first (Edit).` : "");
 
 async function takeFiles(files) {
   await opened;
@@ -77,5 +77,5 @@ export function beginFiles(take, whenOpened) {
     event.target.value = "";
   };
   // The walls of a small map stand in the address, so it is there again.
-  addEventListener("beforeunload", (event) => state.edits && !isSmall(state.map) && event.preventDefault());
+  addEventListener("beforeunload", (event) => state.changes && !isSmall(state.map) && event.preventDefault());
 }

@@ -4,9 +4,10 @@ import * as api from "./api.js";
 import { byId, faultWords, showBanner } from "./app.js";
 import { Figure } from "./figure.js";
 import { Replay, Rules, cellAfter, estimateOf, isDiagonal } from "./jumps.js";
-import { DIRECTIONS, readAnswer } from "./lines.js";
+import { readAnswer } from "./lines.js";
 import { beginTheme } from "./theme.js";
 
+const WAYS = ["up", "up and right", "right", "down and right", "down", "down and left", "left", "up and left"];
 const bytesOf = (words) => new TextEncoder().encode(words);
 const same = (one, other) => one.x === other.x && one.y === other.y;
 const told = ({ x, y }) => `(${x},${y})`;
@@ -41,12 +42,15 @@ const ARRIVALS = {
 const arrivalOf = (figure) => ARRIVALS[figure.chosen];
 const marks = ({ from }) => [{ cell: from, words: ">" }, { cell: X, words: "x" }];
 
-/** What the program's walks say of each neighbour of x: it is kept where its walk goes over x, right before it. */
+/**
+ * What the program's walks say of each neighbour of x: it is kept where its walk goes over x, right before it. None,
+ * where the move from > to x is not legal.
+ */
 async function neighbours(rows, rule, { from, natural }) {
   const all = [0, 1, 2, 3, 4, 5, 6, 7].map((d) => ({ d, cell: cellAfter(X, d) }))
     .filter(({ cell }) => !same(cell, from) && rows[cell.y][cell.x] !== "@");
-  const found = await walks(rows, rule, all.map(({ cell }) => [from, cell]));
-  return all.map((it, at) => {
+  const [came, ...found] = await walks(rows, rule, [X, ...all.map(({ cell }) => cell)].map((cell) => [from, cell]));
+  return came?.points.length !== 2 ? null : all.map((it, at) => {
     const points = found[at]?.points ?? [], last = points[points.length - 2];
     const isKept = points.length > 2 && same(last, X);
     return { ...it, walk: found[at], isKept, isForced: isKept && !natural.includes(it.d) };
@@ -64,36 +68,39 @@ function neighbourStep(it, arrival) {
   return { words, cells: [{ ...it.cell, kind }], lines: it.walk ? linesOf(it.walk.points, "walk") : [], letters: marks(arrival) };
 }
 
+const lost = (rule, arrival) => ({ words: `Under ${rule} the move from > to x cuts a corner, and is not legal: with such a wall nobody comes to x this way.`, letters: marks(arrival) });
+
 async function prunedSteps(figure) {
   const arrival = arrivalOf(figure);
   const all = await neighbours(figure.rows, figure.rule, arrival);
-  const [came] = await walks(figure.rows, figure.rule, [[arrival.from, X]]);
-  if (came?.points.length !== 2) return [{ words: "Under this rule the move from > to x is not legal: take a wall away.", letters: marks(arrival) }];
+  if (!all) return [lost(figure.rule, arrival)];
   const kept = all.filter((it) => it.isKept);
   const cells = all.map((it) => ({ ...it.cell, kind: it.isForced ? "forced" : it.isKept ? "kept" : "pruned" }));
   const lines = [{ from: arrival.from, to: X, kind: "walk" }, ...kept.map(({ cell }) => ({ from: X, to: cell, kind: "ray", isArrow: true }))];
   return [
-    { words: "The search came from > to x. Where does it have to go on? Step through the neighbours.", letters: marks(arrival), lines: lines.slice(0, 1) },
+    { words: "The search came from > to x. Which neighbours does x need? Step through them.", letters: marks(arrival), lines: lines.slice(0, 1) },
     ...all.map((it) => neighbourStep(it, arrival)),
-    { words: `So of ${all.length} neighbours x hands on ${kept.length}, and prunes the others.`, cells, lines, letters: marks(arrival) },
+    { words: `So x puts ${kept.length} of its ${all.length} neighbours on the list, and prunes the others.`, cells, lines, letters: marks(arrival) },
   ];
 }
 
 async function forcedSteps(figure) {
   const arrival = arrivalOf(figure), open = ["...", "...", "..."];
   const byRule = {};
-  for (const rule of ["none", "one", "both"]) byRule[rule] = (await neighbours(figure.rows, rule, arrival)).filter((it) => it.isForced);
+  for (const rule of ["none", "one", "both"]) byRule[rule] = (await neighbours(figure.rows, rule, arrival))?.filter((it) => it.isForced);
   const forced = byRule[figure.rule];
+  if (!forced) return [lost(figure.rule, arrival)];
   const before = await walks(open, figure.rule, forced.map(({ cell }) => [arrival.from, cell]));
   const steps = forced.flatMap((it, at) => [
     { words: `On open ground the least path to ${told(it.cell)} costs ${costWords(before[at].cost)}, and does not need x.`, cells: [{ ...it.cell, kind: "pruned" }],
       lines: linesOf(before[at].points, "other"), letters: marks(arrival) },
-    { ...neighbourStep(it, arrival), words: `The wall closes that path. The least one now costs ${costWords(it.walk.cost)}, and goes over x: ${told(it.cell)} is a forced neighbour.` },
+    { ...neighbourStep(it, arrival), words: `A wall closes that path. The least one now costs ${costWords(it.walk.cost)}, and goes over x: ${told(it.cell)} is a forced neighbour.` },
   ]);
-  const count = (rule) => `under ${rule} ${byRule[rule].map(({ cell }) => told(cell)).join(" and ") || "nothing"}`;
+  const count = (rule) => `under ${rule} ${byRule[rule]?.map(({ cell }) => told(cell)).join(" and ") || "nothing"}`;
   const cells = forced.map(({ cell }) => ({ ...cell, kind: "forced" }));
   const words = `Forced by these walls: ${count("none")}; ${count("one")}; ${count("both")}.`;
-  return [...steps, { words, cells, letters: marks(arrival) }];
+  const lines = [{ from: arrival.from, to: X, kind: "walk" }, ...forced.map(({ cell }) => ({ from: X, to: cell, kind: "ray", isArrow: true }))];
+  return [...steps, { words, cells, lines, letters: marks(arrival) }];
 }
 
 // 3 and 4: one jump
@@ -110,16 +117,17 @@ async function entryOf(rows, rule, { x, y }, d) {
 async function jumpEnd(figure, start, jump, base) {
   const entry = await entryOf(figure.rows, figure.rule, start, jump.d);
   figure.box.dataset.agrees = String(entry === (jump.stop ? jump.count : -jump.count));
-  const says = `The program's table has ${entry} for this cell and direction.`;
+  const says = `The program's own table of jumps has ${entry} here`;
   if (!jump.stop) {
-    return { ...base, words: `The run ends after ${jump.count} moves, and nothing was forced: the jump offers nothing. ${says}` };
+    return { ...base, words: `The run ends after ${jump.count} moves, and nothing was forced: nothing goes on the list. ${says}: minus, as there is no jump point.` };
   }
   const why = jump.stop.why === "forced" ? `${told(jump.stop.to)} is a forced neighbour, by the wall at ${told(jump.stop.wall)}`
-    : `its look ${DIRECTIONS[jump.stop.d]} meets a jump point at ${told(jump.stop.at)}`;
+    : `its look ${WAYS[jump.stop.d]} meets a jump point at ${told(jump.stop.at)}`;
   const cost = costWords(isDiagonal(jump.d) ? [0, jump.count] : [jump.count, 0]);
-  return { ...base, cells: [...base.cells, { ...jump.cell, kind: "stop" }, ...(jump.stop.to ? [{ ...jump.stop.to, kind: "forced" }] : [])],
+  const turn = jump.stop.to ?? jump.stop.then.to;
+  return { ...base, cells: [...base.cells, { ...jump.cell, kind: "stop" }, { ...turn, kind: "forced" }],
     lines: [{ from: start, to: jump.cell, kind: "ray", isArrow: true }],
-    words: `${told(jump.cell)} is a jump point: ${why}. It goes on the open list, ${cost} away. ${says}` };
+    words: `${told(jump.cell)} is a jump point: ${why}. It goes on the list, at ${cost} more than s. ${says}.` };
 }
 
 const LEFT = { x: 1, y: 2 };
@@ -144,7 +152,7 @@ async function diagonalSteps(figure) {
   const jump = rules.jump(CORNER, 1);
   const letters = [{ cell: CORNER, words: "s" }], cells = [], steps = [];
   const add = (words, more = []) => steps.push({ words, cells: [...cells, ...more], letters, lines: [{ from: CORNER, to: cells[cells.length - 1] ?? CORNER, kind: "ray" }] });
-  add("A jump from s to the upper right. Behind a diagonal move up, right and both at once are natural.");
+  add("A jump from s up and right. Behind this move three neighbours are natural: up, right, and up and right.");
   for (const cell of cellsAlong(CORNER, 1, jump.count)) {
     cells.push({ ...cell, kind: "looked" });
     const looks = jump.looks.filter((it) => same(it.from, cell));
@@ -152,16 +160,17 @@ async function diagonalSteps(figure) {
     for (const look of looks) {
       const run = cellsAlong(cell, look.d, look.count).map((it) => ({ ...it, kind: "aside" }));
       const what = look.stop ? `it meets a jump point at ${told(look.cell)}` : look.count ? "a wall or the edge comes first: nothing" : "there is no room";
-      add(`${told(cell)} looks ${DIRECTIONS[look.d]}, as a straight jump would: ${what}.`, run);
+      add(`${told(cell)} looks ${WAYS[look.d]}, as a straight jump would: ${what}.`, run);
+      if (look.stop) cells.push(...run.slice(0, -1), { ...look.cell, kind: "stop" });
     }
   }
-  return [...steps, await jumpEnd(figure, CORNER, jump, { cells: [...cells], letters })];
+  return [...steps, await jumpEnd(figure, CORNER, jump, { cells, letters })];
 }
 
 // 5: a whole search
 
 const START = { x: 1, y: 7 }, GOAL = { x: 9, y: 1 };
-const ENDS = [{ cell: START, words: "S", kind: "end" }, { cell: GOAL, words: "G", kind: "end" }];
+const ENDS = [{ cell: START, words: "S", kind: "start" }, { cell: GOAL, words: "G", kind: "goal" }];
 
 async function answersOf(rows, rule) {
   const ends = [START.x, START.y, GOAL.x, GOAL.y].map(String);
@@ -170,27 +179,31 @@ async function answersOf(rows, rule) {
   return both.map(({ out }, at) => ({ ...readAnswer(bytesOf(out.trimEnd())), words: { engine: "jps", states: at ? "cell" : "arrival" } }));
 }
 
+const counted = (count, what) => `${count} ${what}${count === 1 ? "" : "s"}`;
+
 /** What one state reads: cells of runs, whole lines of bits, or entries of the tables. */
 function readOf(node, mode, rows) {
   const straights = node.offers.flatMap((it) => (isDiagonal(it.d) ? it.looks : [{ from: node.cell, ...it }]));
-  if (mode === "tables") return { words: `It looks up ${node.offers.length} jump${node.offers.length === 1 ? "" : "s"}.`, cells: [] };
+  if (mode === "tables") return { words: `It looks up ${counted(node.offers.length, "jump")}.`, cells: [] };
   if (mode === "blocks") {
     const lines = new Set(straights.map(({ from, d }) => (d % 4 === 2 ? `y${from.y}` : `x${from.x}`)));
     const isRead = (x, y) => lines.has(`y${y}`) || lines.has(`x${x}`);
     const cells = rows.flatMap((row, y) => [...row].map((_, x) => ({ x, y, kind: "bits" }))).filter(({ x, y }) => isRead(x, y));
-    return { words: `It reads ${lines.size} rows and columns, each with those beside it, at once as bits.`, cells };
+    return { words: `It reads ${lines.size === 1 ? "one row or column" : `${lines.size} rows and columns`} as bits, each at once with those beside it.`, cells };
   }
   const runs = node.offers.flatMap((it) => [...cellsAlong(node.cell, it.d, it.count), ...it.looks.flatMap((look) => cellsAlong(look.from, look.d, look.count))]);
-  return { words: `It looks at ${runs.length} cell${runs.length === 1 ? "" : "s"}.`, cells: runs.map((cell) => ({ ...cell, kind: "looked" })) };
+  return { words: `It looks at ${counted(runs.length, "cell")}.`, cells: runs.map((cell) => ({ ...cell, kind: "looked" })) };
 }
 
 function searchStep(node, at, run, { chosen, rows }) {
   const read = readOf(node, chosen, rows);
   const stops = node.offers.filter((it) => it.stop);
   const isGoal = same(node.cell, GOAL);
-  const came = node.arrival < 8 ? `, come to by ${DIRECTIONS[node.arrival]}` : "";
-  const offers = stops.length ? `offers ${stops.map((it) => told(it.cell)).join(", ")}` : "offers nothing";
-  const again = chosen === "cell" && node.equals.length ? ` ${node.equals.map((it) => told(it.cell)).join(", ")}: offered before at the same cost; what came first stays.` : "";
+  const came = node.arrival < 8 ? `, come to by a move ${WAYS[node.arrival]}` : "";
+  const offers = stops.length ? `puts ${stops.map((it) => told(it.cell)).join(", ")} on the list` : "puts nothing on the list";
+  const before = run.nodes.slice(0, at).filter(({ cell }) => same(cell, node.cell)).map((it) => it.at + 1);
+  const again = before.length ? ` State ${before.join(" and ")} had this cell, too, by another arrival: it is searched from once more.`
+    : chosen === "cell" && node.equals.length ? ` ${node.equals.map((it) => told(it.cell)).join(", ")} was there before at the same cost: what came first stays.` : "";
   return {
     words: `State ${at + 1}: ${told(node.cell)}${came}. So far ${costWords(node.cost)}, estimate ${costWords(estimateOf(node.cell, GOAL))}. `
       + (isGoal ? "It is the goal." : `${read.words} It ${offers}.${again}`),
@@ -216,8 +229,8 @@ function swapStep(run, rules) {
     for (const turn of rules.allowed(cell, d).filter((it) => isDiagonal(it) && !kept.includes(it))) {
       const [first, end] = [cellAfter(begin, turn), cellAfter(cell, turn)];
       if (!rules.isLegal(begin, turn) || !isRun(rules, first, stays.arrival, stays.jump.count)) continue;
-      return { words: `Nothing is lost. At ${told(cell)} the dropped arrival alone would turn ${DIRECTIONS[turn]}. The one that stays came by ${DIRECTIONS[stays.arrival]} from ${told(begin)}: `
-        + `make the diagonal first, there. By ${told(first)} the path to ${told(end)} costs the same, and the search goes it.`,
+      return { words: `Nothing is lost. At ${told(cell)} the dropped arrival alone would turn ${WAYS[turn]} (dashed). The one that stays came ${WAYS[stays.arrival]} from ${told(begin)}: `
+        + `make the diagonal move first, there. The path over ${told(first)} to ${told(end)} costs the same, and the search finds it.`,
       letters: ENDS, cells: [{ ...cell, kind: "pruned" }, { ...end, kind: "kept" }],
       lines: [...linesOf([begin, cell, end], "other"), ...linesOf([begin, first, end], "walk")] };
     }
@@ -229,8 +242,11 @@ async function searchSteps(figure) {
   const [byArrival, byCell] = await answersOf(figure.rows, figure.rule);
   const answer = figure.chosen === "cell" ? byCell : byArrival;
   const rules = new Rules(mapOf(figure.rows), figure.rule, START, GOAL);
-  const run = new Replay(rules, answer);
-  const counts = `By arrival the search takes ${byArrival.states.count} states, with one state a cell ${byCell.states.count}.`;
+  const [arrivals, cells] = [byArrival, byCell].map((it) => new Replay(rules, it));
+  const run = answer === byCell ? cells : arrivals;
+  const twice = arrivals.nodes.length - new Set(arrivals.nodes.map(({ cell }) => told(cell))).size;
+  const counts = `By arrival the search takes ${counted(arrivals.nodes.length, "state")}${twice ? `, ${twice} of them at cells that it had taken before` : ""}, and looks at ${arrivals.counts.cells} cells; `
+    + `with one state a cell it takes ${cells.nodes.length}, and looks at ${cells.counts.cells}.`;
   const swap = figure.chosen === "cell" && swapStep(run, rules);
   const end = answer.kind === "walk" ? { words: `The least path costs ${costWords([answer.straight, answer.diagonal])}. ${counts}`, lines: linesOf(answer.points, "walk"), letters: ENDS }
     : { words: `Nothing waits any more: no path leads to the goal. ${counts}`, letters: ENDS };
@@ -242,26 +258,29 @@ async function searchSteps(figure) {
 
 const OPEN = ["...", "...", "..."];
 const BY = [["straight", "behind a straight move"], ["diagonal", "behind a diagonal move"]];
+const JUMPED = [["looked", "looked at"], ["stop", "jump point"], ["forced", "forced"]];
 const MODES = [["cells", "cell by cell"], ["blocks", "by blocks"], ["tables", "by tables"], ["cell", "one state a cell"]];
 
 function beginFigures() {
-  const pruning = { choices: BY, fixed: (it) => [X, arrivalOf(it).from] };
+  const pruning = { choices: BY, key: [["kept", "natural"], ["forced", "forced"], ["pruned", "pruned"]], fixed: (it) => [X, arrivalOf(it).from] };
   new Figure(byId("prune"), { ...pruning, rows: OPEN, steps: prunedSteps });
-  new Figure(byId("forced"), { ...pruning, rows: ["@..", "...", "..."], steps: forcedSteps });
-  new Figure(byId("straight"), { rows: ["...........", ".....@@....", "...........", "...........", "..........."], fixed: () => [LEFT], steps: straightSteps });
+  new Figure(byId("forced"), { ...pruning, rows: ["@..", "...", ".@."], steps: forcedSteps });
+  new Figure(byId("straight"), { rows: ["...........", ".....@@....", "...........", "...........", "..........."], key: JUMPED, fixed: () => [LEFT], steps: straightSteps });
   new Figure(byId("diagonal"), {
     rows: ["...........", "...........", ".......@...", ".......@...", "...........", "...........", "...........", "...........", "..........."],
-    fixed: () => [CORNER], steps: diagonalSteps,
+    key: JUMPED, fixed: () => [CORNER], steps: diagonalSteps,
   });
-  new Figure(byId("whole"), { rows: SEARCHED, choices: MODES, fixed: () => [START, GOAL], steps: searchSteps });
+  const key = [["stop", "taken now"], ["taken", "taken before"], ["looked", "looked at"]];
+  new Figure(byId("whole"), { rows: SEARCHED, choices: MODES, key, fixed: () => [START, GOAL], steps: searchSteps });
 }
 
 const SEARCHED = [
-  "...........", ".....@.....", ".@.........", ".......@...", "...@....@..", "...........", "..@@..@.@..", ".....@.....", "...........",
+  "........@.@", "....@.@....", "........@..", "......@.@@.", "...........", "..@........", "@..........", "..@....@.@@", ".....@...@.",
 ];
 
 async function begin() {
   beginTheme(byId("theme"), () => {});
+  for (const it of document.querySelectorAll("a[href='./']")) [it.search, it.hash] = [location.search, location.hash];
   try {
     await api.open();
     api.stayOpen(() => showBanner("The program can't be reached."), () => {});

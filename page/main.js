@@ -75,7 +75,7 @@ export async function takeMap(told, isFirst = false) {
     return;
   }
   const cells = await during("Loading the map", () => api.cells());
-  Object.assign(state, { map: { width: told.width, height: told.height, cells, path: told.map }, edits: 0, answer: null });
+  Object.assign(state, { map: { width: told.width, height: told.height, cells, path: told.map }, edits: 0, changes: 0, answer: null });
   state.isNamed = !(told.made || told.isDropped || told.isLinked);
   hideBanner();
   byId("map-name").textContent = `${name} · ${told.width} × ${told.height}`;
@@ -115,6 +115,8 @@ function beginDialogs() {
   };
   byId("make-form").onsubmit = (event) => event.submitter?.value === "make" && makeMap(event.target);
   byId("stop").onclick = stopAll;
+  // The other page hands back what the address has, so that the way back leads to the same map and query.
+  for (const it of document.querySelectorAll("a[href^='jump.html']")) it.onclick = () => (it.search = location.search, it.hash = location.hash);
 }
 
 function keys(event) {

@@ -4,6 +4,9 @@ The program alone says what is wrong with a map. What is read here is only what 
 written is a map with the page's edits in it.
 """
 
+import os
+import stat
+
 MOST_BYTES = 1 << 26
 MOST_SIDE = 4096
 GROUNDS = b".GS@OTW"
@@ -53,10 +56,17 @@ def side(line, name):
     return number
 
 
+def read_file(path, most):
+    """What a file has, up to so many bytes. A pipe that has taken its place is not waited for."""
+    with open(path, "rb", opener=lambda name, flags: os.open(name, flags | os.O_NONBLOCK)) as file:
+        if not stat.S_ISREG(os.fstat(file.fileno()).st_mode):
+            raise OSError(f"{path} is no regular file")
+        return file.read(most)
+
+
 def read(path):
     """The map in a file."""
-    with open(path, "rb") as file:
-        text = file.read(MOST_BYTES + 1)
+    text = read_file(path, MOST_BYTES + 1)
     if len(text) > MOST_BYTES:
         raise NoMap
     lines = text.replace(b"\r\n", b"\n").split(b"\n")

@@ -12,7 +12,7 @@ const FORMS = {
   plus: (r) => `m0 ${-1.4 * r}l${1.4 * r} ${1.4 * r}l${-1.4 * r} ${1.4 * r}l${-1.4 * r} ${-1.4 * r}z`,
 };
 // Of many marks each is small, so that it is seen where most of them are.
-const MANY = 1500;
+const MANY = 1500, FEW = 150;
 
 function svg(name, attributes, ...children) {
   const made = document.createElementNS(NS, name);
@@ -64,7 +64,7 @@ export function plot(series, pick) {
     "aria-label": `Taken states against length, ${points.length} marks: the arrows go from mark to mark` },
   svg("title", {}, "Taken states against length"), axes(mostLength, powers, x, y));
   for (const engine of Object.keys(series)) {
-    const form = FORMS[engine](points.length > MANY ? 1 : 2.2);
+    const form = FORMS[engine](points.length > MANY ? 1 : points.length > FEW ? 2.2 : 3.2);
     const d = points.filter((it) => it.engine === engine)
       .map((it) => `M${x(it.length).toFixed(1)} ${y(it.taken).toFixed(1)}${form}`).join("");
     picture.append(svg("path", { d, class: `mark ${engine}` }));

@@ -91,7 +91,7 @@ function showCommand() {
   byId("command").textContent = withMade(commandLine(["query", mapWord(), ...endWords()], words));
   byId("draw-note").textContent = commandLine(["draw", mapWord(), ...endWords()], words) + " > walk.svg";
   byId("live-note").textContent = commandLine(["live", mapWord()], settings()) + `\nquery ${endWords().join(" ")}`;
-  if (state.edits) byId("draw-note").textContent += "   (save the edited map first: Edit)";
+  if (state.changes) byId("draw-note").textContent += "   (save the edited map first: Edit)";
 }
 
 function showEnds(isDragged = false) {
@@ -104,11 +104,15 @@ function showEnds(isDragged = false) {
 
 // The address behind `#`: the query, and the walls of a small map that has no name to be opened by.
 
-/** Browsers limit how often an address may change, so a drag changes it when it ends. */
+const QUIET = 250;
+let addressClock = null;
+
+/** Browsers limit how often an address may change, so a drag changes it when it ends, and a stroke when it rests. */
 function showAddress() {
+  clearTimeout(addressClock);
   if (!hasEnds()) return;
   const query = [...endWords(), state.engine, state.rule, ...(state.cellStates ? ["cell"] : [])].join(",");
-  const isDrawn = !state.isNamed || state.edits > 0;
+  const isDrawn = !state.isNamed || state.changes > 0;
   const walls = isDrawn && isSmall(state.map) ? `;map=${packed(state.map)}` : "";
   history.replaceState(null, "", `#${query}${walls}`);
   byId("link-note").textContent = isDrawn ? (walls ? "It has the walls, too." : "It has the query, not the map: that has more than 64 columns or rows.") : "";
@@ -199,9 +203,11 @@ export function beginQuery() {
     ask();
   });
   on("edited", () => {
-    showAddress();
+    clearTimeout(addressClock);
+    addressClock = setTimeout(showAddress, QUIET);
     ask();
   });
+  addEventListener("pagehide", () => addressClock && showAddress());
   on("answer", showAnswer);
   on("stop", () => asker.stop());
   on("map", () => {

@@ -45,7 +45,7 @@ function replay(view, answer) {
   const told = new Replay(rules, answer, MOST_LOOKS);
   if (!told.isWhole) return;
   view.replay = told;
-  if (told.isJumps && told.looked.x.length) view.looked = new LookedPicture(told.looked, state.theme);
+  if (told.isJumps && answer.words.engine !== "plus" && told.looked.x.length) view.looked = new LookedPicture(told.looked, state.theme);
 }
 
 /** How much an engine reads: cells, blocks of 512 bits, or entries of its tables. */
@@ -92,7 +92,7 @@ function caption(view, count) {
   const shown = Math.min(count, total);
   const told = shown < total ? `${counted(shown)} of ${counted(total)}` : counted(total);
   const read = readWords(view);
-  view.caption.replaceChildren(element("b", {}, view.name), ` ${told} states${read ? `, read ${read}` : ""}`);
+  view.caption.replaceChildren(element("b", {}, view.name), ` ${told} states`, element("span", {}, read ? `, read ${read}` : ""));
 }
 
 // Playing

@@ -30,6 +30,7 @@ from connections import Refused  # noqa: E402
 from programs import Fault, Gone, Program, TooMuch, is_closed  # noqa: E402
 from sessions import Session  # noqa: E402
 import given  # noqa: E402
+import maps  # noqa: E402
 import site_files  # noqa: E402
 
 HERE = pathlib.Path(__file__).resolve().parent
@@ -248,10 +249,10 @@ class Handler(http.server.BaseHTTPRequestHandler):
         if path is None:
             raise Refused(404, "no such file was named")
         try:
-            with open(path, "rb") as file:
-                self.answer(file.read(1 << 28))
+            data = maps.read_file(path, 1 << 28)
         except OSError:
             raise Fault(4, "jps: read") from None
+        self.answer(data)
 
     def saved(self, words, name):
         session = self.session_with_map(words.get("page", [""])[0])
@@ -441,7 +442,7 @@ def main():
     for path in filter(None, (told.map, told.scen, told.walks)):
         if not os.path.isfile(path):
             sys.exit(f"jps-page: there is no file {path}")
-    if told.site:
+    if told.site is not None:
         sys.exit(site_files.write(told.site, told.module, told.map, told.scen))
     try:
         program = Program(told.program)

@@ -4,6 +4,7 @@ What differs from the served page is the first tag of its two pages (which form 
 stands in the pages, as no server sends it.
 """
 
+import contextlib
 import hashlib
 import json
 import pathlib
@@ -49,21 +50,43 @@ def sums(folder):
     return "".join(lines)
 
 
+def empty(folder):
+    for it in folder.iterdir():
+        if it.is_dir():
+            shutil.rmtree(it)
+        else:
+            it.unlink()
+
+
 def write(told, module, map_path=None, scen_path=None):
-    """Writes the folder, which must not be there or be empty; returns what is wrong, or None."""
+    """Writes the folder, which must not be there or be empty; returns what is wrong, or None. What was written of one
+    that fails is taken away."""
     folder, module = pathlib.Path(told), pathlib.Path(module)
     for name in MODULE:
         if not (module / name).is_file():
             return f"jps-page: there is no {name} in {module}"
-    if folder.exists() and (not folder.is_dir() or any(folder.iterdir())):
-        return f"jps-page: {folder} is there, and not an empty folder"
-    (folder / "maps").mkdir(parents=True)
+    with contextlib.ExitStack() as undo:
+        try:
+            for it in reversed([it for it in (folder, *folder.parents) if not it.exists()]):
+                it.mkdir()
+                undo.callback(it.rmdir)
+            if not folder.is_dir() or any(folder.iterdir()):
+                return f"jps-page: {folder} is there, and not an empty folder"
+            undo.callback(empty, folder)
+            fill(folder, module, map_path, scen_path)
+            undo.pop_all()
+        except (OSError, ValueError) as fault:
+            return f"jps-page: {folder} was not written: {fault}"
+    return None
+
+
+def fill(folder, module, map_path, scen_path):
+    (folder / "maps").mkdir()
     for name in PAGES:
-        (folder / name).write_text(as_site((HERE / name).read_text()))
+        (folder / name).write_text(as_site((HERE / name).read_text("utf-8")), "utf-8")
     for path in [HERE / "style.css", HERE / "jump.css", HERE / "icon.svg", *sorted(HERE.glob("*.js")), *(module / it for it in MODULE)]:
         if path.name not in SERVER_ALONE:
             shutil.copyfile(path, folder / path.name)
     named = [(pathlib.Path(map_path), pathlib.Path(scen_path) if scen_path else None)] if map_path else []
     (folder / "site.json").write_text(json.dumps(copy_maps(folder, [*named, *MAPS]), indent=1) + "\n")
     (folder / "MANIFEST").write_text(sums(folder))
-    return None

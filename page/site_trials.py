@@ -64,23 +64,35 @@ def site_queries(tried):
     equal("the site's certificate", browser.downloaded("walk.cert").decode(), tried.jps("prove", tried.folder / "edited.map", 5, 5, 5, 40))
 
 
-def site_large(tried):
-    """512 by 512: how long an answer takes while an end is dragged; 4096 by 4096 is answered, and stopped."""
+# Keeps how long each answer took, and how long there was between two frames.
+WATCH = (
+    "import('./app.js').then(({on, state}) => { window.answers = []; window.gaps = []; let before = performance.now();"
+    " on('answer', () => state.answer && answers.push(state.answer.seconds * 1000));"
+    " const frame = (now) => { gaps.push(now - before); before = now; requestAnimationFrame(frame); }; requestAnimationFrame(frame); })"
+)
+
+
+def dragged(tried):
+    """How long an answer and a frame take while an end is dragged, on 512 by 512 and 4096 by 4096, in both forms."""
     browser = tried.browser
     for side in (512, 4096):
         path = tried.folder / f"site{side}.map"
         path.write_text(tried.jps("make", 9, side, side, 25))
         ends = tried.jps("problems", path, 9, 40).splitlines()[-1].split("\t")[4:8]
-        tried.site(path, hash_words="#" + ",".join([*ends, "block", "none"]))
         wanted = tried.jps("query", path, *ends, "engine=block").rstrip("\n")
-        browser.wait(f"document.querySelector('#printed').textContent.startsWith('{wanted[:40]}')", SECONDS)
-        browser.run("(() => { window.times = []; import('./app.js').then(({on, state}) => on('answer', () => state.answer && times.push(state.answer.seconds * 1000))); })()")
         x, y = int(ends[2]), int(ends[3])
-        browser.drag([tried.cell(x - k % 9, y - k // 9) for k in range(40)])
-        time.sleep(1)
-        times = sorted(browser.run("times"))
-        expect(f"a drag over {side} by {side} was answered", bool(times))
-        print(f"site, {side} x {side}: {len(times)} answers while an end was dragged, {times[len(times) // 2]:.0f} ms in the middle, at most {times[-1]:.0f}")
+        for form, begin in (("server", tried.serve), ("site", tried.site)):
+            begin(path, hash_words="#" + ",".join([*ends, "block", "none"]))
+            browser.wait(f"document.querySelector('#printed').textContent.startsWith('{wanted[:40]}')", SECONDS)
+            browser.run(WATCH)
+            browser.drag([tried.cell(x - k % 9, y - k // 9) for k in range(40)])
+            time.sleep(1)
+            told = f"{form}, {side} x {side}, an end is dragged:"
+            for what in ("answers", "gaps"):
+                times = sorted(browser.run(what))
+                expect(f"{told} {what}", bool(times))
+                told += f" {len(times)} {what}, {times[len(times) // 2]:.1f} ms in the middle, at most {times[-1]:.0f};"
+            print(told.replace("gaps", "frames").rstrip(";"))
 
 
 def both_forms(tried, work):
@@ -184,7 +196,7 @@ def figures(tried):
         expect(f"{form}: the swap is shown", said[-1].startswith("Nothing is lost."))
         check_whole(tried, said)
         pick("straight", "none")
-        browser.run("document.querySelector('#straight svg').focus()")
+        browser.run("document.querySelector('#straight > svg').focus()")
         for key in ["ArrowRight"] * 5 + ["ArrowDown"] * 2:  # the first one shows the cell that the keys look at
             browser.key(key)
         before = browser.run("document.querySelector('#straight').dataset.ready")
@@ -201,7 +213,7 @@ def figures(tried):
 
 
 # The map of the last figure, as jump.js has it.
-SEARCHED = "...........|.....@.....|.@.........|.......@...|...@....@..|...........|..@@..@.@..|.....@.....|..........."
+SEARCHED = "........@.@|....@.@....|........@..|......@.@@.|...........|..@........|@..........|..@....@.@@|.....@...@."
 
 
 def check_whole(tried, said):
@@ -258,4 +270,4 @@ def by_keys(tried):
     tried.printed(tried.jps("query", GAME, 5, 5, 26, 22, "show=trace", "engine=jps").rstrip("\n"), "behind an edit by keys")
 
 
-PARTS = [site_files, site_queries, site_large, drops, links, figures, sizes, by_keys]
+PARTS = [site_files, site_queries, dragged, drops, links, figures, sizes, by_keys]

@@ -112,10 +112,13 @@ function click(cell, isShifted) {
   document.querySelector(`input[name=click][value=${next}]`).checked = true;
 }
 
+function tellWhere(cell) {
+  byId("where").textContent = cell && state.map && isInside(cell) ? `${cell.x}, ${cell.y}  ${groundAt(cell)}` : "";
+}
+
 function hover(cell, view, mode) {
-  const where = byId("where");
   const isOn = cell && state.map && isInside(cell);
-  where.textContent = isOn ? `${cell.x}, ${cell.y}  ${groundAt(cell)}` : "";
+  tellWhere(cell);
   showTip(isOn && !mode ? cell : null, view);
   cursor.isShown = false;
   if (tools) tools.hover = isOn && mode !== "pinch" ? cell : null;
@@ -146,8 +149,14 @@ const host = {
   endAt, click, hover, pan,
   zoom: zoomBy,
   isPainting: () => state.tab === "edit" && !state.compare,
-  strokeBegin: (cell) => tools.begin(cell),
-  strokeTo: (cell) => tools.to(cell),
+  strokeBegin(cell) {
+    tools.begin(cell);
+    tellWhere(cell);
+  },
+  strokeTo(cell) {
+    tools.to(cell);
+    tellWhere(cell);
+  },
   strokeEnd: () => tools.end(),
   dragEnd: (name, cell) => setEnd(name, within(cell), true),
   dropEnd: () => tell("ends", { isDragged: false }),
@@ -164,7 +173,7 @@ function moveCursor(dx, dy) {
   }
   byId("spoken").textContent = [`column ${cursor.x}, row ${cursor.y}, ${groundAt(cursor)}`, ...wordsAt(cursor, views[0])].join("; ");
   showTip(cursor, views[0]);
-  byId("where").textContent = `${cursor.x}, ${cursor.y}  ${groundAt(cursor)}`;
+  tellWhere(cursor);
   redraw();
 }
 
@@ -177,7 +186,7 @@ function key(event) {
   else if (event.key === "Enter" || event.key === " ") {
     if (!cursor.isShown) return;
     if (host.isPainting()) {
-      tools.begin(cursor);
+      host.strokeBegin(cursor);
       tools.end();
     } else click(cursor, event.shiftKey);
   } else if ((event.key === "s" || event.key === "g") && cursor.isShown) setEnd(event.key === "s" ? "start" : "goal", cursor);

@@ -5,6 +5,7 @@ import { palette, stateRamp } from "./palette.js";
 
 const MOST_MARKS = 4000;
 const MOST_DOTS = 1500;
+const FEW_DOTS = 200;
 const FEW_MARKS = 60;
 const ARROW = [[0, -1], [1, -1], [1, 0], [1, 1], [0, 1], [-1, 1], [-1, 0], [-1, -1]];
 
@@ -137,6 +138,7 @@ export class View {
     const areDots = camera.scale < (picture.isJumps ? 13 : 5);
     if (states.count > (areDots ? MOST_DOTS : MOST_MARKS)) return;
     const side = Math.min(camera.scale * 0.36, 15);
+    const radius = states.count <= FEW_DOTS ? 2.7 : Math.max(1.5, Math.min(2.7, camera.scale * 0.5));
     context.fillStyle = context.strokeStyle = colours.mark;
     context.lineWidth = Math.max(areDots ? 0.8 : 1, camera.scale / 14);
     for (let at = 0; at < shown; at += 1) {
@@ -144,7 +146,7 @@ export class View {
       if (x < -20 || y < -20 || x > this.width + 20 || y > this.height + 20) continue;
       if (areDots) {
         context.fillStyle = picture.colourOf(at);
-        this.drawDot(x, y, this.width < 260 ? 1.9 : 2.7);
+        this.drawDot(x, y, radius);
         context.stroke();
       } else if (states.arrival[at] < DIRECTIONS.length) {
         this.drawArrow(x, y, ARROW[states.arrival[at]], side, colours);

@@ -46,6 +46,9 @@ TARGETS = {
     "x86_64-windows/jps.exe": "x86_64-w64-windows-gnu",
 }
 
+# The numbers of two sections of a WebAssembly module.
+TABLE, ELEMENTS = 4, 9
+
 BUILTINS = "/usr/lib/llvm-14/lib/clang/14.0.6/lib/wasi/libclang_rt.builtins-wasm64.a"
 
 # Files are opened, read and closed by functions of edge/windows.c, as those of its C library know no UTF-8.
@@ -82,6 +85,30 @@ def sum_of(path):
     """The SHA-256 of a file."""
     with open(path, "rb") as file:
         return hashlib.sha256(file.read()).hexdigest()
+
+
+def sections_of(module):
+    """The sections of a WebAssembly module, each with its number."""
+    at = 8
+    while at < len(module):
+        size, shift, behind = 0, 0, at + 1
+        while module[behind] > 127:
+            size |= (module[behind] & 127) << shift
+            shift, behind = shift + 7, behind + 1
+        end = behind + 1 + (size | module[behind] << shift)
+        yield module[at], module[at:end]
+        at = end
+
+
+def drop_table(path):
+    """Takes out the linker's table of functions: none is called by it, and Node 20 refuses one for 64 bits."""
+    with open(path, "rb") as file:
+        module = file.read()
+    found = list(sections_of(module))
+    if any(number == ELEMENTS for number, _ in found):
+        sys.exit("elsewhere: the module calls functions by a table, which Node 20 refuses")
+    with open(path, "wb") as file:
+        file.write(module[:8] + b"".join(it for number, it in found if number != TABLE))
 
 
 class Maker:
@@ -165,6 +192,7 @@ class Maker:
         links = [f"{room}/wasm-ld", "-mwasm64", "--no-entry", "--gc-sections", "--strip-all", "--stack-first"]
         links += ["-z", "stack-size=1048576", "--max-memory=17179869184", "--export=jps_answer"]
         call([*links, f"{room}/page.o", f"{room}/heap.o", BUILTINS, "-o", to])
+        drop_table(to)
         return verdict
 
     def windows(self, to):

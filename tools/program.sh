@@ -39,10 +39,10 @@ read_manifest() {
     handed=$top/dist/${told[program]-}
 }
 
+# The sum of a file; nothing waits for a pipe in its place.
 sum_of() {
     local sum
-    sum=$(sha256sum <"$1")
-    echo "${sum%% *}"
+    [ -f "$1" ] && sum=$(sha256sum <"$1") && echo "${sum%% *}"
 }
 
 note_made() { echo "$sources $(sum_of "$built") $(rt version)" >"$made.new" && mv -f "$made.new" "$made"; }
@@ -69,7 +69,7 @@ is_built() {
         (trap '' XFSZ && note_made) 2>/dev/null || true
         return
     fi
-    read -r of sum _ 2>/dev/null <"$made" && [ "$of" = "$sources" ] && [ "$sum" = "$(sum_of "$built")" ]
+    [ -f "$made" ] && read -r of sum _ 2>/dev/null <"$made" && [ "$of" = "$sources" ] && [ "$sum" = "$(sum_of "$built")" ]
 }
 
 # The programs of dist/ for this system: the first one that runs is taken.

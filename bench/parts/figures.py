@@ -412,6 +412,28 @@ def by_size(results, part, write):
     return told.table(["Cells", *(f"`{it}`" for it in words)], lines)
 
 
+def elsewhere_text(results):
+    """How many times as long a query takes in each host of the module as in the program."""
+    rows, hosts = results["elsewhere"]["rows"], results["elsewhere"]["hosts"]
+    found = {engine: {host: [] for host in hosts} for engine in ENGINES}
+    lines = []
+    for name in maps_of(rows):
+        line = [short(name)]
+        for engine in ENGINES:
+            kind = {"map": name, "engine": engine}
+            mine = find(rows, program="jps", **kind)["per_query"]
+            ratios = [told.ratio(find(rows, program=it, **kind)["per_query"], mine)[0] for it in hosts]
+            for host, ratio in zip(hosts, ratios):
+                found[engine][host].append(ratio)
+            line.append(", ".join(f"{it:.2f}" for it in ratios))
+        lines.append(line)
+    middle = [", ".join(f"{told.median(it):.2f}" for it in found[engine].values()) for engine in ENGINES]
+    words = f"How many times as long a query takes in {' and in '.join(hosts)} as in the program, by the clock, with "
+    words += f"`states=cell` ({results['began']}, {results['facts']['processor']['name']}). On ARM nothing was timed: the "
+    words += "program is tried there by qemu, which tells no times."
+    return [words, told.table(["Map", *(f"`{it}`" for it in ENGINES)], [*lines, ["median", *middle]])]
+
+
 def growth_text(pictures):
     """The picture."""
     words = "Cities of five sizes, each with 40 queries spread over all lengths: the mean time of a further query. "
@@ -678,6 +700,8 @@ def speed_blocks(results, pictures):
         blocks["open_land"] = open_land_text(results)
     if has("dearest"):
         blocks["dearest"] = dearest_text(results)
+    if has("elsewhere") and results["elsewhere"]["rows"]:
+        blocks["elsewhere"] = elsewhere_text(results)
     if has("growth"):
         blocks["growth"] = growth_text(pictures)
     if has("taken"):

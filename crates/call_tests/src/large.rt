@@ -85,11 +85,11 @@ const SMALL: Plan = Plan {
     ..WIDE
 };
 
-// No wall.
+// One wall.
 const TINY: Plan = Plan {
-    head: b"type octile\nheight 32\nwidth 32\nmap\n",
-    width: 32,
-    height: 32,
+    head: b"type octile\nheight 64\nwidth 64\nmap\n",
+    width: 64,
+    height: 64,
     ..SMALL
 };
 
@@ -374,7 +374,7 @@ fn scenarios_of_large_maps_agree(rt: HostRuntime) -> Result<(), Fail> {
 const PIECE: usize = 65_536;
 
 // So many equal commands, entries and claimed walks.
-const TIMES: u64 = 8000;
+const TIMES: u64 = 20_000;
 
 #[test]
 fn output_of_three_pieces_is_whole(rt: HostRuntime) -> Result<(), Fail> {
@@ -383,8 +383,8 @@ fn output_of_three_pieces_is_whole(rt: HostRuntime) -> Result<(), Fail> {
     let entry: (&[u8], &[u8]) = (b"version 1\n", b"0 m 4096 17 0 0 1 0 1\n");
     let walk = "walk 1 0 0,0 1,0\n";
     let length = "\n0\tm\t4096\t17\t0\t0\t1\t0\t1.00000000\n";
-    let agreed = "\nrow 8000 agree 1 0\nsum 8000 agree 8000 near 0 off 0 other 0\n";
-    let accepted = "\nrow 8000 accepted 1 0\nsum 8000 accepted 8000 refused 0 other 0\n";
+    let agreed = "\nrow 20000 agree 1 0\nsum 20000 agree 20000 near 0 off 0 other 0\n";
+    let accepted = "\nrow 20000 accepted 1 0\nsum 20000 accepted 20000 refused 0 other 0\n";
     let table = [
         ("solve m s engine=each rule=any", query, (walk, walk)),
         ("live m engine=each rule=any", query, (walk, walk)),
@@ -452,7 +452,7 @@ fn the_largest_of_small_maps_is_searched(rt: HostRuntime) -> Result<(), Fail> {
     }
     let entries = Text {
         head: b"version 1\n",
-        line: b"0 m 32 32 0 0 1 0 1\n",
+        line: b"0 m 64 64 0 0 1 0 1\n",
         times: 200,
     };
     let made = Made {

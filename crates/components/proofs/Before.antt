@@ -1,5 +1,5 @@
 -- What one pass over the cells has told so far.
-use Rattle.std.proofs.Common.{◌≡◌, ◌≢◌, ℕ, ◌+◌, ◌<◌, ◌⊎◌, inl, inr, arith, refl, sym, ◌∙◌, subst}
+use Rattle.std.proofs.Common.{◌≡◌, ◌≢◌, ℕ, ◌+◌, ◌<◌, inl, inr, arith, refl, sym, ◌∙◌, subst}
 use Rattle.std.proofs.Common.{Bool, true, false, ◌&&◌, ◌||◌}
 use Rattle.std.specs.Prelude.{nat_eq, nat_lt}
 use Rattle.std.proofs.lemmas.Bool.Decides.{nat_tests}
@@ -10,26 +10,6 @@ use Rattle.components.specs.Labelling.{is_free_before}
 use Rattle.components.specs.Links.{Adds, TellsLinked}
 use Rattle.components.proofs.Chains.{freed, one_or_other}
 use Rattle.components.proofs.Telling.{tells_alike}
-
-is_or_not : (b : Bool) → (b ≡ true) ⊎ (b ≡ false)
-is_or_not true = inl refl
-is_or_not false = inr refl
-
--- none yet
-pub none_told : (g : GridData) (eight : Bool) (class : Cell → ℕ) → ((c : Cell) → class c ≡ 0)
-    → TellsLinked eight (is_free_before g 0 0) class
-none_told g eight class none = record {
-  some = λ c f. absurd (let x : false ≡ true = sym (before c) ∙ f in cc);
-  none = λ c f. none c;
-  linked = λ u v f h l. none u ∙ sym (none v);
-  joined = λ u v n e. absurd (n (none u));
-}
-  where
-    tests : (b : Bool) (x y : ℕ) → (b && (nat_lt y 0 || nat_eq y 0 && nat_lt x 0)) ≡ false
-    tests b x y = grind (arith, nat_tests)
-
-    before : (c : Cell) → is_free_before g 0 0 c ≡ false
-    before c = tests (is_free g c) c.x c.y
 
 -- a row
 pub row_told : (g : GridData) (eight : Bool) (class : Cell → ℕ) (y width : ℕ) → width ≡ g.width

@@ -4,6 +4,7 @@ use Rattle.std.proofs.Common.{Bool, true, false}
 use Rattle.grid_moves.specs.declared.Cell.{Cell}
 use Rattle.grid_moves.specs.Move.{is_same}
 use Rattle.grid_moves.proofs.Legal.{is_same-cell, is_same-itself}
+use Rattle.components.proofs.Cases.{true_or_false}
 use Rattle.components.specs.Links.{IsLink, Chain, here, more, TellsLinked, Touches, Adds}
 
 -- two cells are one, or not
@@ -57,10 +58,6 @@ module _ (eight : Bool) (free : Cell → Bool) where
   chain_more wide all t _ (here f) = here (all t f)
   chain_more wide all t _ (more u v f l rest) = more u v (all u f) l (chain_more wide all t v rest)
 
-free_or_not : (b : Bool) → (b ≡ true) ⊎ (b ≡ false)
-free_or_not true = inl refl
-free_or_not false = inr refl
-
 -- a cell is freed
 module _ (eight : Bool) (free wide : Cell → Bool) (c : Cell) (shut : free c ≡ false) (now_free : wide c ≡ true)
     (others : (u : Cell) → u ≢ c → wide u ≡ free u) (before later : Cell → ℕ)
@@ -71,7 +68,7 @@ module _ (eight : Bool) (free wide : Cell → Bool) (c : Cell) (shut : free c �
 
   -- a cell that has a class is free
   classed : (u : Cell) → before u ≢ 0 → free u ≡ true
-  classed u n = elim (free_or_not (free u)) [ inl f ↦ f | inr s ↦ absurd (n (tells.none u s)) ]
+  classed u n = elim (true_or_false (free u)) [ inl f ↦ f | inr s ↦ absurd (n (tells.none u s)) ]
 
   apart : (u : Cell) → before u ≢ 0 → u ≢ c
   apart u n e = n (ap (λ (v : Cell). before v) e ∙ tells.none c shut)

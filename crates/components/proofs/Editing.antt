@@ -1,5 +1,5 @@
 -- What an edit leaves of the labels.
-use Rattle.std.proofs.Common.{◌≡◌, ◌≢◌, ℕ, ◌<◌, ◌≤◌, ◌⊎◌, inl, inr, arith, refl, ap, sym, ◌∙◌, subst}
+use Rattle.std.proofs.Common.{◌≡◌, ◌≢◌, ℕ, ◌<◌, ◌≤◌, inl, inr, arith, refl, ap, sym, ◌∙◌, subst}
 use Rattle.std.proofs.Common.{Bool, true, false, List, length}
 use Rattle.std.specs.Prelude.{nat_eq, not, IsTrue}
 use Rattle.std.proofs.lemmas.Bool.Decides.{nat_tests}
@@ -14,6 +14,7 @@ use Rattle.grid_moves.specs.Ring.{is_free_on}
 use Rattle.grid_moves.proofs.Legal.{free_inside}
 use Rattle.grid_moves.proofs.Places.{inside_from}
 use Rattle.joined_cells.specs.Joined.{label_of}
+use Rattle.components.proofs.Cases.{true_or_false}
 use Rattle.components.specs.declared.shape.Shape.{Shape}
 use Rattle.components.specs.Around.{is_whole}
 use Rattle.components.specs.Classes.{root_of}
@@ -88,12 +89,8 @@ module _ (shape : Shape) (corner : Corner) (used : ℕ) (labels classes : List �
       (let l : label_of (labels_in shape labels) u ≤ used = label_low shape labels used stored.below u in
       let k : used < length classes = stored.given in omega arith)
 
-  free_or_not : (b : Bool) → (b ≡ true) ⊎ (b ≡ false)
-  free_or_not true = inl refl
-  free_or_not false = inr refl
-
   labelled_free : fresh ≡ true → (u : Cell) → label_of (labels_in shape labels) u ≢ 0 → is_free g u ≡ true
-  labelled_free f u n = elim (free_or_not (is_free g u)) [
+  labelled_free f u n = elim (true_or_false (is_free g u)) [
     | inl h ↦ h
     | inr h ↦ absurd (classed u n ((links f).none u h))
   ]
@@ -116,7 +113,7 @@ module _ (shape : Shape) (corner : Corner) (used : ℕ) (labels classes : List �
 
       by_test : (b : Bool) → nat_eq (label_of (labels_in shape labels) c) 0 ≡ b
           → is_free g c ≡ not (nat_eq (label_of (labels_in shape labels) c) 0)
-      by_test true h = (elim (free_or_not (is_free g c)) [
+      by_test true h = (elim (true_or_false (is_free g c)) [
         | inl k ↦ absurd (free_labelled f c k (is_zero (label_of (labels_in shape labels) c) h))
         | inr k ↦ k
       ]) ∙ sym (ap (λ (b : Bool). not b) h)
@@ -133,7 +130,7 @@ module _ (shape : Shape) (corner : Corner) (used : ℕ) (labels classes : List �
       (class_in shape labels classes) (class_in shape labels_now classes_now) (links f) adds)
     where
       shut : is_free g c ≡ false
-      shut = elim (free_or_not (is_free g c)) [
+      shut = elim (true_or_false (is_free g c)) [
         | inl h ↦ absurd (free_labelled f c h none)
         | inr h ↦ h
       ]

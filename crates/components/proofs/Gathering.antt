@@ -7,13 +7,11 @@ use Rattle.grid_moves.specs.declared.Cell.{Cell}
 use Rattle.grid_moves.specs.declared.Dir.{Dir}
 use Rattle.grid_moves.specs.Move.{beyond, is_dir, dir_number}
 use Rattle.grid_moves.proofs.Dirs.{one_dir}
+use Rattle.components.proofs.Cases.{one_or_not}
 use Rattle.components.specs.Classes.{AreMerged, IsOfEither}
 use Rattle.components.specs.Links.{IsLink, Adds}
 use Rattle.components.specs.Meeting.{HaveMet, Borders, Gathers, linked_dirs, is_among}
 use Rattle.components.proofs.Offsets.{has_dir}
-
-one_or_not : (m n : ℕ) → (m ≡ n) ⊎ (m ≢ n)
-one_or_not m n = grind arith
 
 merged_as : (f g : ℕ → ℕ) (a b c d : ℕ) → a ≡ c → b ≡ d → AreMerged f g c d → AreMerged f g a b
 merged_as f g a b c d p q m = subst (λ (x : ℕ). AreMerged f g x b) (sym p)

@@ -1,3 +1,4 @@
+pub mod Cases
 pub mod Roots
 pub mod Chains
 pub mod Offsets

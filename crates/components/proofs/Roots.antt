@@ -4,13 +4,11 @@ use Rattle.std.proofs.Common.{List, length, get_or, set, length-set, subst, Bool
 use Rattle.std.specs.Prelude.{nat_eq, if◌then◌else◌}
 use Rattle.std.proofs.lemmas.Bool.Decides.{nat_tests}
 use Rattle.std.proofs.lemmas.List.{get_or-set_same, get_or-set_other}
+use Rattle.components.proofs.Cases.{one_or_not}
 use Rattle.components.specs.Classes.{climbed, root_of, IsForest, SameRoots, AreMerged, IsOfEither}
 
 one_or_less : (m n : ℕ) → m ≤ n → (m ≡ n) ⊎ (m < n)
 one_or_less m n h = grind arith
-
-one_or_not : (m n : ℕ) → (m ≡ n) ⊎ (m ≢ n)
-one_or_not m n = grind arith
 
 module _ (cs : List ℕ) where
   -- a label that leads to itself goes nowhere

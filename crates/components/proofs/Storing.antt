@@ -1,5 +1,5 @@
 -- The labels of cells in memory.
-use Rattle.std.proofs.Common.{◌≡◌, ◌≢◌, ℕ, ◌+◌, ◌*◌, ◌<◌, ◌≤◌, ◌⊎◌, inl, inr, arith, refl, sym, ◌∙◌, subst}
+use Rattle.std.proofs.Common.{◌≡◌, ◌≢◌, ℕ, ◌+◌, ◌*◌, ◌<◌, ◌≤◌, inl, inr, arith, refl, sym, ◌∙◌, subst}
 use Rattle.std.proofs.Common.{Bool, true, false, ◌&&◌, List, length, get_or, set, length-set}
 use Rattle.std.specs.Prelude.{nat_lt, if◌then◌else◌}
 use Rattle.std.proofs.lemmas.Bool.Decides.{nat_tests}
@@ -11,6 +11,7 @@ use Rattle.grid_moves.specs.Grid.{AreSides, cell_number}
 use Rattle.grid_moves.specs.Move.{beyond}
 use Rattle.grid_moves.proofs.Places.{number_below, one_cell}
 use Rattle.joined_cells.specs.Joined.{Labels, label_of}
+use Rattle.components.proofs.Cases.{one_or_not}
 use Rattle.components.specs.declared.shape.Shape.{Shape}
 use Rattle.components.specs.Classes.{root_of}
 use Rattle.components.specs.Links.{IsLink, Adds}
@@ -106,9 +107,6 @@ module _ (shape : Shape) (labels : List ℕ) (whole : length labels ≡ shape.he
         let b : get_or labels k 0 ≤ most = below k in
         omega arith
   ]
-    where
-      one_or_not : (m n : ℕ) → (m ≡ n) ⊎ (m ≢ n)
-      one_or_not m n = grind arith
 
 pub label_low : (shape : Shape) (labels : List ℕ) (most : ℕ) → ((k : ℕ) → get_or labels k 0 ≤ most) → (c : Cell)
     → label_of (labels_in shape labels) c ≤ most
@@ -137,9 +135,6 @@ blank_label shape used labels classes stored c z = elim (one_or_not (label_of (l
       (let l : label_of (labels_in shape labels) c ≤ used = label_low shape labels used stored.below c in
       let k : used < length classes = stored.given in omega arith) z)
 ]
-  where
-    one_or_not : (m n : ℕ) → (m ≡ n) ⊎ (m ≢ n)
-    one_or_not m n = grind arith
 
 -- the neighbours have met
 module _ (shape : Shape) (used : ℕ) (labels classes later : List ℕ)

@@ -14,15 +14,9 @@ use Rattle.grid_moves.proofs.Legal.{IsLegal, and_both, is_legal-from, legal_is, 
 use Rattle.grid_moves.proofs.Walks.{walk_free}
 use Rattle.joined_cells.specs.Joined.{IsJoined, Labels, TellsJoined, label_of}
 use Rattle.joined_cells.proofs.Joining.{joined_itself, joined_more, joined_on}
+use Rattle.components.proofs.Cases.{one_or_not, true_or_false}
 use Rattle.components.specs.Links.{Chain, IsLink, TellsLinked, here, more}
 use Rattle.components.proofs.Chains.{chain_class, chain_free, chain_more, chain_on, chain_one, one_or_other}
-
-one_or_not : (m n : ℕ) → (m ≡ n) ⊎ (m ≢ n)
-one_or_not m n = grind arith
-
-free_or_not : (b : Bool) → (b ≡ true) ⊎ (b ≡ false)
-free_or_not true = inl refl
-free_or_not false = inr refl
 
 slipped : (rule : Corner) → may_slip rule ≡ true → (a b : Bool) → is_passable rule a b ≡ true
 slipped Never e a b = absurd (let x : false ≡ true = e in cc)
@@ -72,7 +66,7 @@ module _ (g : GridData) where
     | inl e ↦ one (inl e)
     | inr x ↦ elim (one_or_not u.y v.y) [
       | inl e ↦ one (inr (inl e))
-      | inr y ↦ elim (free_or_not slips) [
+      | inr y ↦ elim (true_or_false slips) [
         | inl e ↦ one (inr (inr e))
         | inr e ↦ elim (one_free g.corner e (is_free g (corner_of u v)) (is_free g (corner_of v u)) l.passes) [
           | inl f ↦ over (corner_of u v) f (record {

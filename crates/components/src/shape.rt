@@ -9,7 +9,7 @@ use grid_moves::{Cell, number_of};
 
 /// The sides of a map, and whether free neighbours on a diagonal are joined whatever stands beside them.
 #[derive(Clone, Copy)]
-pub struct Shape {
+pub(crate) struct Shape {
     pub width: u16,
     pub height: u16,
     pub eight: bool,

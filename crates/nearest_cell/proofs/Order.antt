@@ -25,8 +25,11 @@ module _ (width : ℕ) (goal : Cell) where
   no_farther_on a b c (inl l) (inl m) = inl (IsLess-trans (estimate a goal) (estimate b goal) (estimate c goal) l m)
   no_farther_on a b c (inl l) (inr e) = inl (subst (λ (k : Cost). IsLess (estimate a goal) k) e.0 l)
   no_farther_on a b c (inr e) (inl m) = inl (subst (λ (k : Cost). IsLess k (estimate c goal)) (sym e.0) m)
-  no_farther_on a b c (inr e) (inr f) = inr (e.0 ∙ f.0, at_most (cell_number width a) (cell_number width b)
-      (cell_number width c) e.1 f.1)
+  no_farther_on a b c (inr e) (inr f) = inr (
+    e.0 ∙ f.0,
+    at_most (cell_number width a) (cell_number width b)
+        (cell_number width c) e.1 f.1,
+  )
     where
       at_most : (m n k : ℕ) → m ≤ n → n ≤ k → m ≤ k
       at_most m n k h l = omega arith
@@ -90,8 +93,10 @@ module _ (width : ℕ) (goal : Cell) where
         by_test true l e = inl l
         by_test false l e =
             let two = and_both (is_same_cost (estimate c goal) (estimate d goal)) by_place e in
-            inr (is_same_cost-tells (estimate c goal) (estimate d goal) two.0,
-            number_at_most c.x c.y d.x d.y h (before c.x c.y d.x d.y two.1))
+            inr (
+              is_same_cost-tells (estimate c goal) (estimate d goal) two.0,
+              number_at_most c.x c.y d.x d.y h (before c.x c.y d.x d.y two.1),
+            )
 
     pub not_nearer : d.x < width → is_nearer goal c d ≡ false → IsNoFarther width goal d c
     not_nearer h e = elim (IsLess-total (estimate c goal) (estimate d goal)) [

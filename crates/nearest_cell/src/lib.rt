@@ -8,5 +8,7 @@
 
 pub mod laws;
 mod rings;
+#[cfg(test)]
+mod tests;
 
 pub use rings::nearest;

@@ -1,4 +1,4 @@
-use Rattle.std.proofs.Common.{ap, length, ◌∙◌, rules}
+use Rattle.std.proofs.Common.{◌∙◌, rules}
 use Rattle.move_field.proofs.Priced.{priced}
 use Rattle.move_field.proofs.field.put_field.Goals as goal
 

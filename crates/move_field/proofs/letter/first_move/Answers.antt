@@ -1,4 +1,4 @@
-use Rattle.std.proofs.Common.{arith, rules}
+use Rattle.std.proofs.Common.{rules}
 use Rattle.move_field.proofs.Priced.{nothing-by}
 use Rattle.move_field.proofs.letter.first_move.Goals as goal
 

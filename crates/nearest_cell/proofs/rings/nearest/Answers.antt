@@ -18,12 +18,18 @@ returns-then-is_below c = λ g t fresh free.
     (subst (λ (q : Cost). IsLess q (record { a = c.from.result; b = 0 })) c.estimate.ensures
     (sym c.is_below.ensures ∙ c.if-is_below.true)) in
     nearest_told g c.args.p.now t fresh c.args.start c.args.goal c.loop-ring.best free c.label-label.result
-    c.label-label.ensures (λ n. (c.loop-ring.invariant.label, rings_stopped p c.label-label.result n c.args.goal
-    c.loop-ring.ring c.loop-ring.best c.loop-ring.invariant.first less))
+    c.label-label.ensures (λ n. (
+      c.loop-ring.invariant.label,
+      rings_stopped p c.label-label.result n c.args.goal
+          c.loop-ring.ring c.loop-ring.best c.loop-ring.invariant.first less,
+    ))
 
 pub returns : goal.returns
 returns c = λ g t fresh free.
     let p = c.args.p.now.labels in
     nearest_told g c.args.p.now t fresh c.args.start c.args.goal c.loop-ring.best free c.label-label.result
-    c.label-label.ensures (λ n. (c.loop-ring.invariant.label, rings_done p c.label-label.result n c.args.goal
-    c.loop-ring.ring c.loop-ring.best (omega arith) c.requires.column c.requires.row c.loop-ring.invariant.first))
+    c.label-label.ensures (λ n. (
+      c.loop-ring.invariant.label,
+      rings_done p c.label-label.result n c.args.goal
+          c.loop-ring.ring c.loop-ring.best (omega arith) c.requires.column c.requires.row c.loop-ring.invariant.first,
+    ))
