@@ -144,6 +144,20 @@ def queries(run):
     run.results["queries"] = time_queries(run, pairs, run.contestants)
 
 
+def textbook(run):
+    """The program beside the searches as the papers have them. It may be measured alone, so it keeps of which run it is."""
+    pairs = [(name, variant) for name in run.maps for variant in run.variants if run.textbook.knows(variant)]
+    rows = time_queries(run, pairs, [run.contestants[0], run.textbook])
+    run.results["textbook"] = {**origin(run), "turns": run.turns, "rows": rows}
+
+
+def origin(run):
+    """What is kept with a part that may be of another run than the rest of the results."""
+    facts = run.results["facts"]
+    kept = {name: facts[name] for name in ("program", "commit", "processor")}
+    return {"began": run.results["began"], "load": measure.load()["load"], **kept}
+
+
 def growth(run):
     pairs = [(name, variant) for name in run.growth_maps for variant in run.variants]
     run.results["growth"] = time_queries(run, pairs, run.contestants[:1])
@@ -406,13 +420,13 @@ def counted_row(run, name, variant, contestant):
 
 
 def counts(run):
-    """Counts of the program, the reference and the textbook's searches. Callgrind's are the same whatever else runs, so all processors count."""
-    run.results["counts"] = {"by": run.counter, "rows": []}
+    """Counts of the program, the reference and the textbook's searches. Callgrind's are the same whatever else runs."""
+    run.results["counts"] = {**origin(run), "by": run.counter, "rows": []}
     if not run.counter:
         run.tell("nothing is counted: neither may perf count here, nor does valgrind run")
         return
     pairs = [(name, variant) for name in run.maps for variant in run.variants]
-    counted = [it for it in run.contestants if it.name in ("jps", "reference", "textbook")]
+    counted = [*(it for it in run.contestants if it.name in ("jps", "reference")), run.textbook]
     jobs = [(*pair, contestant) for pair in pairs for contestant in counted if contestant.knows(pair[1])]
     done = 0
     jobs_at_once = 1 if run.counter == "perf" else run.jobs  # real caches are shared
