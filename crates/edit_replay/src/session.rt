@@ -90,6 +90,16 @@ impl Session {
         Ok(Session { parts })
     }
 
+    /// The map's grids as the edits left them.
+    pub fn layers(&self) -> &Layers
+        ensures is { result.now ≡ self.now.layers }
+        ensures layers { spec.AreLayers self.now.layers }
+    {
+        // (by its clause they are those of one map)
+        let _both = self.parts.layers.both();
+        &self.parts.layers
+    }
+
     /// The map's width, in cells.
     pub fn width(&self) -> u16
         ensures width { result ≡ self.now.layers.land.width }

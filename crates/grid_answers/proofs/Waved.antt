@@ -7,7 +7,7 @@ use Rattle.std.proofs.lemmas.Bool.Decides.{nat_tests}
 use Rattle.std.proofs.lemmas.List.{map-append, map-id}
 use Rattle.std.proofs.lemmas.List.FromFn.{fill_by_all, get_or-map-range_with_len, length-map-range_with_len}
 use Rattle.std.proofs.lemmas.List.FromFn.{map-range_with_len_more}
-use Rattle.std.specs.List.{range_with_len}
+use Rattle.std.specs.List.{concat, range_with_len}
 use Rattle.root2_cost.specs.declared.Cost.{Cost}
 use Rattle.cost_waves.specs.Stored.{Tells, WaveData, cost_at}
 use Rattle.grid_moves.specs.declared.Cell.{Cell}
@@ -17,6 +17,8 @@ use Rattle.grid_moves.specs.Layers.{Layers, is_free_ground, query_grid}
 use Rattle.grid_answers.specs.Distances.{cost_field, costs_answer, row_line, cost_lines, line_of_costs, fields_to}
 use Rattle.plain_search.specs.Costs.{least_cost}
 use Rattle.plain_search.proofs.LeastCosts.{costs_are}
+use Rattle.move_field.specs.Field.{field_text}
+use Rattle.grid_answers.specs.Framed.{frame_line, framed_costs, framed_field}
 use Rattle.grid_answers.specs.OfCell.{why_untold}
 use Rattle.grid_answers.specs.Printing.{ArePrinted, HavePrinted, TellCosts, printed_line, row_costs}
 use Rattle.grid_answers.proofs.Cells.{free-on, is-line, is-told}
@@ -163,3 +165,54 @@ one-line ls s text line is why = λ lines status t. (
   t.1,
   t.0 ∙ ap (λ (l : List ℕ). l ∷ []) is ∙ is-line ls s (λ l. l ∷ []) (λ g. cost_lines g s) line why,
 )
+
+-- one line more
+pub rows-next : (line : ℕ → List ℕ) (n : ℕ) (start at now : List ℕ)
+    → at ≡ start ++ concat (map line (range_with_len 0 n)) → now ≡ at ++ line n
+    → now ≡ start ++ concat (map line (range_with_len 0 (n + 1)))
+rows-next line n start at now before put =
+    put ∙ ap (λ (l : List ℕ). l ++ line n) before
+    ∙ append_assoc start (concat (map line (range_with_len 0 n))) (line n)
+    ∙ ap (λ (l : List ℕ). start ++ l) (sym (ap concat (map-range_with_len_more line 0 n n (omega arith))
+    ∙ concat-snoc (map line (range_with_len 0 n)) (line n)))
+  where
+    concat-snoc : (ls : List (List ℕ)) (l : List ℕ) → concat (ls ++ l ∷ []) ≡ concat ls ++ l
+    concat-snoc [] l = append-nil l
+    concat-snoc (k ∷ ls) l = ap (λ (t : List ℕ). k ++ t) (concat-snoc ls l) ∙ sym (append_assoc k (concat ls) l)
+
+-- a word with the sides, and all rows
+pub framed-rows : (ls : Layers) (s : Cell) (w : WaveData) (g : GridData) (h : ℕ) (frame text : List ℕ)
+    → g ≡ query_grid ls s → is_free_ground ls s ≡ true → why_untold ls s ≡ None → Tells g s w
+    → w.width ≡ g.width → w.height ≡ g.height → h ≡ g.height → frame ≡ frame_line (codes "costs") g
+    → text ≡ frame ++ concat (map (printed_line w) (range_with_len 0 h)) → text ≡ framed_costs ls s
+unfolding framed_costs
+framed-rows ls s w g h frame text is free none tells wide high is_h framed put =
+    put ∙ ap (λ (l : List ℕ). l ++ concat (map (printed_line w) (range_with_len 0 h))) framed
+    ∙ ap (λ (n : ℕ). frame_line (codes "costs") g ++ concat (map (printed_line w) (range_with_len 0 n))) is_h
+    ∙ ap (λ (l : List (List ℕ)). frame_line (codes "costs") g ++ concat l)
+    (lines-are g s (free-on ls s g is free) w tells wide high)
+    ∙ ap (λ (k : GridData). frame_line (codes "costs") k ++ concat (cost_lines k s)) is
+    ∙ is-told ls s (λ line. line) (λ k. frame_line (codes "costs") k ++ concat (cost_lines k s)) none
+
+-- a word with the sides, and the letters of all rows
+pub framed-letters : (ls : Layers) (t : Cell) (g : GridData) (frame text : List ℕ)
+    → g ≡ query_grid ls t → why_untold ls t ≡ None → frame ≡ frame_line (codes "field") g
+    → text ≡ frame ++ field_text g t → text ≡ framed_field ls t
+unfolding framed_field
+framed-letters ls t g frame text is none framed put =
+    put ∙ ap (λ (l : List ℕ). l ++ field_text g t) framed
+    ∙ ap (λ (k : GridData). frame_line (codes "field") k ++ field_text k t) is
+    ∙ is-told ls t (λ line. line) (λ k. frame_line (codes "field") k ++ field_text k t) none
+
+-- a line alone
+pub costs-untold : (ls : Layers) (s : Cell) (line text : List ℕ) → text ≡ line → why_untold ls s ≡ Some line
+    → text ≡ framed_costs ls s
+unfolding framed_costs
+costs-untold ls s line text is why =
+    is ∙ is-line ls s (λ l. l) (λ g. frame_line (codes "costs") g ++ concat (cost_lines g s)) line why
+
+pub field-untold : (ls : Layers) (t : Cell) (line text : List ℕ) → text ≡ line → why_untold ls t ≡ Some line
+    → text ≡ framed_field ls t
+unfolding framed_field
+field-untold ls t line text is why =
+    is ∙ is-line ls t (λ l. l) (λ g. frame_line (codes "field") g ++ field_text g t) line why

@@ -107,7 +107,7 @@ fn put_fields(out: &mut Vec<u8>, waves: &CostWaves, y: u16) -> Result<(), NoMemo
 }
 
 // Appends the line of a row.
-fn put_costs(out: &mut Vec<u8>, waves: &CostWaves, y: u16) -> Result<(), NoMemory>
+pub(crate) fn put_costs(out: &mut Vec<u8>, waves: &CostWaves, y: u16) -> Result<(), NoMemory>
     ensures { OnOk result (out.new.items ≡ out.old.items ++ printing.printed_line waves.now y) }
 {
     put_fields(out, waves, y)?;

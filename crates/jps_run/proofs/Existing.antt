@@ -14,11 +14,11 @@ use Rattle.first_moves.specs.Follow.{led_walk}
 use Rattle.goal_boxes.proofs.Answering as boxed
 use Rattle.word_list.specs.declared.request.SmallEngine.TheVariants.{Boxes, Moves}
 use Rattle.call_files.specs.Reading.{AreSmall}
-use Rattle.jps_run.specs.Lines.{Unfolds}
+use Rattle.reply_lines.specs.Lines.{Unfolds}
 use Rattle.jps_run.specs.Replies.{AreRight, By, by_session, by_small}
 use Rattle.jps_run.specs.Who.{found_by, replies_by}
 use Rattle.jps_run.proofs.Replying.{followed_least, small-short}
-use Rattle.jps_run.proofs.Unfolding.{replied_unfolds}
+use Rattle.reply_lines.proofs.Unfolding.{replied_unfolds}
 
 -- what is found between free cells is a least walk, or none exactly where no walk leads there
 pub found_least : (by : By) (g : GridData) (s t : Cell) → is_free g s ≡ true → is_free g t ≡ true

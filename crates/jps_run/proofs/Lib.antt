@@ -4,7 +4,6 @@ pub mod Existing
 pub mod Loading
 pub mod Solving
 pub mod Rising
-pub mod Unfolding
 pub mod Drilling
 pub mod Pictured
 pub mod Hearing

@@ -14,7 +14,7 @@ use Rattle.jps_run.specs.Answers.{query_line, solve_output}
 use Rattle.jps_run.specs.Parts.{Prints, printed}
 use Rattle.jps_run.specs.Session.{session_replies}
 use Rattle.jps_run.specs.Rising.{RoseForQuery, RoseForCommands}
-use Rattle.jps_run.specs.Lines.{reply_line}
+use Rattle.reply_lines.specs.Lines.{reply_line}
 use Rattle.jps_run.specs.Querying.{IsQueryWork}
 use Rattle.jps_run.specs.declared.work.Work.TheVariants as work
 use Rattle.jps_run.specs.Who.{Who, fewest_by, most_by, reply_to, who_is}

@@ -10,7 +10,7 @@ use Rattle.script_text.specs.declared.command.ScriptCommand.{ScriptCommand}
 use Rattle.script_text.specs.declared.command.ScriptCommand.TheVariants.{Block, Free, Flood, Query}
 use Rattle.word_list.specs.declared.request.Show.{Show}
 use Rattle.word_list.specs.declared.request.Show.TheVariants.{Points}
-use Rattle.jps_run.specs.Lines.{reply_line, edit_line}
+use Rattle.reply_lines.specs.Lines.{reply_line, edit_line}
 use Rattle.jps_run.specs.Parts.{Output}
 use Rattle.jps_run.specs.Replies.{Replies}
 

@@ -3,7 +3,6 @@ pub mod Manner
 pub mod Who
 pub mod Session
 pub mod Answerers
-pub mod Lines
 pub mod Answers
 pub mod Answering
 pub mod Drill

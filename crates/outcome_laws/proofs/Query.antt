@@ -25,7 +25,7 @@ use Rattle.edit_replay.specs.declared.reply.Reply.TheVariants as reply
 use Rattle.word_list.specs.declared.request.Show.TheVariants.{Points}
 use Rattle.jps_run.specs.Calls.{files_of, output_of}
 use Rattle.jps_run.specs.Ending.{EndsRight}
-use Rattle.jps_run.specs.Lines.{reply_line, walk_text}
+use Rattle.reply_lines.specs.Lines.{reply_line, walk_text}
 use Rattle.jps_run.specs.Manner.{picked_by}
 use Rattle.jps_run.specs.Outcome.{Outcome, IsOutcome, bad_word, bad_text, done, outcome_of, outcome_with}
 use Rattle.jps_run.specs.Parts.{printed}

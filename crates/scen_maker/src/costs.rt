@@ -18,24 +18,19 @@ use std::sync::ledger::Ledger;
 use steps::Steps;
 use word_list::Settings;
 
-/// Who finds the least costs of queries on a map: its two grids, and a session on them.
-///
-/// The session searches by blocks of bits, whoever asks: a least cost is one pair. Contracts see the grids.
+/// Who finds the least costs of queries on a map: a session, which searches by blocks of bits, whoever asks: a
+/// least cost is one pair. Contracts see the map's two grids.
 #[derive(Drop)]
 pub struct LeastCosts {
     session: Session,
-    layers: Layers,
 }
 
 impl Model for LeastCosts {
-    ghost use Rattle.std.specs.Prelude.{◌≡◌};
     ghost use Rattle.grid_moves.specs.Layers as spec;
 
     ghost Value = { spec.Layers };
 
-    ghost view = { λ c. c.layers };
-
-    ghost invariant = { λ c. c.session.layers ≡ c.layers };
+    ghost view = { λ c. c.session.layers };
 }
 
 impl OfMap for LeastCosts {
@@ -52,8 +47,7 @@ impl OfMap for LeastCosts {
 
     fn of_map(alloc: Global, map: MapText, settings: Settings) -> Result<LeastCosts, NoMemory> {
         let session = Session::new(alloc, &map, Engine::Block(Layout::ByCell), settings.rule)?;
-        let layers = Layers::of_map(alloc, map, settings)?;
-        Ok(LeastCosts { session, layers })
+        Ok(LeastCosts { session })
     }
 }
 
@@ -110,16 +104,14 @@ impl LeastCosts {
         ensures is { result.now ≡ self.now }
         ensures layers { AreLayers self.now }
     {
-        // (by its clause they are those of one map)
-        let _both = self.layers.both();
-        &self.layers
+        self.session.layers()
     }
 
     /// The grid of a query that starts in this cell.
     pub fn query_grid(&self, from: Cell) -> &Grid
         ensures { result.now ≡ query_grid self.now from }
     {
-        self.layers.query_grid(from)
+        self.layers().query_grid(from)
     }
 
     /// What a least walk from one free cell of the map to another costs, nothing where none leads there.

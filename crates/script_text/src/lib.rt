@@ -26,4 +26,4 @@ pub use command::ScriptCommand;
 pub use fault::ScriptFault;
 pub use feeder::LineFeeder;
 pub use pieces::pieces_are_the_whole;
-pub use reading::read_script;
+pub use reading::{command_of, four_numbers, read_script, two_numbers};

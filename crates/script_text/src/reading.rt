@@ -64,7 +64,7 @@ pub(crate) fn command_on(piece: Line<'_>) -> Result<Option<ScriptCommand>, Scrip
 }
 
 /// The command of a word and the fields after it, if they are one.
-fn command_of(word: &[u8], fields: Fields<'_>) -> Option<ScriptCommand>
+pub fn command_of(word: &[u8], fields: Fields<'_>) -> Option<ScriptCommand>
     ensures { result ≡ command_in (word.now ∷ fields.entry) }
 {
     if word == b"block".as_slice() {
@@ -85,7 +85,7 @@ fn command_of(word: &[u8], fields: Fields<'_>) -> Option<ScriptCommand>
 }
 
 /// The numbers of two fields, if there are two and each is a number.
-fn two_numbers(mut fields: Fields<'_>) -> Option<(u32, u32)>
+pub fn two_numbers(mut fields: Fields<'_>) -> Option<(u32, u32)>
     ensures { result ≡ spec.two_numbers fields.entry }
 {
     let x = number(fields.next()?)?;
@@ -97,7 +97,7 @@ fn two_numbers(mut fields: Fields<'_>) -> Option<(u32, u32)>
 }
 
 /// The numbers of four fields, if there are four and each is a number.
-fn four_numbers(mut fields: Fields<'_>) -> Option<(u32, u32, u32, u32)>
+pub fn four_numbers(mut fields: Fields<'_>) -> Option<(u32, u32, u32, u32)>
     ensures { result ≡ spec.four_numbers fields.entry }
 {
     let sx = number(fields.next()?)?;

@@ -11,7 +11,8 @@ use Rattle.std.proofs.lemmas.List.Folds.{list_all-append, list_any-append}
 use Rattle.std.proofs.lemmas.List.Sums.{fold-append}
 use Rattle.word_list.specs.declared.request.Pick.{Pick}
 use Rattle.word_list.specs.declared.request.Pick.TheVariants.{Session}
-use Rattle.word_list.specs.declared.request.SessionEngine.TheVariants.{Plain, Plus}
+use Rattle.word_list.specs.declared.request.SessionEngine.{SessionEngine}
+use Rattle.word_list.specs.declared.request.SessionEngine.TheVariants.{Plain, Jps, Block, Plus}
 use Rattle.word_list.specs.declared.request.Settings.{Settings}
 use Rattle.word_list.specs.declared.request.Show.TheVariants.{Points, Cells, Trace, Taken}
 use Rattle.word_list.specs.declared.settings.Setting.{Setting}
@@ -20,7 +21,7 @@ use Rattle.word_list.specs.declared.settings.Choice.TheVariants as choice
 use Rattle.word_list.specs.declared.settings.Family.{Family}
 use Rattle.word_list.specs.Settings.{setting_of, choice_of, is_same, has, has_tables, excludes, are_clashing}
 use Rattle.word_list.specs.Settings.{is_served, is_word_served, are_served, can_load, is_allowed}
-use Rattle.word_list.specs.Settings.{may_follow, all_follow, settings_with, default_settings, settings_of}
+use Rattle.word_list.specs.Settings.{may_follow, all_follow, settings_with, settings_of, silent_on}
 use Rattle.word_list.specs.Settings.{tables_in, tables_of, is_complete}
 use Rattle.word_list.specs.Rule.{Begins}
 
@@ -41,9 +42,9 @@ pub record Waits (allows : List Family) (words : List (List ℕ)) : Type 0 where
   pub free : any_pick words ≡ false
 
 -- none is missing, or it may still come
-pub data Stand (allows : List Family) (words : List (List ℕ)) : Type 0 where
-  whole : is_complete words ≡ true → Stand allows words
-  waits : Waits allows words → Stand allows words
+pub data Stand (engine : SessionEngine) (allows : List Family) (words : List (List ℕ)) : Type 0 where
+  whole : is_complete engine words ≡ true → Stand engine allows words
+  waits : Waits allows words → Stand engine allows words
 
 -- what passes one test passes the other
 any_from : {X : Type 0} (p q : X → Bool) → ((x : X) → p x ≡ true → q x ≡ true) → (xs : List X)
@@ -152,27 +153,34 @@ clash_pick (Some (setting.Rule rule)) h = absurd (cc)
 clash_pick (Some setting.TableFile) h = absurd (cc)
 clash_pick (Some (setting.States states)) h = absurd (cc)
 
--- a family with a setting that the engine of silent words doesn't serve has that engine
-family_has : (s : Setting) → is_served s (Session Plain) ≡ false → (f : Family) → has f s ≡ true
-    → has f (setting.Engine (Session Plus)) ≡ true
-family_has s other f h = grind (arith, nat_tests)
+-- the engine of silent words is that with which a call begins
+begins_so : (engine : SessionEngine) → (silent_on engine).pick ≡ Session engine
+begins_so Plain = refl
+begins_so Jps = refl
+begins_so Block = refl
+begins_so Plus = refl
 
-module _ (allows : List Family) (before : List (List ℕ)) (word : List ℕ) where
+-- a family with a setting that an engine of sessions doesn't serve has the engine that serves every setting
+family_has : (engine : SessionEngine) (s : Setting) → is_served s (Session engine) ≡ false → (f : Family)
+    → has f s ≡ true → has f (setting.Engine (Session Plus)) ≡ true
+family_has engine s other f h = grind (arith, nat_tests)
+
+module _ (engine : SessionEngine) (allows : List Family) (before : List (List ℕ)) (word : List ℕ) where
   abbrev now : List (List ℕ)
   now = before ++ word ∷ []
 
-  chosen_now : settings_of now ≡ settings_with (settings_of before) (setting_of word)
+  chosen_now : settings_of engine now ≡ settings_with (settings_of engine before) (setting_of word)
   chosen_now = grind (arith, nat_tests, fold-append)
 
   -- the word is this setting, which is allowed and clashes with none before it
   module _ (s : Setting) (is : setting_of word ≡ Some s) (allowed : is_allowed allows (Some s) ≡ true)
       (clear : any_clash s before ≡ false) where
-    pick_now : (settings_of now).pick ≡ (settings_with (settings_of before) (Some s)).pick
+    pick_now : (settings_of engine now).pick ≡ (settings_with (settings_of engine before) (Some s)).pick
     pick_now = ap (λ (set : Settings). set.pick) (chosen_now
-        ∙ ap (settings_with (settings_of before)) is)
+        ∙ ap (settings_with (settings_of engine before)) is)
 
-    served_now : (pick : Pick) → (settings_of now).pick ≡ pick → are_served pick before ≡ true
-        → is_served s pick ≡ true → Stand allows now
+    served_now : (pick : Pick) → (settings_of engine now).pick ≡ pick → are_served pick before ≡ true
+        → is_served s pick ≡ true → Stand engine allows now
     served_now pick picked each served =
         whole (ap (λ (p : Pick). are_served p now) picked
         ∙ list_all-append (λ w. is_word_served pick (setting_of w)) before (word ∷ [])
@@ -183,33 +191,34 @@ module _ (allows : List Family) (before : List (List ℕ)) (word : List ℕ) whe
         list_any-append (λ w. picks (setting_of w)) before (word ∷ []) ∙ rw (free, is, other) refl
 
     -- that the engine which is picked serves, or the one of silent words
-    goes_with : Stand allows before → picks (Some s) ≡ false
-        → (is_served s (Session Plain) || any_pick before) ≡ true → Stand allows now
+    goes_with : Stand engine allows before → picks (Some s) ≡ false
+        → (is_served s (Session engine) || any_pick before) ≡ true → Stand engine allows now
     goes_with (whole complete) other some =
-        served_now (settings_of before).pick (pick_now ∙ stays (settings_of before) (Some s) other) complete
-        (sole_pick s before default_settings clear some)
+        served_now (settings_of engine before).pick
+        (pick_now ∙ stays (settings_of engine before) (Some s) other) complete
+        (sole_pick s before (silent_on engine) clear (rw (begins_so engine) some))
     goes_with (waits w) other some = waits (record {
       allowed = w.allowed;
       free = none_picked w.free other;
     })
 
     -- that some engines alone serve, of which none is picked yet
-    waits_for : picks (Some s) ≡ false → (is_served s (Session Plain) || any_pick before) ≡ false
-        → Stand allows now
+    waits_for : picks (Some s) ≡ false → (is_served s (Session engine) || any_pick before) ≡ false
+        → Stand engine allows now
     waits_for other none =
-        let parts = or_parts (is_served s (Session Plain)) (any_pick before) none in
+        let parts = or_parts (is_served s (Session engine)) (any_pick before) none in
         waits (record {
-          allowed = any_from (λ f. has f s) (λ f. has f (setting.Engine (Session Plus))) (family_has s parts.0)
-              allows allowed;
+          allowed = any_from (λ f. has f s) (λ f. has f (setting.Engine (Session Plus)))
+              (family_has engine s parts.0) allows allowed;
           free = none_picked parts.1 other;
         })
 
-    no_engine : Stand allows before → picks (Some s) ≡ false → Stand allows now
+    no_engine : Stand engine allows before → picks (Some s) ≡ false → Stand engine allows now
     no_engine stand other = ⊎_elim (goes_with stand other) (waits_for other)
-        (cases_Bool (is_served s (Session Plain) || any_pick before))
+        (cases_Bool (is_served s (Session engine) || any_pick before))
 
-  stands_with : Stand allows before → (s : Setting) → setting_of word ≡ Some s
-      → is_allowed allows (Some s) ≡ true → any_clash s before ≡ false → Stand allows now
+  stands_with : Stand engine allows before → (s : Setting) → setting_of word ≡ Some s
+      → is_allowed allows (Some s) ≡ true → any_clash s before ≡ false → Stand engine allows now
   stands_with stand (setting.Engine pick) is allowed clear =
       served_now (setting.Engine pick) is allowed clear pick (pick_now (setting.Engine pick) is allowed clear)
       (serves_each pick before clear) refl
@@ -223,45 +232,45 @@ module _ (allows : List Family) (before : List (List ℕ)) (word : List ℕ) whe
       no_engine (setting.States states) is allowed clear stand refl
 
   -- a word more that may follow
-  pub stand_on : Stand allows before → may_follow allows before word ≡ true → Stand allows now
+  pub stand_on : Stand engine allows before → may_follow allows before word ≡ true → Stand engine allows now
   stand_on stand follows =
       let parts = and_parts (is_allowed allows (setting_of word)) _ follows in
       let clear = not-true (list_any (λ w. are_clashing (setting_of w) (setting_of word)) before) parts.1 in
-      elim (setting_of word) as (λ s. setting_of word ≡ s → Stand allows now) [
+      elim (setting_of word) as (λ s. setting_of word ≡ s → Stand engine allows now) [
         | None ↦ λ is. let no = rw is at parts.0 in cc (no)
         | Some s ↦ λ is. stands_with stand s is (rw is at parts.0) (rw is at clear)
       ] refl
 
 -- whether settings may stand behind others, of which no word is missing then
-abbrev pub completed : List Family → List (List ℕ) → List (List ℕ) → Bool
-completed allows before words = all_follow allows before words && is_complete (before ++ words)
+abbrev pub completed : SessionEngine → List Family → List (List ℕ) → List (List ℕ) → Bool
+completed engine allows before words = all_follow allows before words && is_complete engine (before ++ words)
 
 -- what stands can be completed
-pub can_complete : (allows : List Family) (before : List (List ℕ)) → Stand allows before
-    → Begins (completed allows before) []
+pub can_complete : (engine : SessionEngine) (allows : List Family) (before : List (List ℕ))
+    → Stand engine allows before → Begins (completed engine allows before) []
 unfolding tables_in
-can_complete allows before (whole complete) = ([], rw append-nil complete)
-can_complete allows before (waits w) =
+can_complete engine allows before (whole complete) = ([], rw append-nil complete)
+can_complete engine allows before (waits w) =
     let plus : List ℕ = codes "engine=plus" in
-    let chosen : settings_of (before ++ plus ∷ [])
-    ≡ settings_with (settings_of before) (Some (setting.Engine (Session Plus))) =
-    fold-append (λ set word. settings_with set (setting_of word)) default_settings before (plus ∷ []) in
+    let chosen : settings_of engine (before ++ plus ∷ [])
+    ≡ settings_with (settings_of engine before) (Some (setting.Engine (Session Plus))) =
+    fold-append (λ set word. settings_with set (setting_of word)) (silent_on engine) before (plus ∷ []) in
     let clear : any_clash (setting.Engine (Session Plus)) before ≡ false =
     none_from (λ w. are_clashing (setting_of w) (Some (setting.Engine (Session Plus)))) (λ w. picks (setting_of w))
     (λ w. clash_pick (setting_of w)) before w.free in
     let follows : may_follow allows before plus ≡ true =
     and_from (is_allowed allows (Some (setting.Engine (Session Plus)))) (not (any_clash (setting.Engine (Session Plus)) before))
     w.allowed (rw clear refl) in
-    let complete : is_complete (before ++ plus ∷ []) ≡ true =
+    let complete : is_complete engine (before ++ plus ∷ []) ≡ true =
     ap (λ (set : Settings). are_served set.pick (before ++ plus ∷ [])) chosen
     ∙ plus_serves_all (before ++ plus ∷ []) in (
       plus ∷ [],
-      and_from (all_follow allows before (plus ∷ [])) (is_complete (before ++ plus ∷ []))
+      and_from (all_follow allows before (plus ∷ [])) (is_complete engine (before ++ plus ∷ []))
           (rw follows refl) complete,
     )
 
-pub nothing_stands : (allows : List Family) → Stand allows []
-nothing_stands allows = whole refl
+pub nothing_stands : (engine : SessionEngine) (allows : List Family) → Stand engine allows []
+nothing_stands engine allows = whole refl
 
 -- where each word is served, a table file that one tells is
 loaded : (pick : Pick) (words : List (List ℕ)) → are_served pick words ≡ true
@@ -278,6 +287,6 @@ loaded pick (word ∷ words) served =
     by_file (Some name) e here behind = rw e at here
 
 -- so the engine for a table file is picked where no word is missing
-pub loads : (words : List (List ℕ)) → is_complete words ≡ true
-    → can_load (tables_of words) (settings_of words) ≡ true
-loads words complete = loaded (settings_of words).pick words complete
+pub loads : (engine : SessionEngine) (words : List (List ℕ)) → is_complete engine words ≡ true
+    → can_load (tables_of words) (settings_of engine words) ≡ true
+loads engine words complete = loaded (settings_of engine words).pick words complete

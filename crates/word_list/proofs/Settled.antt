@@ -11,13 +11,15 @@ use Rattle.std.proofs.lemmas.Bool.{and_parts, or_parts, or_left, false_from_ne_t
 use Rattle.std.proofs.lemmas.List.{length-map, get_or-map, take_more}
 use Rattle.std.proofs.lemmas.List.Sums.{fold-append}
 use Rattle.std.proofs.lemmas.List.Folds.{list_all_at, list_all_more, list_any-append, list_any_at, list_any_more}
+use Rattle.word_list.specs.declared.request.SessionEngine.{SessionEngine}
+use Rattle.word_list.specs.declared.request.SessionEngine.TheVariants.{Plain}
 use Rattle.word_list.specs.declared.settings.Setting.{Setting}
 use Rattle.word_list.specs.declared.settings.Setting.TheVariants as setting
 use Rattle.word_list.specs.declared.settings.Choice.{Choice}
 use Rattle.word_list.specs.declared.settings.Choice.TheVariants as choice
 use Rattle.word_list.specs.declared.settings.Family.{Family}
 use Rattle.word_list.specs.Settings.{setting_of, choice_of, is_same, is_clash, are_clashing, is_allowed}
-use Rattle.word_list.specs.Settings.{may_follow, settings_with, default_settings, settings_of, tables_in}
+use Rattle.word_list.specs.Settings.{may_follow, settings_with, settings_of, silent_on, tables_in}
 use Rattle.word_list.specs.Settings.{tables_of, is_complete}
 use Rattle.word_list.specs.Rule.{EndsAfter}
 use Rattle.word_list.specs.Steps.{AreSettled}
@@ -49,12 +51,13 @@ module _ {A : Type 0} (test : A → Bool) (xs : List A) (place : ℕ) (x : A) (i
 
 -- behind settings, a list of settings ends after so many words; where these are all, it is one if no word is
 -- missing
-pub record Settles (allows : List Family) (before words : List (List ℕ)) (count : ℕ) : Type 0 where
-  pub ends : EndsAfter (completed allows before) words count
-  pub wrong : count < length words → completed allows before words ≡ false
-  pub right : length words ≤ count → completed allows before words ≡ is_complete (before ++ words)
+pub record Settles (engine : SessionEngine) (allows : List Family) (before words : List (List ℕ)) (count : ℕ)
+    : Type 0 where
+  pub ends : EndsAfter (completed engine allows before) words count
+  pub wrong : count < length words → completed engine allows before words ≡ false
+  pub right : length words ≤ count → completed engine allows before words ≡ is_complete engine (before ++ words)
 
-module _ (allows : List Family) where
+module _ (engine : SessionEngine) (allows : List Family) where
   later : {before : List (List ℕ)} {word : List ℕ} {words : List (List ℕ)} {count : ℕ}
       → AreSettled allows before (word ∷ words) (suc count)
       → AreSettled allows (before ++ word ∷ []) words count
@@ -64,30 +67,32 @@ module _ (allows : List Family) where
     next = rw (append_assoc before (word ∷ []) (take count words)) are.next;
   }
 
-  pub settles : (before words : List (List ℕ)) (count : ℕ) → Stand allows before
-      → AreSettled allows before words count → Settles allows before words count
+  pub settles : (before words : List (List ℕ)) (count : ℕ) → Stand engine allows before
+      → AreSettled allows before words count → Settles engine allows before words count
   settles before [] zero stand are = record {
-    ends = ends_at_once (completed allows before) [] (can_complete allows before stand)
+    ends = ends_at_once (completed engine allows before) [] (can_complete engine allows before stand)
         (λ inside. absurd (omega arith));
     wrong = λ below. absurd (omega arith);
     right = λ above. refl;
   }
   settles before [] (suc count) stand are = absurd (omega (arith, are.within))
   settles before (word ∷ words) zero stand are =
-      grind (arith, append-nil, ends_at_once, completed, can_complete)
+      let begins = can_complete engine allows before stand in
+      let ends = ends_at_once (completed engine allows before) (word ∷ words) begins in
+      grind (arith, append-nil, ends)
   settles before (word ∷ words) (suc count) stand are =
       let first : may_follow allows before word ≡ true = rw append-nil at (are.first 0 (omega arith)) in
-      let goes_on : (more : List (List ℕ)) → completed allows before (word ∷ more)
-      ≡ completed allows (before ++ word ∷ []) more =
+      let goes_on : (more : List (List ℕ)) → completed engine allows before (word ∷ more)
+      ≡ completed engine allows (before ++ word ∷ []) more =
       λ more. rw (first, append_assoc before (word ∷ []) more) refl in
-      let rest = settles (before ++ word ∷ []) words count (stand_on allows before word stand first)
+      let rest = settles (before ++ word ∷ []) words count (stand_on engine allows before word stand first)
       (later are) in
       record {
-        ends = ends_later (completed allows before) (completed allows (before ++ word ∷ [])) word words count
+        ends = ends_later (completed engine allows before) (completed engine allows (before ++ word ∷ [])) word words count
             goes_on rest.ends;
         wrong = λ below. goes_on words ∙ rest.wrong (omega arith);
         right = λ above. goes_on words ∙ rest.right (omega arith)
-            ∙ ap is_complete (append_assoc before (word ∷ []) words);
+            ∙ ap (is_complete engine) (append_assoc before (word ∷ []) words);
       }
 
 -- whether a word makes a choice
@@ -219,16 +224,17 @@ few_settled allows before words zero are = omega (arith, few_made before)
 few_settled allows before [] (suc count) are = absurd (omega (arith, are.within))
 few_settled allows before (word ∷ words) (suc count) are =
     let first : may_follow allows before word ≡ true = rw append-nil at (are.first 0 (omega arith)) in
-    let rest = few_settled allows (before ++ word ∷ []) words count (later allows are) in
+    let rest = few_settled allows (before ++ word ∷ []) words count (later Plain allows are) in
     omega (arith, rest, one_more allows before word first)
 
 -- what words choose, by one more of them
-pub chosen_more : (words : List (List ℕ)) (place : ℕ) (word : List ℕ) → place < length words
-    → get_or words place word ≡ word
-    → settings_of (take (place + 1) words) ≡ settings_with (settings_of (take place words)) (setting_of word)
-chosen_more words place word inside at =
-    ap settings_of (take_more words place word inside ∙ ap (λ (w : List ℕ). take place words ++ w ∷ []) at)
-    ∙ fold-append (λ set word. settings_with set (setting_of word)) default_settings (take place words)
+pub chosen_more : (engine : SessionEngine) (words : List (List ℕ)) (place : ℕ) (word : List ℕ)
+    → place < length words → get_or words place word ≡ word
+    → settings_of engine (take (place + 1) words)
+    ≡ settings_with (settings_of engine (take place words)) (setting_of word)
+chosen_more engine words place word inside at =
+    ap (settings_of engine) (take_more words place word inside ∙ ap (λ (w : List ℕ). take place words ++ w ∷ []) at)
+    ∙ fold-append (λ set word. settings_with set (setting_of word)) (silent_on engine) (take place words)
     (word ∷ [])
 
 -- the table file that words tell, by what the next of them tells

@@ -4,7 +4,10 @@ use Rattle.std.specs.Prelude.{length, take, drop, map, string_bytes}
 use Rattle.std.specs.Borrow.{Bor}
 use Rattle.std.specs.Option.{option_copied}
 use Rattle.word_list.specs.declared.request.Settings.{Settings}
+use Rattle.word_list.specs.declared.request.SessionEngine.{SessionEngine}
+use Rattle.word_list.specs.declared.request.SessionEngine.TheVariants.{Block, Plain}
 use Rattle.word_list.specs.declared.rows.Command.{Command}
+use Rattle.word_list.specs.declared.rows.Command.TheVariants.{Serve}
 use Rattle.word_list.specs.declared.rows.WordKind.{WordKind}
 use Rattle.word_list.specs.declared.rows.Request.{Request}
 use Rattle.word_list.specs.declared.rows.Row as declared
@@ -45,6 +48,11 @@ stored_row row = record {
   words = row.4.now;
   says = map (λ line. line.now) row.5.now;
 }
+
+-- the engine that answers where none is named
+abbrev pub engine_of : Command → SessionEngine
+engine_of Serve = Block
+engine_of other = Plain
 
 -- the row of a name among some
 abbrev pub row_in : List Named → List ℕ → Option Row

@@ -115,8 +115,8 @@ session_engine (Session engine) = engine
 session_engine (Small engine) = Plain
 
 -- whether a setting is of a family; how many states a search has of a cell stands beside its engine; a
--- picture shows the points, and the states that the search took; rows count these states; a table file stands
--- beside the engine that searches by tables
+-- walk's line shows its points or its cells, a picture the points, and the states that the search took; rows
+-- count these states; a table file stands beside the engine that searches by tables
 abbrev pub has : Family → Setting → Bool
 has family.Engine (setting.Engine pick) = not (is_for_small_maps pick)
 has family.Engine (setting.States states) = true
@@ -124,6 +124,8 @@ has family.SmallMap (setting.Engine pick) = is_for_small_maps pick
 has family.Show (setting.Show Points) = true
 has family.Show (setting.Show Cells) = true
 has family.Show (setting.Show Trace) = true
+has family.Walks (setting.Show Points) = true
+has family.Walks (setting.Show Cells) = true
 has family.Drawing (setting.Show Points) = true
 has family.Drawing (setting.Show Trace) = true
 has family.Counts (setting.Show Taken) = true
@@ -168,9 +170,14 @@ default_pick = Session Plain
 abbrev pub default_settings : Settings
 default_settings = record { pick = default_pick; show = Points; rule = Never; states = Arrival }
 
+-- the settings of a call that names none and begins with this engine: where that jumps, a cell has one state
+abbrev pub silent_on : SessionEngine → Settings
+silent_on Plain = default_settings
+silent_on engine = record { pick = Session engine; show = Points; rule = Never; states = Cell }
+
 -- what the words choose
-abbrev pub settings_of : List (List ℕ) → Settings
-settings_of words = fold (λ set word. settings_with set (setting_of word)) default_settings words
+abbrev pub settings_of : SessionEngine → List (List ℕ) → Settings
+settings_of engine words = fold (λ set word. settings_with set (setting_of word)) (silent_on engine) words
 
 -- the name of the table file that the words tell, if one does
 abbrev pub tables_of : List (List ℕ) → Option (List ℕ)
@@ -191,9 +198,9 @@ abbrev pub are_served : Pick → List (List ℕ) → Bool
 are_served pick words = list_all (λ word. is_word_served pick (setting_of word)) words
 
 -- whether no word is missing: where one is served by some engines alone, another picks one of these
-abbrev pub is_complete : List (List ℕ) → Bool
-is_complete words = are_served (settings_of words).pick words
+abbrev pub is_complete : SessionEngine → List (List ℕ) → Bool
+is_complete engine words = are_served (settings_of engine words).pick words
 
 -- whether the words are settings that are allowed, no two of which clash, and none is missing
-abbrev pub are_settings : List Family → List (List ℕ) → Bool
-are_settings allows words = all_follow allows [] words && is_complete words
+abbrev pub are_settings : SessionEngine → List Family → List (List ℕ) → Bool
+are_settings engine allows words = all_follow allows [] words && is_complete engine words

@@ -2,15 +2,18 @@
 use Rattle.std.specs.Prelude.{◌≡◌, ℕ, Bool, true, false, List, [], ◌∷◌, codes, refl, Option, Some, None}
 use Rattle.std.specs.Prelude.{◌||◌, ◌&&◌, if◌then◌else◌, bytes_eq, nat_eq}
 use Rattle.std.specs.List.{list_all, list_any}
+use Rattle.std.specs.Option.{option_map}
 use Rattle.word_list.specs.declared.rows.WordKind.{WordKind}
 use Rattle.word_list.specs.declared.rows.WordKind.TheVariants.{File, Number, Seed, Side, Percent, Count}
 use Rattle.grid_moves.specs.declared.Corner.{Corner}
 use Rattle.grid_moves.specs.declared.Corner.TheVariants.{Never, One, Both}
 use Rattle.text_line.specs.LongNumbers.{long_number_of}
 use Rattle.text_line.specs.Numbers.{number_of}
+use Rattle.word_list.specs.declared.request.Pick.{Pick}
 use Rattle.word_list.specs.declared.request.Pick.TheVariants.{Session, Small}
 use Rattle.word_list.specs.declared.request.SessionEngine.TheVariants.{Plain, Jps, Block, Plus}
 use Rattle.word_list.specs.declared.request.SmallEngine.TheVariants.{Boxes, Moves}
+use Rattle.word_list.specs.declared.request.Settings.{Settings}
 use Rattle.word_list.specs.declared.request.Show.{Show}
 use Rattle.word_list.specs.declared.request.Show.TheVariants.{Points, Cells, Trace, Taken}
 use Rattle.word_list.specs.declared.request.SessionEngine.{SessionEngine}
@@ -294,7 +297,7 @@ allowing one (row ∷ others) =
     if is_allowed row.row.allows (Some one) then row.name ∷ allowing one others else allowing one others
 
 pub stated_commands : allowing (setting.States Cell) rows ≡ codes "query" ∷ codes "solve" ∷ codes "live"
-    ∷ codes "scen" ∷ codes "drill" ∷ codes "draw" ∷ []
+    ∷ codes "serve" ∷ codes "scen" ∷ codes "drill" ∷ codes "draw" ∷ []
 stated_commands = refl
 
 pub engine_commands : allowing (setting.Engine (Session Plain)) rows ≡ allowing (setting.States Cell) rows
@@ -408,3 +411,35 @@ no_problems = refl
 pub too_many_problems : call_of (codes "problems" ∷ codes "m" ∷ codes "1" ∷ codes "100001" ∷ []) ≡ None
 unfolding number_of long_number_of tables_in
 too_many_problems = refl
+
+-- a session without end begins with blocks and one state a cell; `states=` then needs no engine, but `plain`
+-- has none, and a table file waits for `plus`
+abbrev serve_with : List (List ℕ) → Option Settings
+serve_with words = option_map (λ (call : Call). call.settings) (call_of (codes "serve" ∷ codes "m" ∷ words))
+
+abbrev serving : Pick → States → Option Settings
+serving pick of_cell = Some (record { pick = pick; show = Points; rule = Never; states = of_cell })
+
+pub silent_serve : serve_with [] ≡ serving (Session Block) Cell
+unfolding tables_in
+silent_serve = refl
+
+pub serve_by_jps : serve_with (codes "engine=jps" ∷ []) ≡ serving (Session Jps) Cell
+unfolding tables_in
+serve_by_jps = refl
+
+pub serve_by_arrival : serve_with (codes "states=arrival" ∷ []) ≡ serving (Session Block) Arrival
+unfolding tables_in
+serve_by_arrival = refl
+
+pub serve_states_plain : serve_with (codes "states=cell" ∷ codes "engine=plain" ∷ []) ≡ None
+unfolding tables_in
+serve_states_plain = refl
+
+pub serve_tables_alone : serve_with (codes "tables=t" ∷ []) ≡ None
+unfolding tables_in
+serve_tables_alone = refl
+
+pub serve_trace : serve_with (codes "show=trace" ∷ []) ≡ None
+unfolding tables_in
+serve_trace = refl

@@ -72,7 +72,7 @@ fn read_after<'a>(name: &str, words: &'a [String]) -> Result<(Request<'a>, Setti
     let rest = &words[taken..];
     let more = settled(row.allows, rest);
     let tables = table_file(rest);
-    let settings = chosen(rest);
+    let settings = chosen(row.command.engine(), rest);
     if more < rest.len() || !serves(settings.pick, rest) {
         return Err(BadWord((taken + more) as u32 + 2));
     }

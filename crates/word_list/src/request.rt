@@ -37,6 +37,22 @@ impl Default for Pick {
     }
 }
 
+impl Settings {
+    /// The settings of a call that names none and begins with this engine: where that jumps, a cell has one state.
+    pub fn silent_on(engine: SessionEngine) -> Settings
+        ensures { result ≡ spec.silent_on engine }
+    {
+        match engine {
+            SessionEngine::Plain => Settings::default(),
+            SessionEngine::Jps | SessionEngine::Block | SessionEngine::Plus => Settings {
+                pick: Pick::Session(engine),
+                states: States::Cell,
+                ..Settings::default()
+            },
+        }
+    }
+}
+
 impl Pick {
     /// The engine of a session: an engine for small maps is none, and leaves a session as it is where no word
     /// picks an engine.

@@ -2,12 +2,13 @@
 
 ghost use Rattle.std.specs.Prelude.{◌≡◌, ◌≤◌, true, length, map, string_bytes, Some, IfSome, slice_get};
 ghost use Rattle.std.specs.Option.{option_copied, option_map};
-ghost use Rattle.word_list.specs.Request.{row_data, row_in, row_of, rows, stored_row};
+ghost use Rattle.word_list.specs.Request.{engine_of, row_data, row_in, row_of, rows, stored_row};
 ghost use Rattle.word_list.specs.Steps.{is_one_of};
 ghost use Rattle.word_list.specs.Kinds.{is_of, word_at, number_at as spelled_at, seed_at as spelled_seed_at, side_of as spelled_side, side_at as spelled_side_at, percent_of as spelled_percent, percent_at as spelled_percent_at, count_of as spelled_count, count_at as spelled_count_at};
 
+use crate::request::SessionEngine;
 use crate::settings::Family;
-use Family::{Counts, Drawing, Engine, Rule, Show, SmallMap, TableFile};
+use Family::{Counts, Drawing, Engine, Rule, Show, SmallMap, TableFile, Walks};
 use WordKind::{Count, File, Number, Percent, Seed, Side};
 use text_line::long_number;
 
@@ -17,6 +18,7 @@ pub enum Command {
     Query,
     Solve,
     Live,
+    Serve,
     Scen,
     Judge,
     Lengths,
@@ -32,6 +34,18 @@ pub enum Command {
     Moves,
     Help,
     Version,
+}
+
+impl Command {
+    /// The engine that answers where none is named.
+    pub fn engine(self) -> SessionEngine
+        ensures { result ≡ engine_of self }
+    {
+        match self {
+            Command::Serve => SessionEngine::Block,
+            _ => SessionEngine::Plain,
+        }
+    }
 }
 
 /// What a call asks for: a command, the words that it takes, and the name of a table file, where one is
@@ -181,7 +195,7 @@ type Stored = (
 );
 
 /// The commands, in the order of help.
-static ROWS: [Stored; 18] = [
+static ROWS: [Stored; 19] = [
     (
         "query",
         Command::Query,
@@ -205,6 +219,16 @@ static ROWS: [Stored; 18] = [
         &[Engine, TableFile, Show, Rule],
         "MAP",
         &["the same for a script on standard input, each command answered as it comes"],
+    ),
+    (
+        "serve",
+        Command::Serve,
+        &[File],
+        &[Engine, TableFile, Walks, Rule],
+        "MAP",
+        &[
+            "a session without end for games and robots: the same, the nearest cell, fields and costs, by the engine block",
+        ],
     ),
     (
         "scen",

@@ -46,6 +46,8 @@ pub enum Family {
     SmallMap,
     /// What an answer shows.
     Show,
+    /// What a walk's line shows of it: the points, or its cells.
+    Walks,
     /// What a picture shows: the points, and the states that the search took.
     Drawing,
     /// What rows count: the states that the searches took.
@@ -68,6 +70,8 @@ impl Family {
             (Family::Show, Setting::Show(Show::Points)) => true,
             (Family::Show, Setting::Show(Show::Cells)) => true,
             (Family::Show, Setting::Show(Show::Trace)) => true,
+            (Family::Walks, Setting::Show(Show::Points)) => true,
+            (Family::Walks, Setting::Show(Show::Cells)) => true,
             (Family::Drawing, Setting::Show(Show::Points)) => true,
             (Family::Drawing, Setting::Show(Show::Trace)) => true,
             (Family::Counts, Setting::Show(Show::Taken)) => true,
@@ -203,11 +207,11 @@ impl Setting {
     }
 }
 
-/// What the words choose.
-pub fn chosen(words: &[String]) -> Settings
-    ensures { result ≡ settings_of (map string_bytes words.now) }
+/// What the words choose, where a call that names no engine begins with this one.
+pub fn chosen(engine: SessionEngine, words: &[String]) -> Settings
+    ensures { result ≡ settings_of engine (map string_bytes words.now) }
 {
-    let mut settings = Settings::default();
+    let mut settings = Settings::silent_on(engine);
     for word in words {
         settings = with_word(settings, word.as_str());
     }

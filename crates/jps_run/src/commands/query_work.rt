@@ -4,17 +4,18 @@
 ghost use Rattle.std.specs.Prelude.{◌≡◌, ◌<◌, [], ◌∷◌, IfOk};
 ghost use Rattle.script_text.specs.declared.command.ScriptCommand.TheVariants.{Query};
 ghost use Rattle.jps_run.specs.Answerers.{who_from};
-ghost use Rattle.jps_run.specs.Lines.{Unfolds, reply_line};
+ghost use Rattle.reply_lines.specs.Lines.{Unfolds, reply_line};
 ghost use Rattle.jps_run.specs.Querying.{IsQueryWork};
 ghost use Rattle.jps_run.specs.Who as spec;
 ghost use Rattle.jps_run.specs.Who.{who_is};
 
 use crate::NoMemory;
-use crate::replies::{Answers, Basis, put_reply, small_reply};
+use crate::replies::{Answers, Basis, small_reply};
 use crate::work::Work;
 use cell_lines::AskedEnds;
 use edit_replay::{Reply, Session};
 use grid_moves::{Layers, Terrain};
+use reply_lines::put_reply;
 use script_text::ScriptCommand;
 use std::alloc::Global;
 use word_list::{Show, SmallEngine};

@@ -8,7 +8,6 @@ ghost use Rattle.jps_run.specs.Rising.{RoseForCommand, RoseForCommands};
 ghost use Rattle.line_work.specs.Sending.{SendsWhole};
 
 use crate::NoMemory;
-use crate::replies::lines::{put_edit_reply, put_reply};
 use crate::replies::session_on;
 use call_files::{Extent, OfMap};
 use edit_replay::Session;
@@ -16,6 +15,7 @@ use grid_moves::Ground;
 use io_edge::Sink;
 use line_work::{Job, Stop, work_items};
 use map_text::MapText;
+use reply_lines::{put_edit_reply, put_reply};
 use script_text::ScriptCommand;
 use std::alloc::Global;
 use std::sync::ledger::Ledger;

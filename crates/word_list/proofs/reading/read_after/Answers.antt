@@ -19,26 +19,27 @@ returns-then-taken-row-clause-spelled c =
 
 pub returns-then-more-rest-clause-spelled : goal.returns-then-more-rest-clause-spelled
 returns-then-more-rest-clause-spelled c =
+    let chosen = rw c.engine.ensures at c.chosen-settings.ensures in
     let named = names_setting c.args.name.now _ (row_data c.in-Some.row) (sym c.in-Some.ensures.row)
     c.fitting-taken.result c.fitting-taken.ensures.count c.if-taken-row.false _
     (rw (take_rest, drop-map) refl) c.settled-more.result c.settled-more.ensures.count in
     elim c.then-more-rest.branch [
       | then-more-rest-via-then-more-rest w ↦ named (inl (rw length-map w.if-more-rest.true))
       | then-more-rest-via-else-more-rest+then-not-serves w ↦ named
-          (inr (served_as _ c.chosen-settings.ensures w.serves.ensures
+          (inr (served_as _ _ chosen w.serves.ensures
           ∙ w.if-not-serves.true))
     ]
 
 pub returns-clause-spelled : goal.returns-clause-spelled
 returns-clause-spelled c =
+    let chosen = rw c.engine.ensures at c.chosen-settings.ensures in
     calls c.args.name.now _ (row_data c.in-Some.row) (sym c.in-Some.ensures.row) c.fitting-taken.result
     c.fitting-taken.ensures.count c.if-taken-row.false _ (rw (take_rest, drop-map) refl) c.settled-more.result
     c.settled-more.ensures.count (rw length-map c.if-more-rest.false)
-    (served_as _ c.chosen-settings.ensures c.serves.ensures ∙ c.if-not-serves.false) _ _
-    (asks_same (sym (take-map _ c.fitting-taken.result _)) c.table_file-tables.ensures)
-    c.chosen-settings.ensures
+    (served_as _ _ chosen c.serves.ensures ∙ c.if-not-serves.false) _ _
+    (asks_same (sym (take-map _ c.fitting-taken.result _)) c.table_file-tables.ensures) chosen
 
 pub returns-clause-sound : goal.returns-clause-sound
 returns-clause-sound c =
-    sound_by _ c.table_file-tables.ensures c.chosen-settings.ensures
-    (served_as _ c.chosen-settings.ensures c.serves.ensures ∙ c.if-not-serves.false)
+    sound_by _ _ c.table_file-tables.ensures c.chosen-settings.ensures
+    (served_as _ _ c.chosen-settings.ensures c.serves.ensures ∙ c.if-not-serves.false)

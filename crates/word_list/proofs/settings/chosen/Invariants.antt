@@ -3,4 +3,4 @@ use Rattle.word_list.specs.Settings.{settings_of}
 use Rattle.word_list.proofs.settings.chosen.Given as goal
 
 abbrev pub invariant-loop-word : goal.invariant-loop-word
-invariant-loop-word l = l.settings ≡ settings_of (take l.word-index (map string_bytes l.words))
+invariant-loop-word l = l.settings ≡ settings_of l.fn.engine (take l.word-index (map string_bytes l.words))

@@ -8,7 +8,7 @@ use Rattle.grid_moves.specs.Reply.{IsRight}
 use Rattle.edit_replay.specs.Replies.{answer_of}
 use Rattle.edit_replay.specs.declared.reply.Reply.{Reply}
 use Rattle.edit_replay.specs.declared.reply.Reply.TheVariants as reply
-use Rattle.jps_run.specs.Lines.{Unfolds}
+use Rattle.reply_lines.specs.Lines.{Unfolds}
 
 lined_from : (p : Cell) (points : List Cell) (cells : List Cell) → unfolded_from p points ≡ Some cells
     → is_lined (p ∷ points) ≡ true

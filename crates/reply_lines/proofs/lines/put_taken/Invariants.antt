@@ -1,7 +1,7 @@
 use Rattle.std.proofs.Common.{◌≡◌, ◌++◌, take}
 use Rattle.std.specs.Prelude.{codes}
 use Rattle.cell_lines.specs.Cells.{state_text, texts_of}
-use Rattle.jps_run.proofs.replies.lines.put_taken.Given as goal
+use Rattle.reply_lines.proofs.lines.put_taken.Given as goal
 
 abbrev pub invariant-loop-state : goal.invariant-loop-state
 invariant-loop-state l =

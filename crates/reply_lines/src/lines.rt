@@ -1,7 +1,7 @@
 //! The lines that answer a query or an edit.
 
 ghost use Rattle.std.specs.Prelude.{◌≡◌, ◌<◌, ◌++◌, OnOk};
-ghost use Rattle.jps_run.specs.Lines as spec;
+ghost use Rattle.reply_lines.specs.Lines as spec;
 
 use crate::NoMemory;
 use cell_lines::{put_points, put_state};
@@ -80,13 +80,20 @@ pub fn put_reply(
     }
 }
 
-/// Appends the line of the reply to an edit.
+/// The line of the reply to an edit.
+pub fn edit_bytes(reply: EditReply) -> &'static [u8]
+    ensures { result.now ≡ spec.edit_line reply }
+{
+    match reply {
+        EditReply::Done => b"ok\n",
+        EditReply::Same => b"same\n",
+        EditReply::Outside => b"outside\n",
+    }
+}
+
+/// Appends that line.
 pub fn put_edit_reply(out: &mut Vec<u8>, reply: EditReply) -> Result<(), NoMemory>
     ensures { OnOk result (out.new.items ≡ out.old.items ++ spec.edit_line reply) }
 {
-    match reply {
-        EditReply::Done => put(out, b"ok\n"),
-        EditReply::Same => put(out, b"same\n"),
-        EditReply::Outside => put(out, b"outside\n"),
-    }
+    put(out, edit_bytes(reply))
 }

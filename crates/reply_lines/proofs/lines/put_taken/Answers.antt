@@ -2,7 +2,7 @@ use Rattle.std.proofs.Common.{◌++◌}
 use Rattle.std.specs.Prelude.{codes}
 use Rattle.cell_lines.specs.Cells.{state_text}
 use Rattle.cell_lines.proofs.Writing.{texts-next}
-use Rattle.jps_run.proofs.replies.lines.put_taken.Goals as goal
+use Rattle.reply_lines.proofs.lines.put_taken.Goals as goal
 
 pub loop-state-preserved : goal.loop-state-preserved
 loop-state-preserved c =

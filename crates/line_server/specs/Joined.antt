@@ -1,0 +1,8 @@
+-- A session that knows which cells are joined. No public clause cites this module.
+use Rattle.components.specs.Kept.{KeptLabels, Tells}
+use Rattle.edit_replay.specs.Session.{SessionData}
+
+-- the labels of both grids tell them
+pub record KnowsJoined (session : SessionData) (land water : KeptLabels) : Type 0 where
+  pub land : Tells session.layers.land land
+  pub water : Tells session.layers.water water

@@ -1,0 +1,10 @@
+//! The session that answers lines as they come in pieces, for as long as they come.
+#![tactic(auto)]
+
+mod asked;
+mod joined;
+mod server;
+
+pub use asked::Asked;
+pub use server::LineServer;
+pub use std::alloc::AllocError as NoMemory;
