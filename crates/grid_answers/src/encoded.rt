@@ -90,7 +90,7 @@ fn send_parts<O: Sink>(
     send_entries(water, room, out)
 }
 
-/// Writes the table file. No memory is asked for.
+/// Writes the table file, in pieces through its room.
 pub fn write_file<O: Sink>(file: &mut TableFile, out: &mut O) -> Result<u8, Stop>
     requires { length file.old.room.items ≡ 65536 }
     ensures { SendsWhole (IsEncoded file.old) (O.outflow out.old) (O.outflow out.new) result }
