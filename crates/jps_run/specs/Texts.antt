@@ -3,7 +3,7 @@ use Rattle.std.specs.Prelude.{ℕ, List, [], codes, map, ◌++◌}
 use Rattle.std.specs.List.{concat}
 use Rattle.word_list.specs.Request.{Named, rows}
 use Rattle.word_list.specs.declared.settings.Family.{Family}
-use Rattle.word_list.specs.declared.settings.Family.TheVariants.{Engine, SmallMap, Show, Drawing, Counts}
+use Rattle.word_list.specs.declared.settings.Family.TheVariants.{Engine, SmallMap, Show, Walks, Drawing, Counts}
 use Rattle.word_list.specs.declared.settings.Family.TheVariants.{Rule, TableFile}
 
 -- how help tells of the settings of a family
@@ -12,6 +12,7 @@ setting_text Engine = codes " [engine=ENGINE] [states=arrival|cell]"
 setting_text SmallMap = []
 setting_text TableFile = codes " [tables=FILE]"
 setting_text Show = codes " [show=points|cells|trace]"
+setting_text Walks = codes " [show=points|cells]"
 setting_text Drawing = codes " [show=points|trace]"
 setting_text Counts = codes " [show=taken]"
 setting_text Rule = codes " [rule=none|one|both]"
@@ -45,10 +46,14 @@ help_text =
     ++ codes "direction of arrival, states=cell one for each cell: mostly in less time, and walks cost the same.\n"
     ++ codes "tables=FILE beside engine=plus takes the tables that `jps tables` wrote to FILE; those of another map, of\n"
     ++ codes "another rule, or with a wrong entry are refused.\n"
+    ++ codes "Where none is named serve has engine=block, and beside an engine that jumps states=cell. Its lines are those of\n"
+    ++ codes "scripts, and `near SX SY GX GY`, `field X Y`, `costs X Y`. None ends it: another line is answered `refused T1`, one\n"
+    ++ codes "of more than 128 bytes `refused T2`, and where memory is refused a line is answered `memory` and changes nothing.\n"
     ++ codes "For query and scen, on maps of at most 16384 cells, ENGINE may also be boxes, whose search leaves out moves\n"
     ++ codes "by goal boxes, or moves, which follows first moves and takes no states (no show=trace, no show=taken).\n"
     ++ codes "Of the two cells beside a diagonal move rule=none lets none be blocked, rule=one one, rule=both both; where\n"
     ++ codes "no rule is named it is none.\n"
+    ++ codes "In a checkout `./jps --program` prints the path of the program: loops of short calls are quicker by that path.\n"
     ++ codes "\n"
     ++ codes "statuses: 0 done; 1 done, and a row of `scen` is neither agree nor near, `judge` or `check` refuses, `prove`\n"
     ++ codes "has no free ends on one layer, `draw` no free ends, `lengths` left an entry out, or `problems` found fewer than N;\n"

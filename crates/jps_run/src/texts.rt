@@ -15,6 +15,9 @@ pub(crate) fn help_text() -> &'static [u8]
       one line for each command of the script: edits of the map, and queries
   jps live MAP [engine=ENGINE] [states=arrival|cell] [tables=FILE] [show=points|cells|trace] [rule=none|one|both]
       the same for a script on standard input, each command answered as it comes
+  jps serve MAP [engine=ENGINE] [states=arrival|cell] [tables=FILE] [show=points|cells] [rule=none|one|both]
+      for games and robots, without end: each line on standard input is answered as it comes: edits, queries,
+      walks to the nearest cell that can be reached, the first move and the least cost from each cell to one
   jps scen MAP SCEN [engine=ENGINE] [states=arrival|cell] [tables=FILE] [show=taken] [rule=none|one|both]
       a row for each entry of the scenario, its length judged by the least cost, and their sum; with show=taken
       also how many states each search took
@@ -57,10 +60,14 @@ Beside one of these three states=arrival, where none is named, has the search ke
 direction of arrival, states=cell one for each cell: mostly in less time, and walks cost the same.
 tables=FILE beside engine=plus takes the tables that `jps tables` wrote to FILE; those of another map, of
 another rule, or with a wrong entry are refused.
+Where none is named serve has engine=block, and beside an engine that jumps states=cell. Its lines are those of
+scripts, and `near SX SY GX GY`, `field X Y`, `costs X Y`. None ends it: another line is answered `refused T1`, one
+of more than 128 bytes `refused T2`, and where memory is refused a line is answered `memory` and changes nothing.
 For query and scen, on maps of at most 16384 cells, ENGINE may also be boxes, whose search leaves out moves
 by goal boxes, or moves, which follows first moves and takes no states (no show=trace, no show=taken).
 Of the two cells beside a diagonal move rule=none lets none be blocked, rule=one one, rule=both both; where
 no rule is named it is none.
+In a checkout `./jps --program` prints the path of the program: loops of short calls are quicker by that path.
 
 statuses: 0 done; 1 done, and a row of `scen` is neither agree nor near, `judge` or `check` refuses, `prove`
 has no free ends on one layer, `draw` no free ends, `lengths` left an entry out, or `problems` found fewer than N;

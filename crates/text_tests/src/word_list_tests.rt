@@ -15,7 +15,7 @@ fn words_of(alloc: Global, line: &str) -> Result<Vec<String>, AllocError> {
 // Counted by hand, from the table of commands.
 #[test]
 fn the_first_word_of_no_call_is_named(rt: HostRuntime) -> Result<(), Fail> {
-    let lists: [(&str, u32); 76] = [
+    let lists: [(&str, u32); 86] = [
         ("mkae", 1),
         ("make", 2),
         ("make 7 0 2 0", 3),
@@ -70,6 +70,16 @@ fn the_first_word_of_no_call_is_named(rt: HostRuntime) -> Result<(), Fail> {
         ("query m 0 0 2 0 tables=f engine=boxes", 8),
         ("solve m s engine=plus tables=f tables=g", 6),
         ("live m tables=f", 4),
+        ("serve", 2),
+        ("serve m s", 3),
+        ("serve m show=trace", 3),
+        ("serve m show=taken", 3),
+        ("serve m engine=moves", 3),
+        ("serve m states=cell engine=plain", 4),
+        ("serve m engine=plain states=cell", 4),
+        ("serve m tables=f", 4),
+        ("serve m tables=f engine=block", 4),
+        ("serve m tables=f states=cell", 5),
         ("scen m s tables=f show=taken", 6),
         ("drill 1 tables=f", 3),
         ("draw m 0 0 2 2 engine=plus tables=f", 8),
@@ -243,6 +253,7 @@ fn files_of<'a>(request: Request<'a>) -> (&'static str, &'a str, Option<&'a str>
     let command = match request.command {
         Command::Query => "query",
         Command::Live => "live",
+        Command::Serve => "serve",
         Command::Solve => "solve",
         Command::Scen => "scen",
         _ => "another",
@@ -261,7 +272,7 @@ fn a_map_stands_before_its_script_or_scenario(rt: HostRuntime) -> Result<(), Fai
     let none = Corner::Never;
     let solved = ("solve", "m", None, "s");
     let rows = ("scen", "m", None, "s");
-    let calls: [(&str, (&str, &str, Option<&str>, &str), (Pick, Show, Corner)); 8] = [
+    let calls: [(&str, (&str, &str, Option<&str>, &str), (Pick, Show, Corner)); 9] = [
         ("solve m s show=cells", solved, (plain, cells, none)),
         ("scen m s rule=none", rows, (plain, points, none)),
         ("scen m s engine=jps show=taken", rows, (jps, taken, none)),
@@ -274,6 +285,11 @@ fn a_map_stands_before_its_script_or_scenario(rt: HostRuntime) -> Result<(), Fai
             "live m engine=plus rule=both tables=a=b",
             ("live", "m", ab, ""),
             (plus, points, Corner::Both),
+        ),
+        (
+            "serve m tables=a=b show=cells engine=plus",
+            ("serve", "m", ab, ""),
+            (plus, cells, none),
         ),
         (
             "query m 0 0 1 1 tables=t engine=plus",
@@ -322,7 +338,7 @@ fn states_stand_beside_engines_that_jump(rt: HostRuntime) -> Result<(), Fail> {
     let jps = Pick::Session(SessionEngine::Jps);
     let plus = Pick::Session(SessionEngine::Plus);
     let (arrival, cell) = (States::Arrival, States::Cell);
-    let calls: [(&str, (Pick, States)); 10] = [
+    let calls: [(&str, (Pick, States)); 15] = [
         ("query m 0 0 1 1 engine=jps", (jps, arrival)),
         ("query m 0 0 1 1 engine=jps states=arrival", (jps, arrival)),
         ("query m 0 0 1 1 states=cell engine=jps", (jps, cell)),
@@ -342,6 +358,11 @@ fn states_stand_beside_engines_that_jump(rt: HostRuntime) -> Result<(), Fail> {
             (plus, cell),
         ),
         ("drill 1 states=cell engine=jps", (jps, cell)),
+        ("serve m", (block, cell)),
+        ("serve m engine=jps show=cells", (jps, cell)),
+        ("serve m tables=f engine=plus", (plus, cell)),
+        ("serve m states=arrival", (block, arrival)),
+        ("serve m states=arrival engine=jps", (jps, arrival)),
     ];
     for (line, chosen) in calls {
         let words = words_of(rt.alloc(), line)?;

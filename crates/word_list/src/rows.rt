@@ -227,7 +227,8 @@ static ROWS: [Stored; 19] = [
         &[Engine, TableFile, Walks, Rule],
         "MAP",
         &[
-            "a session without end for games and robots: the same, the nearest cell, fields and costs, by the engine block",
+            "for games and robots, without end: each line on standard input is answered as it comes: edits, queries,",
+            "walks to the nearest cell that can be reached, the first move and the least cost from each cell to one",
         ],
     ),
     (
