@@ -7,7 +7,9 @@ ghost use Rattle.nearest_cell.specs.Nearest.{IsNearest};
 ghost use Rattle.components.specs.Kept.{Tells};
 ghost use Rattle.edit_replay.specs.Edited.{edit_at, edit_reply};
 ghost use Rattle.edit_replay.specs.Replies.{AddsEdit};
-ghost use Rattle.line_server.specs.Answers.{IsNearAnswer, cell_at, query_line};
+ghost use Rattle.edit_replay.specs.ReplyOf.{reply_of};
+ghost use Rattle.reply_lines.specs.Replies.{query_line};
+ghost use Rattle.line_server.specs.Answers.{cell_at, near_line};
 
 use crate::NoMemory;
 use components::Components;
@@ -130,10 +132,10 @@ impl JoinedSession {
         }
     }
 
-    // Whether labels show that the line of the reply is `none`: the ends are free in one layer, and no walk joins them.
+    // Whether the reply's line is known to be `none`: the ends are free in one layer, and labels part them.
     fn is_none(&mut self, show: Show, sx: u32, sy: u32, gx: u32, gy: u32) -> bool
         ensures none { result ≡ true → codes "none\n"
-            ≡ query_line self.old.engine show self.old.layers (cell_at sx sy) (cell_at gx gy) }
+            ≡ query_line (reply_of self.old.engine) show self.old.layers (cell_at sx sy) (cell_at gx gy) }
         ensures unchanged { self.new ≡ self.old }
     {
         if show == Show::Trace {
@@ -163,7 +165,7 @@ impl JoinedSession {
         gy: u32,
         steps: &mut Steps<L>,
     ) -> Result<Vec<u8>, NoMemory>
-        ensures line { IfOk result (λ text. text.items ≡ query_line self.old.engine show self.old.layers
+        ensures line { IfOk result (λ text. text.items ≡ query_line (reply_of self.old.engine) show self.old.layers
             (cell_at sx sy) (cell_at gx gy)) }
         ensures unchanged { self.new ≡ self.old }
     {
@@ -188,8 +190,8 @@ impl JoinedSession {
         gy: u32,
         steps: &mut Steps<L>,
     ) -> Result<Vec<u8>, NoMemory>
-        ensures line { IfOk result (λ text. IsNearAnswer self.old.engine show self.old.layers
-            (cell_at sx sy) (cell_at gx gy) text.items) }
+        ensures line { IfOk result (λ text. text.items ≡ near_line (reply_of self.old.engine) show self.old.layers
+            (cell_at sx sy) (cell_at gx gy)) }
         ensures unchanged { self.new ≡ self.old }
     {
         let layers = self.session.layers();
