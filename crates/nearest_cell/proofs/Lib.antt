@@ -1,3 +1,4 @@
 pub mod Order
 pub mod Ringed
 pub mod Lawful
+pub mod Listed
