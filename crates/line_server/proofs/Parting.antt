@@ -1,20 +1,24 @@
 -- What labels tell of the replies of a session.
-use Rattle.std.proofs.Common.{◌≡◌, refl, sym, ap, ◌∙◌, subst, Bool, true, false, List, ℕ, inl, inr}
+use Rattle.std.proofs.Common.{◌≡◌, refl, sym, ap, ◌∙◌, subst, Bool, true, false, List, ℕ, inl, inr, arith}
 use Rattle.std.specs.Prelude.{◌≢◌, ◌↔◌, IsTrue, codes, ◌&&◌, ◌||◌, if◌then◌else◌}
-use Rattle.std.proofs.lemmas.Bool.{and_parts}
+use Rattle.std.proofs.lemmas.Bool.Decides.{nat_tests}
 use denote.Enum.Bare.{sameb}
 use Rattle.word_list.specs.contracts.request.Show.{the_type}
 use Rattle.grid_moves.specs.declared.Cell.{Cell}
 use Rattle.grid_moves.specs.declared.Ground.{Ground}
 use Rattle.grid_moves.specs.Grid.{GridData, is_free, is_inside}
-use Rattle.grid_moves.specs.Layers.{Layers, in_one_layer, is_free_ground, is_on_map, query_grid, layers_with}
+use Rattle.grid_moves.specs.Layers.{AreLayers, Layers, in_one_layer, is_free_ground, is_on_map, query_grid, layers_with}
 use Rattle.grid_moves.specs.Reply.{IsRight, are_free_ends}
 use Rattle.joined_cells.specs.Joined.{IsJoined, are_joined}
 use Rattle.components.specs.Kept.{KeptLabels, Tells}
-use Rattle.nearest_cell.specs.Nearest.{IsNearest}
+use Rattle.joined_cells.proofs.Layering.{joined_in_one_layer}
+use Rattle.nearest_cell.specs.Nearest.{IsNearest, nearest_of}
+use Rattle.nearest_cell.proofs.Lawful.{nearest_one}
+use Rattle.nearest_cell.proofs.Listed.{nearest_of-first}
 use Rattle.edit_replay.specs.Replies.{EditsSo, answer_of}
 use Rattle.edit_replay.specs.ReplyOf.{reply_of}
 use Rattle.edit_replay.specs.declared.engine.Engine.{Engine}
+use Rattle.edit_replay.proofs.Grounds.{ends_free, ends_on}
 use Rattle.edit_replay.proofs.Replying.{is_reply}
 use Rattle.edit_replay.specs.declared.reply.Reply.{Reply}
 use Rattle.edit_replay.specs.declared.reply.Reply.TheVariants as reply
@@ -23,8 +27,10 @@ use Rattle.edit_replay.specs.declared.reply.EditReply.TheVariants as edit
 use Rattle.word_list.specs.declared.request.Show.{Show}
 use Rattle.word_list.specs.declared.request.Show.TheVariants.{Points, Cells, Trace, Taken}
 use Rattle.reply_lines.specs.Lines.{Unfolds, reply_line}
+use Rattle.reply_lines.specs.Replies.{is_walk, query_line}
 use Rattle.reply_lines.proofs.Unfolding.{replied_unfolds}
-use Rattle.line_server.specs.Answers.{IsNearAnswer, query_line}
+use Rattle.grid_answers.proofs.Cells.{free-on}
+use Rattle.line_server.specs.Answers.{near_line, nearest_by}
 
 -- the grid of a query, by whether it starts in water
 pub in-water : (ls : Layers) (s : Cell) (b : Bool) → b ≡ is_free ls.water s → b ≡ true → query_grid ls s ≡ ls.water
@@ -40,14 +46,6 @@ joined-there g k p tells fresh same s t b is =
     subst (λ (h : GridData). IsTrue b ↔ IsJoined h s t) (sym same)
     (subst (λ (c : Bool). IsTrue c ↔ IsJoined k s t) (sym is) ((tells.joined fresh).joined s t))
 
-or-left : (a b : Bool) → a ≡ true → (a || b) ≡ true
-or-left true b h = refl
-or-left false b h = absurd (cc)
-
-or-right : (a b : Bool) → b ≡ true → (a || b) ≡ true
-or-right true b h = refl
-or-right false b h = h
-
 pub both-true : (a b : Bool) → a ≡ true → b ≡ true → (a && b) ≡ true
 both-true true b h k = k
 both-true false b h k = h
@@ -58,21 +56,7 @@ not-both false b h = refl
 
 -- cells that are free on one grid are free
 free-ends : (ls : Layers) (s t : Cell) → in_one_layer ls s t ≡ true → are_free_ends ls s t ≡ true
-free-ends ls s t = by_water (is_free ls.water s) refl
-  where
-    by_water : (w : Bool) → is_free ls.water s ≡ w
-        → (is_free (if w then ls.water else ls.land) s && is_free (if w then ls.water else ls.land) t) ≡ true
-        → are_free_ends ls s t ≡ true
-    by_water true is one =
-        let ends = and_parts (is_free ls.water s) (is_free ls.water t) one in
-        both-true (is_free_ground ls s) (is_free_ground ls t)
-        (or-right (is_free ls.land s) (is_free ls.water s) ends.0)
-        (or-right (is_free ls.land t) (is_free ls.water t) ends.1)
-    by_water false is one =
-        let ends = and_parts (is_free ls.land s) (is_free ls.land t) one in
-        both-true (is_free_ground ls s) (is_free_ground ls t)
-        (or-left (is_free ls.land s) (is_free ls.water s) ends.0)
-        (or-left (is_free ls.land t) (is_free ls.water t) ends.1)
+free-ends ls s t one = grind (arith, nat_tests)
 
 -- a right reply between cells of one layer that no walk joins is none
 none-right : (ls : Layers) (s t : Cell) (width : ℕ) (show : Show) (r : Reply) → IsRight ls s t (answer_of r)
@@ -92,7 +76,7 @@ none-right ls s t width show (reply.Walk points cost taken) right on one apart s
 
 pub none-line : (engine : Engine) (show : Show) (ls : Layers) (s t : Cell) → is_on_map ls s ≡ true
     → is_on_map ls t ≡ true → in_one_layer ls s t ≡ true → ¬ IsJoined (query_grid ls s) s t
-    → sameb the_type show Trace ≡ false → codes "none\n" ≡ query_line engine show ls s t
+    → sameb the_type show Trace ≡ false → codes "none\n" ≡ query_line (reply_of engine) show ls s t
 none-line engine show ls s t on onto one apart shows =
     none-right ls s t ls.land.width show (reply_of engine ls s t)
     (is_reply (record { engine = engine; layers = ls }) s t).right
@@ -103,21 +87,58 @@ pub reply-unfolds : (engine : Engine) (ls : Layers) (s t : Cell) (r : Reply) →
 reply-unfolds engine ls s t r is = subst Unfolds (sym is)
     (replied_unfolds ls s t (reply_of engine ls s t) (is_reply (record { engine = engine; layers = ls }) s t).right)
 
+-- where a walk leads the reply is one, and there alone
+walk-right : (ls : Layers) → AreLayers ls → (s t : Cell) (r : Reply) → IsRight ls s t (answer_of r)
+    → IsTrue (is_walk r) ↔ IsJoined (query_grid ls s) s t
+walk-right ls are s t r right = (leads r right, reached r right)
+  where
+    leads : (r : Reply) → IsRight ls s t (answer_of r) → is_walk r ≡ true → IsJoined (query_grid ls s) s t
+    leads reply.Outside right is = absurd (let e : false ≡ true = is in cc)
+    leads reply.Blocked right is = absurd (let e : false ≡ true = is in cc)
+    leads (reply.None taken) right is = absurd (let e : false ≡ true = is in cc)
+    leads (reply.Walk points cost taken) right is =
+        record { cells = right.1.cells; walk = right.1.least.walk }
+
+    reached : (r : Reply) → IsRight ls s t (answer_of r) → IsJoined (query_grid ls s) s t → is_walk r ≡ true
+    reached reply.Outside right j = absurd (
+        let free = ends_free ls are s t (joined_in_one_layer ls s t j) in
+        let e : true ≡ false = sym (ends_on ls are s t free) ∙ right in cc)
+    reached reply.Blocked right j = absurd (
+        let e : true ≡ false = sym (ends_free ls are s t (joined_in_one_layer ls s t j)) ∙ right.1 in cc)
+    reached (reply.None taken) right j = elim right.1 [
+      | inl two ↦ absurd (let e : true ≡ false = sym (joined_in_one_layer ls s t j) ∙ two in cc)
+      | inr none ↦ absurd (none j.cells j.walk)
+    ]
+    reached (reply.Walk points cost taken) right j = refl
+
+-- so the nearest cell by the replies is the nearest one
+module _ (engine : Engine) (ls : Layers) (are : AreLayers ls) (s goal : Cell) where
+  walks-joined : (c : Cell) → IsTrue (is_walk (reply_of engine ls s c)) ↔ IsJoined (query_grid ls s) s c
+  walks-joined c = walk-right ls are s c (reply_of engine ls s c)
+      (is_reply (record { engine = engine; layers = ls }) s c).right
+
+  pub nearest-by : (c : Cell) → is_free (query_grid ls s) s ≡ true → IsNearest (query_grid ls s) s goal c
+      → c ≡ nearest_by (reply_of engine) ls s goal
+  nearest-by c free near = nearest_one (query_grid ls s) s goal c (nearest_by (reply_of engine) ls s goal) near
+      (nearest_of-first (λ d. is_walk (reply_of engine ls s d)) (query_grid ls s) s goal walks-joined free)
+
 -- the answers to `near`
 module _ (engine : Engine) (show : Show) (ls : Layers) (s t : Cell) where
-  pub near-off : (text : List ℕ) → (is_on_map ls s && is_on_map ls t) ≡ false → text ≡ codes "outside\n"
-      → IsNearAnswer engine show ls s t text
-  near-off text off is = rw off is
+  pub near-off : (is_on_map ls s && is_on_map ls t) ≡ false
+      → codes "outside\n" ≡ near_line (reply_of engine) show ls s t
+  near-off off = rw off refl
 
-  pub near-blocked : (text : List ℕ) → is_on_map ls s ≡ true → is_on_map ls t ≡ true → is_free_ground ls s ≡ false
-      → text ≡ codes "blocked\n" → IsNearAnswer engine show ls s t text
-  near-blocked text on onto blocked is = rw (both-true (is_on_map ls s) (is_on_map ls t) on onto, blocked) is
+  pub near-blocked : is_on_map ls s ≡ true → is_on_map ls t ≡ true → is_free_ground ls s ≡ false
+      → codes "blocked\n" ≡ near_line (reply_of engine) show ls s t
+  near-blocked on onto blocked = rw (both-true (is_on_map ls s) (is_on_map ls t) on onto, blocked) refl
 
-  pub near-there : (c : Cell) (text : List ℕ) → is_on_map ls s ≡ true → is_on_map ls t ≡ true
-      → is_free_ground ls s ≡ true → IsNearest (query_grid ls s) s t c → text ≡ query_line engine show ls s c
-      → IsNearAnswer engine show ls s t text
-  near-there c text on onto free nearest is =
-      rw (both-true (is_on_map ls s) (is_on_map ls t) on onto, free) (c, nearest, is)
+  pub near-there : AreLayers ls → (c : Cell) → is_on_map ls s ≡ true → is_on_map ls t ≡ true
+      → is_free_ground ls s ≡ true → IsNearest (query_grid ls s) s t c
+      → query_line (reply_of engine) show ls s c ≡ near_line (reply_of engine) show ls s t
+  near-there are c on onto free nearest =
+      rw (both-true (is_on_map ls s) (is_on_map ls t) on onto, free)
+      (ap (λ (d : Cell). query_line (reply_of engine) show ls s d)
+      (nearest-by engine ls are s t c (free-on ls s (query_grid ls s) refl free) nearest))
 
 -- an edit that is not done changes nothing
 pub stays-off : (ls after : Layers) (c : Cell) (to : Ground) (r : EditReply) → EditsSo ls c to after r

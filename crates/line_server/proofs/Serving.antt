@@ -10,6 +10,7 @@ use Rattle.std.proofs.lemmas.List.Folds.{concat-append}
 use Rattle.grid_moves.specs.Layers.{Layers}
 use Rattle.grid_moves.specs.declared.Ground.{Ground}
 use Rattle.edit_replay.specs.Edited.{Edit, edit_at, edit_reply, edited}
+use Rattle.edit_replay.specs.ReplyOf.{reply_of}
 use Rattle.edit_replay.specs.Replies.{AddsEdit}
 use Rattle.edit_replay.specs.Session.{SessionData}
 use Rattle.edit_replay.specs.declared.engine.Engine.{Engine}
@@ -27,11 +28,12 @@ use Rattle.line_feed.specs.declared.feed.LineFeed.{LineFeed}
 use Rattle.line_feed.specs.Lines.{line_of, lines_of}
 use Rattle.line_feed.specs.Fed.{CompletesLine, HasTaken, TakesAll, whole_lines}
 use Rattle.reply_lines.specs.Lines.{edit_line}
+use Rattle.reply_lines.specs.Replies.{Replies}
 use Rattle.line_server.specs.declared.asked.Asked.{Asked}
 use Rattle.line_server.specs.declared.asked.Asked.TheVariants as asked
 use Rattle.line_server.specs.declared.server.LineServer.{LineServer}
 use Rattle.line_server.specs.Asked.{asked_by, edits_by, may_want}
-use Rattle.line_server.specs.Answers.{Answers, AreAnswers, IsAnswer, all_asked, edits_of}
+use Rattle.line_server.specs.Answers.{Answers, AreAnswers, all_asked, answer_to, edits_of}
 use Rattle.line_server.specs.Served.{AnswersOne, HasServed, HaveAnswered, HaveStopped, WritesText, text_or_memory}
 
 -- the edits of one line more
@@ -42,19 +44,19 @@ edits-more (b ∷ some) a =
     ∙ sym (append_assoc (edits_by b) (edits_of some) (edits_by a))
 
 -- one line more is answered
-answers-more : (engine : Engine) (show : Show) (ls : Layers) (edits : List Edit) (some : List Asked)
-    (texts : List (List ℕ)) (a : Asked) (text : List ℕ) → AreAnswers engine show ls edits some texts
-    → Answers engine show (edited ls (edits ++ edits_of some)) a text
-    → AreAnswers engine show ls edits (some ++ a ∷ []) (texts ++ text ∷ [])
-answers-more engine show ls edits [] [] a text h i =
-    (subst (λ (l : List Edit). Answers engine show (edited ls l) a text) (append-nil edits) i, tt)
-answers-more engine show ls edits [] (t ∷ texts) a text h i = absurd h
-answers-more engine show ls edits (b ∷ some) [] a text h i = absurd h
-answers-more engine show ls edits (b ∷ some) (t ∷ texts) a text h i =
-    let more : AreAnswers engine show ls (edits ++ edits_by b) some texts = h.1 in (
+answers-more : (replies : Replies) (show : Show) (ls : Layers) (edits : List Edit) (some : List Asked)
+    (texts : List (List ℕ)) (a : Asked) (text : List ℕ) → AreAnswers replies show ls edits some texts
+    → Answers replies show (edited ls (edits ++ edits_of some)) a text
+    → AreAnswers replies show ls edits (some ++ a ∷ []) (texts ++ text ∷ [])
+answers-more replies show ls edits [] [] a text h i =
+    (subst (λ (l : List Edit). Answers replies show (edited ls l) a text) (append-nil edits) i, tt)
+answers-more replies show ls edits [] (t ∷ texts) a text h i = absurd h
+answers-more replies show ls edits (b ∷ some) [] a text h i = absurd h
+answers-more replies show ls edits (b ∷ some) (t ∷ texts) a text h i =
+    let more : AreAnswers replies show ls (edits ++ edits_by b) some texts = h.1 in (
       h.0,
-      answers-more engine show ls (edits ++ edits_by b) some texts a text more
-          (subst (λ (l : List Edit). Answers engine show (edited ls l) a text)
+      answers-more replies show ls (edits ++ edits_by b) some texts a text more
+          (subst (λ (l : List Edit). Answers replies show (edited ls l) a text)
           (sym (append_assoc edits (edits_by b) (edits_of some))) i),
     )
 
@@ -64,17 +66,19 @@ texts-more texts text =
 
 module _ {T E : Type 0} (first old new : LineServer) (lines : List Asked) (a : Asked) (before at now : Outflow)
     (result : Result T E) (h : HaveAnswered first old lines before at) (one : AnswersOne old new a at now result) where
-  its-answer : Answers first.session.engine first.show (edited first.session.layers (edits_of lines)) a one.text
+  its-answer : Answers (reply_of first.session.engine) first.show (edited first.session.layers (edits_of lines)) a
+      one.text
   its-answer =
-      subst (λ (e : Engine). Answers e first.show (edited first.session.layers (edits_of lines)) a one.text) h.engine
-      (subst (λ (s : Show). Answers old.session.engine s (edited first.session.layers (edits_of lines)) a one.text)
-      h.show
-      (subst (λ (ls : Layers). Answers old.session.engine old.show ls a one.text) h.layers one.answers))
+      subst (λ (e : Engine). Answers (reply_of e) first.show (edited first.session.layers (edits_of lines)) a one.text)
+      h.engine
+      (subst (λ (s : Show). Answers (reply_of old.session.engine) s (edited first.session.layers (edits_of lines)) a
+      one.text) h.show
+      (subst (λ (ls : Layers). Answers (reply_of old.session.engine) old.show ls a one.text) h.layers one.answers))
 
-  its-answers : AreAnswers first.session.engine first.show first.session.layers [] (lines ++ a ∷ [])
+  its-answers : AreAnswers (reply_of first.session.engine) first.show first.session.layers [] (lines ++ a ∷ [])
       (h.texts ++ one.text ∷ [])
-  its-answers = answers-more first.session.engine first.show first.session.layers [] lines h.texts a one.text
-      h.answers its-answer
+  its-answers = answers-more (reply_of first.session.engine) first.show first.session.layers [] lines h.texts a
+      one.text h.answers its-answer
 
   -- its text was written too
   pub answered-more : Wrote at now one.text → HaveAnswered first new (lines ++ a ∷ []) before now
@@ -107,16 +111,16 @@ module _ {T E : Type 0} (first old new : LineServer) (lines : List Asked) (a : A
   }
 
 -- a text that was made, or memory was refused
-answer-made : {E : Type 0} (engine : Engine) (show : Show) (ls : Layers) (a : Asked) (r : Result (Vec ℕ) E)
-    → may_want a ≡ true → IfOk r (λ t. IsAnswer engine show ls a t.items)
-    → Answers engine show ls a (text_or_memory r)
-answer-made engine show ls a (Ok t) wants is = inl is
-answer-made engine show ls a (Err error) wants is = inr (wants, refl)
+answer-made : {E : Type 0} (replies : Replies) (show : Show) (ls : Layers) (a : Asked) (r : Result (Vec ℕ) E)
+    → may_want a ≡ true → IfOk r (λ t. t.items ≡ answer_to replies show ls a)
+    → Answers replies show ls a (text_or_memory r)
+answer-made replies show ls a (Ok t) wants is = inl is
+answer-made replies show ls a (Err error) wants is = inr (wants, refl)
 
 -- what changes nothing is answered
 pub answered-so : {T E : Type 0} (old new : LineServer) (a : Asked) (text : List ℕ) (at now : Outflow)
     (result : Result T E) → new.session ≡ old.session → new.show ≡ old.show → edits_by a ≡ []
-    → Answers old.session.engine old.show old.session.layers a text → WritesText text at now result
+    → Answers (reply_of old.session.engine) old.show old.session.layers a text → WritesText text at now result
     → at.faults ≤ now.faults → AnswersOne old new a at now result
 answered-so old new a text at now result same shown none answers wrote later = record {
   engine = ap (λ (d : SessionData). d.engine) same;
@@ -132,11 +136,11 @@ answered-so old new a text at now result same shown none answers wrote later = r
 
 pub answered-made : {T E F : Type 0} (old new : LineServer) (a : Asked) (r : Result (Vec ℕ) F) (at now : Outflow)
     (result : Result T E) → new.session ≡ old.session → new.show ≡ old.show → edits_by a ≡ [] → may_want a ≡ true
-    → IfOk r (λ t. IsAnswer old.session.engine old.show old.session.layers a t.items)
+    → IfOk r (λ t. t.items ≡ answer_to (reply_of old.session.engine) old.show old.session.layers a)
     → WritesText (text_or_memory r) at now result → at.faults ≤ now.faults → AnswersOne old new a at now result
 answered-made old new a r at now result same shown none wants is wrote later =
     answered-so old new a (text_or_memory r) at now result same shown none
-    (answer-made old.session.engine old.show old.session.layers a r wants is) wrote later
+    (answer-made (reply_of old.session.engine) old.show old.session.layers a r wants is) wrote later
 
 -- so is an edit
 pub answered-edit : {T E : Type 0} (old new : LineServer) (x y : ℕ) (to : Ground) (text : List ℕ) (at now : Outflow)

@@ -5,6 +5,7 @@ use Rattle.std.specs.Global.{Vec}
 use Rattle.std.specs.Prelude.{Ok, Err, codes}
 use Rattle.grid_moves.specs.Layers.{Layers}
 use Rattle.edit_replay.specs.Edited.{Edit, edited}
+use Rattle.edit_replay.specs.ReplyOf.{reply_of}
 use Rattle.io_edge.specs.Known.{Outflow}
 use Rattle.line_work.specs.Sending.{Wrote, WroteSome}
 use Rattle.line_feed.specs.Lines.{lines_of}
@@ -31,7 +32,7 @@ pub record AnswersOne {T E : Type 0} (old new : LineServer) (a : Asked) (at now 
   pub layers : (m : Layers) (before : List Edit) → old.session.layers ≡ edited m before
       → new.session.layers ≡ edited m (before ++ edits_by a)
   pub text : List ℕ
-  pub answers : Answers old.session.engine old.show old.session.layers a text
+  pub answers : Answers (reply_of old.session.engine) old.show old.session.layers a text
   pub wrote : WritesText text at now result
   pub later : at.faults ≤ now.faults
 
@@ -41,7 +42,7 @@ pub record HaveAnswered (first now : LineServer) (lines : List Asked) (before af
   pub show : now.show ≡ first.show
   pub layers : now.session.layers ≡ edited first.session.layers (edits_of lines)
   pub texts : List (List ℕ)
-  pub answers : AreAnswers first.session.engine first.show first.session.layers [] lines texts
+  pub answers : AreAnswers (reply_of first.session.engine) first.show first.session.layers [] lines texts
   pub wrote : Wrote before after (concat texts)
   pub later : before.faults ≤ after.faults
 
@@ -51,7 +52,7 @@ pub record HaveStopped (first : LineServer) (lines : List Asked) (before after :
   pub others : List Asked
   pub all : lines ≡ some ++ others
   pub texts : List (List ℕ)
-  pub answers : AreAnswers first.session.engine first.show first.session.layers [] some texts
+  pub answers : AreAnswers (reply_of first.session.engine) first.show first.session.layers [] some texts
   pub wrote : WroteSome before after (concat texts)
 
 -- this text came, in whatever pieces, and its whole lines are answered
