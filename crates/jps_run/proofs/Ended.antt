@@ -1,12 +1,12 @@
 -- How a call of `run` ends.
-use Rattle.std.proofs.Common.{◌≡◌, false, refl, sym, ap, subst, List, [], ◌∷◌, ℕ, ◌≤◌, ◌⊎◌, inl, inr, arith}
+use Rattle.std.proofs.Common.{◌≡◌, ◌∙◌, true, false, refl, sym, ap, subst, List, [], ◌∷◌, ℕ, ◌≤◌, ◌⊎◌, inl, inr, arith}
 use Rattle.std.specs.Prelude.{Err, Ok, OnOk, Option, Result, Some, None, unwrap_or}
 use Rattle.std.specs.List.{concat}
 use Rattle.std.specs.Option.{option_map, option_map_or}
 use Rattle.map_text.specs.Faults.{map_of}
 use Rattle.map_text.specs.Map.{Map}
 use Rattle.word_list.specs.declared.rows.Command.{Command}
-use Rattle.word_list.specs.declared.rows.Command.TheVariants.{Live}
+use Rattle.word_list.specs.declared.rows.Command.TheVariants.{Live, Serve}
 use Rattle.jps_run.specs.Heard.{IsInput}
 use Rattle.jps_run.specs.Parts.{Output}
 use Rattle.jps_run.specs.Manner.{manner_of}
@@ -21,7 +21,7 @@ use Rattle.jps_run.specs.Ending.{NamedRose}
 use Rattle.jps_run.specs.Ending.{Fails, WroteFirstLines, WrotePart, ending_line, line_of, memory_line}
 use Rattle.jps_run.specs.Ending.{read_line}
 use Rattle.jps_run.specs.Ending.{status_of, write_line}
-use Rattle.jps_run.specs.Served.{HasServed}
+use Rattle.jps_run.specs.CallEnds.{EndsCall}
 use Rattle.line_work.specs.declared.stop.Stop.{Stop}
 use Rattle.line_work.specs.declared.stop.Stop.TheVariants as stop
 use Rattle.call_files.specs.FaultLines.{word_line}
@@ -29,7 +29,8 @@ use Rattle.call_files.specs.Files.{HasRefused}
 use Rattle.jps_run.specs.Live.{WroteHeard, answers_on}
 use Rattle.jps_run.specs.Calls.{MayHear, files_of, output_of, reads_input, task}
 use Rattle.jps_run.specs.Outcome.{Spell, IsOutput, bad_word, bad_text, done, outcome_hearing, outcome_of}
-use Rattle.jps_run.specs.Outcome.{outcome_with}
+use Rattle.jps_run.specs.Outcome.{outcome_on, outcome_serving, outcome_with}
+use Rattle.jps_run.specs.Serving.{WroteServed, serving_on}
 use Rattle.line_work.specs.Sending.{IsAll, Wrote}
 use Rattle.line_work.proofs.Pieces.{nothing}
 use Rattle.jps_run.specs.Who.{replies_by}
@@ -42,12 +43,21 @@ some-input None = ([], tt)
 some-input (Some left) = (left, refl)
 
 -- what a call comes to that answers what comes in
-pub outcome-heard : (call : Call) (text : List ℕ) (behind : List (List ℕ)) (m : Map) (script : List ℕ)
-    → call.request.command ≡ Live → map_of text ≡ Ok m
-    → outcome_of replies_by call (text ∷ behind) script
-    ≡ Some (outcome_hearing (answers_on (manner_of replies_by call.settings) m) script)
+pub outcome-heard : (call : Call) (text : List ℕ) (behind : List (List ℕ)) (m : Map) (input : List ℕ)
+    → reads_input call.request.command ≡ true → map_of text ≡ Ok m
+    → outcome_of replies_by call (text ∷ behind) input
+    ≡ outcome_on call.request.command (manner_of replies_by call.settings) m input
 unfolding outcome_of
-outcome-heard call text behind m script is spelled = rw is (value-read (map_of text) m _ spelled)
+outcome-heard call text behind m input reads spelled = rw reads (value-read (map_of text) m _ spelled)
+
+-- so it is by one of these commands
+pub outcome-by : (command : Command) (call : Call) (text : List ℕ) (behind : List (List ℕ)) (m : Map) (input : List ℕ)
+    → reads_input command ≡ true → call.request.command ≡ command → map_of text ≡ Ok m
+    → outcome_of replies_by call (text ∷ behind) input
+    ≡ outcome_on command (manner_of replies_by call.settings) m input
+outcome-by command call text behind m input reads is spelled =
+    outcome-heard call text behind m input (ap reads_input is ∙ reads) spelled
+    ∙ ap (λ (c : Command). outcome_on c (manner_of replies_by call.settings) m input) is
 
 -- and one that prints this
 pub outcome-printed : (call : Call) (texts : List (List ℕ)) (script : List ℕ) (o : Output)
@@ -62,6 +72,7 @@ outcome-printed call texts script o e =
     reads_none : (c : Command) → (task c call.request.words).output
         (manner_of replies_by call.settings) texts ≡ Some o → reads_input c ≡ false
     reads_none Live is = absurd (cc)
+    reads_none Serve is = absurd (cc)
     reads_none other is = refl
 
 module _ (words : List (List ℕ)) (holds : List ℕ → Held) (input : Option (List ℕ))
@@ -72,9 +83,11 @@ module _ (words : List (List ℕ)) (holds : List ℕ → Held) (input : Option (
         → (status ≡ 2 → Gets err err_now (word_line number)) → status ≤ 3
         → Comes replies_by words holds input out out err err_now status
     word-comes number status bad (inl two) printed few = record {
-      outcome = record { status = 2; out = []; line = word_line number };
+      outcome = record { status = 2; out = []; wants = []; line = word_line number };
       is = bad_word number bad;
       same_status = sym two;
+      texts = [];
+      stand = refl;
       wrote = nothing out.written;
       printed = printed two;
     }
@@ -89,30 +102,57 @@ module _ (words : List (List ℕ)) (holds : List ℕ → Held) (input : Option (
         record {
           outcome = outcome_hearing (answers_on (manner_of replies_by call.settings) h.read) s.script;
           is = done call (h.text ∷ h.behind) s.script _ spelled h.accepted s.comes
-              (outcome-heard call h.text h.behind h.read s.script h.is h.spelled);
+              (outcome-by Live call h.text h.behind h.read s.script refl h.is h.spelled);
           same_status = ap (λ (r : Option (List ℕ)). option_map_or (λ line. 3) r 0) (sym s.refused);
-          wrote = subst (λ (l : List (List ℕ)). Wrote out out_now (concat l)) s.are h.such.wrote;
+          texts = h.such.lines;
+          stand = s.are;
+          wrote = h.such.wrote;
           printed = subst (λ (r : Option (List ℕ)). Gets err err_now (unwrap_or r [])) s.refused printed;
+        }
+
+    -- the lines that came in were answered
+    served-comes : (call : Call) → Spell words call → WroteServed replies_by call holds out out_now input
+        → Gets err err_now [] → Comes replies_by words holds input out out_now err err_now 0
+    served-comes call spelled h printed =
+        let s = h.such.stand in
+        record {
+          outcome = outcome_serving (serving_on (manner_of replies_by call.settings) h.read) s.text;
+          is = done call (h.text ∷ h.behind) s.text _ spelled h.accepted s.comes
+              (outcome-by Serve call h.text h.behind h.read s.text refl h.is h.spelled);
+          same_status = refl;
+          texts = h.such.lines;
+          stand = s.serve;
+          wrote = h.such.wrote;
+          printed = printed;
         }
 
     -- the call was done
     call-comes : (call : Call) (status : ℕ) → Spell words call
         → IsAll (IsOutput replies_by call holds) out out_now status
-        ⊎ ((status ≡ 0) × WroteHeard replies_by call holds out out_now input None) → Gets err err_now []
+        ⊎ ((status ≡ 0) × (WroteHeard replies_by call holds out out_now input None
+        ⊎ WroteServed replies_by call holds out out_now input)) → Gets err err_now []
         → Comes replies_by words holds input out out_now err err_now status
     call-comes call status spelled (inl a) printed =
         let script = some-input input in
         record {
-          outcome = record { status = status; out = a.lines; line = [] };
+          outcome = record { status = status; out = a.lines; wants = []; line = [] };
           is = done call a.whole.texts script.0 _ spelled a.whole.accepted script.1
               (outcome-printed call a.whole.texts script.0 _ a.whole.answered);
           same_status = refl;
+          texts = a.lines;
+          stand = refl;
           wrote = a.wrote;
           printed = printed;
         }
     call-comes call status spelled (inr h) printed =
         subst (λ (n : ℕ). Comes replies_by words holds input out out_now err err_now n) (sym h.0)
-        (heard-comes call None spelled h.1 printed)
+        (by_lines h.1)
+      where
+        by_lines : WroteHeard replies_by call holds out out_now input None
+            ⊎ WroteServed replies_by call holds out out_now input
+            → Comes replies_by words holds input out out_now err err_now 0
+        by_lines (inl w) = heard-comes call None spelled w printed
+        by_lines (inr w) = served-comes call spelled w printed
 
     -- a text is refused, or what comes in
     text-comes : (call : Call) (line : List ℕ) → Spell words call
@@ -120,9 +160,11 @@ module _ (words : List (List ℕ)) (holds : List ℕ → Held) (input : Option (
         ⊎ WroteHeard replies_by call holds out out_now input (Some line)
         → Gets err err_now line → Comes replies_by words holds input out out_now err err_now 3
     text-comes call line spelled (inl r) printed = record {
-      outcome = record { status = 3; out = []; line = line };
+      outcome = record { status = 3; out = []; wants = []; line = line };
       is = bad_text call line spelled r.0;
       same_status = refl;
+      texts = [];
+      stand = refl;
       wrote = r.1;
       printed = printed;
     }
@@ -185,7 +227,8 @@ module _ (words : List (List ℕ)) (disk disk_now : Disk) (input input_now : Inf
 
   -- the call was done
   done-ends : (status : ℕ) → (status ≤ 1) × (IsAll (IsOutput replies_by call disk.holds) out out_now status
-      ⊎ ((status ≡ 0) × WroteHeard replies_by call disk.holds out out_now input.left None))
+      ⊎ ((status ≡ 0) × (WroteHeard replies_by call disk.holds out out_now input.left None
+      ⊎ WroteServed replies_by call disk.holds out out_now input.left)))
       → Gets err err_now []
       → RoseForCall call disk.holds input.left old new
       → EndsAs words disk disk_now input input_now out out_now err err_now old new status
@@ -288,16 +331,16 @@ module _ (words : List (List ℕ)) (disk disk_now : Disk) (input input_now : Inf
       by_lines (inr lines) = inr (record { call = call; spelled = spelled; such = lines })
 
   -- so each call ends
-  pub served-ends : (result : Result ℕ Stop) (status : ℕ)
-      → HasServed call disk disk_now input input_now out out_now result
+  pub call-ends : (result : Result ℕ Stop) (status : ℕ)
+      → EndsCall call disk disk_now input input_now out out_now result
       → OnOk result (RoseForCall call disk.holds input.left old new) → status ≡ status_of result
       → Gets err err_now (line_of result)
       → EndsAs words disk disk_now input input_now out out_now err err_now old new status
-  served-ends result status served rose e printed =
+  call-ends result status served rose e printed =
       subst (λ (n : ℕ). EndsAs words disk disk_now input input_now out out_now err err_now old new n) (sym e)
       (by_result result served rose printed)
     where
-      by_result : (result : Result ℕ Stop) → HasServed call disk disk_now input input_now out out_now result
+      by_result : (result : Result ℕ Stop) → EndsCall call disk disk_now input input_now out out_now result
           → OnOk result (RoseForCall call disk.holds input.left old new) → Gets err err_now (line_of result)
           → EndsAs words disk disk_now input input_now out out_now err err_now old new (status_of result)
       by_result (Ok status) served rose printed = done-ends status served printed rose

@@ -19,3 +19,4 @@ pub mod Performing
 pub mod Opening
 pub mod Ended
 pub mod Serving
+pub mod CallEnds

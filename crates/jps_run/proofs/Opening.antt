@@ -5,10 +5,11 @@ use Rattle.io_edge.specs.Known.{Disk, Held}
 use Rattle.map_text.specs.Faults.{map_of}
 use Rattle.map_text.specs.Map.{Map}
 use Rattle.word_list.specs.Request.{Call}
+use Rattle.word_list.specs.declared.rows.Command.{Command}
 use Rattle.line_work.specs.Sending.{IsText}
 use Rattle.line_work.specs.declared.stop.Stop.{Stop}
 use Rattle.jps_run.specs.Calls.{output_of}
-use Rattle.jps_run.specs.Live.{OnLive}
+use Rattle.jps_run.specs.Live.{On}
 use Rattle.jps_run.specs.Opened.{IsCounted, IsWorkOf, Opens, OpensWork, opened_as}
 use Rattle.jps_run.specs.Parts.{Prints, Output, on_last, on_read, printed}
 use Rattle.jps_run.specs.declared.work.Work.{Work}
@@ -57,9 +58,9 @@ pub texted : (text : List ℕ) (code : ℕ) (lines : List (List ℕ)) (status : 
 texted text code lines status w = record { all = w.0; code = w.1 }
 
 -- what holds of the map of a call that answers what comes in
-pub as_live : {call : Call} {holds : List ℕ → Held} {K L : Map → Type 0} (p : OnLive call holds K) → L p.read
-    → OnLive call holds L
-as_live p such = record {
+pub on-map : {command : Command} {call : Call} {holds : List ℕ → Held} {K L : Map → Type 0}
+    (p : On command call holds K) → L p.read → On command call holds L
+on-map p such = record {
   is = p.is;
   text = p.text;
   behind = p.behind;

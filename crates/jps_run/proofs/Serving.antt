@@ -1,155 +1,227 @@
--- The work on a call, from its files to its output.
-use Rattle.std.proofs.Common.{◌≡◌, ◌∙◌, ap, subst, inl, inr, List, ◌∷◌, ℕ, arith}
-use Rattle.std.specs.Prelude.{None, Some, Option, Result, IsErrAnd}
-use Rattle.io_edge.specs.Known.{Disk, Held, Inflow, Outflow}
-use Rattle.edit_replay.specs.Session.{SessionData}
-use Rattle.word_list.specs.Request.{Call}
+-- What a server wrote stands for the answers to the lines that came in, read by read.
+use Rattle.std.proofs.Common.{◌≡◌, refl, sym, ap, ◌∙◌, subst, List, [], ◌∷◌, ◌++◌, ℕ, ◌+◌, ◌<◌, ◌≤◌, inl, inr, length}
+use Rattle.std.proofs.Common.{length-append, take, min, map, arith, Bool}
+use Rattle.std.specs.Prelude.{Option, Some, None, Result, MatchResult, IsErrAnd, ◌^◌}
+use Rattle.std.specs.List.{concat}
+use Rattle.std.specs.Io.KnownBytes.{Consumes, IsAtEnd, Keeps}
+use Rattle.std.proofs.lemmas.List.{append-nil, length-take}
+use Rattle.std.proofs.lemmas.List.Folds.{concat-append}
+use Rattle.grid_moves.specs.Layers.{Layers}
+use Rattle.edit_replay.specs.Edited.{Edit}
+use Rattle.edit_replay.specs.ReplyOf.{reply_of}
+use Rattle.io_edge.specs.Causes.{Rose}
+use Rattle.io_edge.specs.Known.{Inflow, Outflow}
 use Rattle.word_list.specs.declared.request.Show.{Show}
-use Rattle.script_text.specs.declared.command.ScriptCommand.{ScriptCommand}
-use Rattle.call_files.specs.Layered.{layers_on}
-use Rattle.jps_run.specs.Answering.{lines_by}
-use Rattle.jps_run.specs.Answers.{answer_lines}
-use Rattle.jps_run.specs.Manner.{manner_of, session_by}
-use Rattle.jps_run.specs.Session.{session_replies, session_on}
-use Rattle.jps_run.specs.Who.{replies_by}
-use Rattle.jps_run.specs.Counting.{RoseForCall, none, read, some}
-use Rattle.jps_run.specs.Heard.{Answering, WroteAll, WroteFirst, WroteLines, AnswerHeard, AnswerPending}
-use Rattle.jps_run.specs.Heard.{AnswerTaken}
-use Rattle.jps_run.specs.Live.{OnLive, answers_on}
-use Rattle.jps_run.specs.Hearing.{Hears}
-use Rattle.call_files.specs.Reading.{open_stops}
-use Rattle.jps_run.specs.Works.{HasRisen, IsWhole}
-use Rattle.jps_run.specs.Opened.{IsCounted, IsListener, IsWorkOn}
-use Rattle.jps_run.specs.Calls.{MayHear, files_of}
-use Rattle.jps_run.specs.Outcome.{IsOutput}
-use Rattle.line_work.specs.Sending.{IsAll, SendsWhole, work_stops}
-use Rattle.jps_run.specs.Served.{HasServed, served_stops}
-use Rattle.line_work.specs.Stops.{StopsSo}
-use Rattle.jps_run.specs.declared.replies.answers.Answers.{Answers}
-use Rattle.line_work.specs.declared.stop.Stop.{Stop}
-use Rattle.jps_run.specs.declared.work.Work.{Work}
-use Rattle.line_work.proofs.Pieces.{nothing}
-use Rattle.jps_run.proofs.Opening.{as_live}
-use Rattle.line_work.proofs.Stopping.{passed, ends-on}
+use Rattle.reply_lines.specs.Replies.{Replies}
+use Rattle.line_feed.specs.declared.feed.FedLine.{FedLine}
+use Rattle.line_feed.specs.Lines.{lines_of}
+use Rattle.line_feed.specs.Fed.{whole_lines}
+use Rattle.line_server.specs.declared.asked.Asked.{Asked}
+use Rattle.line_server.specs.declared.server.LineServer.{LineServer}
+use Rattle.line_server.specs.Asked.{edits_by, may_want}
+use Rattle.line_server.specs.Answers.{AreAnswers, all_asked, answers_to}
+use Rattle.line_server.specs.Served.{HasServed, HaveAnswered, HaveStopped}
+use Rattle.line_work.specs.Sending.{Wrote}
+use Rattle.line_work.proofs.Pieces.{nothing, part-more, rose-since}
+use Rattle.jps_run.specs.Heard.{WroteAll, WroteFirst}
+use Rattle.jps_run.specs.ServeLoop.{AllIsServed, IsFresh, IsServing, serving_by}
+use Rattle.jps_run.specs.Serving.{AreTaken, ServeEndless, ServeLines, ServeTaken, ServeWhole, at_end, so_far}
+use Rattle.jps_run.specs.Standing.{StandFor}
+use Rattle.jps_run.proofs.Listening.{consumes-both, consumes-none, input-all}
 
--- what holds of the session holds of the call
-module _ (call : Call) (holds : List ℕ → Held) (job : Answers) (l : IsListener call holds job) where
-  -- its lines are those of the call
-  lines_are : lines_by job ≡ answers_on (manner_of replies_by call.settings) l.on.read
-  lines_are =
-      ap (λ (d : SessionData). λ (commands : List ScriptCommand). answer_lines
-      (session_replies d) job.show d.layers commands)
-      l.on.such.session
-      ∙ ap (λ (show : Show). λ (commands : List ScriptCommand). answer_lines (replies_by
-      (session_by call.settings)) show
-      (layers_on call.settings l.on.read) commands) l.on.such.show
+-- lines stand for themselves
+stand-same : (wants : List Bool) (lines : List (List ℕ)) → StandFor wants lines lines
+stand-same [] lines = refl
+stand-same (wanted ∷ wants) [] = refl
+stand-same (wanted ∷ wants) (line ∷ lines) = (inl refl, stand-same wants lines)
 
-  pub on-live : (Such : Answering → Type 0) → Such (lines_by job)
-      → OnLive call holds (λ m. Such (answers_on (manner_of replies_by call.settings) m))
-  on-live Such k = as_live l.on (subst (λ (a : Answering). Such a) lines_are k)
+module _ (replies : Replies) (show : Show) (ls : Layers) where
+  -- the texts that answer lines stand for the answers
+  answers-stand : (edits : List Edit) (lines : List Asked) (texts : List (List ℕ))
+      → AreAnswers replies show ls edits lines texts
+      → StandFor (map may_want lines) (answers_to replies show ls edits lines) texts
+  answers-stand edits [] [] h = refl
+  answers-stand edits [] (text ∷ texts) h = absurd h
+  answers-stand edits (a ∷ lines) [] h = absurd h
+  answers-stand edits (a ∷ lines) (text ∷ texts) h =
+      (h.0, answers-stand (edits ++ edits_by a) lines texts h.1)
 
-  -- and its session is that on the map
-  pub on-session : (Such : SessionData → Type 0) → Such job.session
-      → OnLive call holds (λ m. Such (session_on call.settings m))
-  on-session Such k = as_live l.on (subst (λ (d : SessionData). Such d) l.on.such.session k)
+  -- where they answer the first lines, texts that begin with them do
+  first-stand : (edits : List Edit) (some others : List Asked) (texts : List (List ℕ))
+      → AreAnswers replies show ls edits some texts → (more : List (List ℕ))
+      × StandFor (map may_want (some ++ others)) (answers_to replies show ls edits (some ++ others)) (texts ++ more)
+  first-stand edits [] others [] h =
+      let all = answers_to replies show ls edits others in (all, stand-same (map may_want others) all)
+  first-stand edits [] others (text ∷ texts) h = absurd h
+  first-stand edits (a ∷ some) others [] h = absurd h
+  first-stand edits (a ∷ some) others (text ∷ texts) h =
+      let more = first-stand (edits ++ edits_by a) some others texts h.1 in (more.0, (h.0, more.1))
 
--- a session that answers what comes in was opened behind accepted files
-pub may-hear : (call : Call) (holds : List ℕ → Held) (job : Answers) → IsListener call holds job
-    → MayHear call holds
-may-hear call holds job l =
-    record { reads = l.reads; texts = l.on.text ∷ l.on.behind; accepted = l.on.accepted }
+module _ (first : LineServer) where
+  -- what was written for lines stands for their answers
+  served-all : (now : LineServer) (lines : List FedLine) (before after : Outflow)
+      → HaveAnswered first now (all_asked lines) before after
+      → WroteAll (ServeLines (serving_by first) lines) before after
+  served-all now lines before after h = record {
+    lines = h.texts;
+    stand = answers-stand (reply_of first.session.engine) first.show first.session.layers [] (all_asked lines)
+        h.texts h.answers;
+    wrote = h.wrote;
+  }
 
--- the counter rose as the work makes it, and so for the call
-pub work-counted : (call : Call) (holds : List ℕ → Held) (work : Work) (input : Option (List ℕ)) (old new : ℕ)
-    → IsWorkOn call holds work → HasRisen work old new → RoseForCall call holds input old new
-work-counted call holds work input old new w rose = by_search (w.is.counted old new rose)
-  where
-    by_search : IsCounted call w.texts old new → RoseForCall call holds input old new
-    by_search (inl idle) = read (none idle)
-    by_search (inr risen) = read (some w.texts w.accepted risen)
+  -- or is a first part of what does
+  served-part : (lines : List FedLine) (before after : Outflow) → HaveStopped first (all_asked lines) before after
+      → Rose before.faults after.faults × WroteFirst (ServeLines (serving_by first) lines) before after
+  served-part lines before after h =
+      let replies = reply_of first.session.engine in
+      let s = first-stand replies first.show first.session.layers [] h.some h.others h.texts h.answers in (
+        h.wrote.0,
+        record {
+          lines = h.texts ++ s.0;
+          stand = subst (λ (asked : List Asked). StandFor (map may_want asked)
+              (answers_to replies first.show first.session.layers [] asked) (h.texts ++ s.0)) (sym h.all) s.1;
+          wrote = rw (concat-append h.texts s.0)
+              (part-more before.written after.written (concat h.texts) (concat s.0) h.wrote.1);
+        },
+      )
 
-module _ (call : Call) (disk disk_now : Disk) (input input_now : Inflow) (out out_now : Outflow)
-    (result : Result ℕ Stop) where
-  -- the call was not opened
-  pub unopened-served : (stop : Stop) → StopsSo (open_stops disk disk_now (files_of call)) stop
-      → IsErrAnd result (λ s. s ≡ stop) → HasServed call disk disk_now input input_now out out result
-  unopened-served stop k m =
-      passed _ (open_stops disk disk_now (files_of call))
-      (served_stops call disk disk_now input input_now out out) result stop m k (record {
-        refused = λ line r. inl (r, nothing out.written);
-        read = λ r. inl (r, nothing out.written);
-        write = λ k. absurd k;
-        memory = λ k. inl (nothing out.written);
-      })
+-- a read that failed took nothing
+consumes-kept : (a b c : Option (List ℕ)) (text : List ℕ) → Consumes a b text → Keeps b c → Consumes a c text
+consumes-kept None b c text h keeps = tt
+consumes-kept (Some xs) None c text h keeps = absurd h
+consumes-kept (Some xs) (Some ys) None text h keeps = absurd keeps
+consumes-kept (Some xs) (Some ys) (Some zs) text h keeps =
+    h ∙ ap (λ (l : List ℕ). text ++ l) (sym keeps)
 
-  -- the work was done, or it stopped
-  pub work-served : (work : Work) → IsWorkOn call disk.holds work
-      → SendsWhole (IsWhole work) out out_now result
-      → HasServed call disk disk_now input input_now out out_now result
-  work-served work w s =
-      let output : (lines : List (List ℕ)) (status : ℕ) → IsWhole work lines status
-      → IsOutput replies_by call disk.holds lines status
-      = λ lines status whole.
-      record { texts = w.texts; accepted = w.accepted; answered = (w.is.right lines status whole).1 } in
-      ends-on (IsAll (IsWhole work) out out_now) _ (work_stops (IsWhole work) out out_now)
-      (served_stops call disk disk_now input input_now out out_now) result
-      (λ status a. (
-        (w.is.right a.lines status a.whole).0,
-        inl (record { lines = a.lines; whole = output a.lines status a.whole; wrote = a.wrote }),
-      ))
-      (record {
-        refused = λ line k. absurd k;
-        read = λ k. absurd k;
-        write = λ k. (
-          k.0,
-          inl (record {
-            lines = k.1.lines;
-            status = k.1.status;
-            whole = output k.1.lines k.1.status k.1.whole;
-            wrote = k.1.wrote;
-          }),
-        );
-        memory = λ k. inr (inl (record {
-          lines = k.lines;
-          status = k.status;
-          whole = output k.lines k.status k.whole;
-          count = k.count;
-          short = k.short;
-          wrote = k.wrote;
-        }));
-      }) s
+-- nothing was read yet
+pub serving-begun : (first : LineServer) (input : Inflow) (buffer : List ℕ) (before : Outflow) → IsFresh first
+    → 0 < length buffer → IsServing first first input input buffer 0 before before
+serving-begun first input buffer before fresh room = record {
+  text = [];
+  consumed = consumes-none input.left;
+  many = omega arith;
+  served = fresh before;
+  later = omega arith;
+  room = room;
+}
 
-  -- what came in was answered, or that stopped
-  pub heard-served : (job : Answers) → IsListener call disk.holds job
-      → Hears job input input_now out out_now result
-      → HasServed call disk disk_now input input_now out out_now result
-  heard-served job l h =
-      ends-on (λ status. (status ≡ 0)
-      × WroteAll (AnswerHeard (lines_by job) input.left None) out out_now) _ _
-      (served_stops call disk disk_now input input_now out out_now) result
-      (λ status e. (
-        (let good : status ≡ 0 = e.0 in omega arith),
-        inr (
-          e.0,
-          on-live call disk.holds job l (λ answers. WroteAll (AnswerHeard answers input.left None) out
-              out_now) e.1,
-        ),
-      ))
-      (record {
-        refused = λ line w. inr
-            (on-live call disk.holds job l (λ answers. WroteAll (AnswerHeard answers input.left (Some line)) out
-            out_now) w);
-        read = λ w. inr (
-          (l.reads, w.0),
-          on-live call disk.holds job l (λ answers. WroteAll (AnswerPending answers input.left input_now.left)
-              out out_now) w.1,
-        );
-        write = λ w. (
+module _ {first old : LineServer} {input mid : Inflow} {buffer : List ℕ} {least : ℕ} {before at : Outflow}
+    (now : Inflow) (h : IsServing first old input mid buffer least before at) where
+  -- a read failed
+  pub read-failed : Keeps mid.left now.left → Rose mid.faults now.faults
+      → Rose input.faults now.faults × WroteAll (ServeWhole (serving_by first) input.left now.left) before at
+  read-failed keeps rose =
+      let w = served-all first old (whole_lines h.text) before at h.served.answered in (
+        rose-since input.faults mid.faults now.faults h.later rose,
+        record {
+          lines = w.lines;
+          stand = record {
+            taken = h.text;
+            consumed = consumes-kept input.left mid.left now.left h.text h.consumed keeps;
+            serve = w.stand;
+          };
+          wrote = w.wrote;
+        },
+      )
+
+  -- nothing more came in
+  module _ (bytes : List ℕ) (read : Consumes mid.left now.left (take 0 bytes)) (ended : IsAtEnd now.left) where
+    all_consumed : Consumes input.left now.left h.text
+    all_consumed = subst (λ (t : List ℕ). Consumes input.left now.left t) (append-nil h.text)
+        (consumes-both input.left mid.left now.left h.text [] h.consumed read)
+
+    -- and the last line is answered too
+    pub end-served : (new : LineServer) (after : Outflow)
+        → HaveAnswered first new (all_asked (lines_of h.text)) before after → AllIsServed first input before after
+    end-served new after answered =
+        let w = served-all first new (lines_of h.text) before after answered in
+        record {
+          lines = w.lines;
+          stand = record {
+            text = h.text;
+            comes = input-all input.left now.left h.text all_consumed ended;
+            serve = w.stand;
+          };
+          wrote = w.wrote;
+        }
+
+    -- or a write failed
+    pub end-failed : (after : Outflow) → HaveStopped first (all_asked (lines_of h.text)) before after
+        → Rose before.faults after.faults
+        × WroteFirst (ServeTaken (serving_by first) input.left now.left) before after
+    end-failed after stopped =
+        let w = served-part first (lines_of h.text) before after stopped in (
           w.0,
-          inr (on-live call disk.holds job l
-              (λ answers. WroteFirst (AnswerTaken answers input.left input_now.left) out out_now) w.1),
-        );
-        memory = λ w. inr
-            (inr (on-live call disk.holds job l
-            (λ answers. WroteLines (AnswerTaken answers input.left input_now.left) out out_now) w));
-      }) h
+          record {
+            lines = w.1.lines;
+            stand = record {
+              taken = h.text;
+              consumed = all_consumed;
+              lines = lines_of h.text;
+              are = at_end ended refl;
+              serve = w.1.stand;
+            };
+            wrote = w.1.wrote;
+          },
+        )
+
+  -- some bytes came in
+  module _ (count : ℕ) (bytes piece : List ℕ) (read : Consumes mid.left now.left (take count bytes))
+      (is : piece ≡ take count bytes) where
+    consumed : Consumes input.left now.left (h.text ++ piece)
+    consumed = subst (λ (p : List ℕ). Consumes input.left now.left (h.text ++ p)) (sym is)
+        (consumes-both input.left mid.left now.left h.text (take count bytes) h.consumed read)
+
+    -- and the lines that they complete are answered
+    pub serving-more : (new : LineServer) (after : Outflow) (buffer_now : List ℕ) → 0 < count → count ≤ length bytes
+        → mid.faults ≤ now.faults → 0 < length buffer_now
+        → HasServed first new (h.text ++ piece) before after
+        → IsServing first new input now buffer_now (least + 1) before after
+    serving-more new after buffer_now some inside later room served = record {
+      text = h.text ++ piece;
+      consumed = consumed;
+      many =
+          let m : least ≤ length h.text = h.many in
+          let l : length (take count bytes) ≡ min count (length bytes) = length-take count bytes in
+          let p : length piece ≡ length (take count bytes) = ap (λ (l : List ℕ). length l) is in
+          let s : length (h.text ++ piece) ≡ length h.text + length piece = length-append h.text piece in
+          omega arith;
+      served = served;
+      later = (let e : input.faults ≤ mid.faults = h.later in omega arith);
+      room = room;
+    }
+
+    -- or a write failed
+    pub piece-failed : (after : Outflow) → HaveStopped first (all_asked (whole_lines (h.text ++ piece))) before after
+        → Rose before.faults after.faults
+        × WroteFirst (ServeTaken (serving_by first) input.left now.left) before after
+    piece-failed after stopped =
+        let w = served-part first (whole_lines (h.text ++ piece)) before after stopped in (
+          w.0,
+          record {
+            lines = w.1.lines;
+            stand = record {
+              taken = h.text ++ piece;
+              consumed = consumed;
+              lines = whole_lines (h.text ++ piece);
+              are = so_far refl;
+              serve = w.1.stand;
+            };
+            wrote = w.1.wrote;
+          },
+        )
+
+-- more bytes came in than 64 bits count
+pub too-many : (first now : LineServer) (input input_now : Inflow) (buffer : List ℕ) (least : ℕ)
+    (before after : Outflow) → IsServing first now input input_now buffer least before after → 2 ^ 64 ≤ least + 1
+    → WroteAll (ServeEndless (serving_by first) input.left input_now.left) before after
+too-many first now input input_now buffer least before after h much =
+    let w = served-all first now (whole_lines h.text) before after h.served.answered in
+    record {
+      lines = w.lines;
+      stand = record {
+        whole = record { taken = h.text; consumed = h.consumed; serve = w.stand };
+        many = (let m : least ≤ length h.text = h.many in omega (arith, much));
+      };
+      wrote = w.wrote;
+    }

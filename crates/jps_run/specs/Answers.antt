@@ -10,7 +10,8 @@ use Rattle.script_text.specs.declared.command.ScriptCommand.{ScriptCommand}
 use Rattle.script_text.specs.declared.command.ScriptCommand.TheVariants.{Block, Free, Flood, Query}
 use Rattle.word_list.specs.declared.request.Show.{Show}
 use Rattle.word_list.specs.declared.request.Show.TheVariants.{Points}
-use Rattle.reply_lines.specs.Lines.{reply_line, edit_line}
+use Rattle.reply_lines.specs.Lines.{edit_line}
+pub use Rattle.reply_lines.specs.Replies.{query_line}
 use Rattle.jps_run.specs.Parts.{Output}
 use Rattle.jps_run.specs.Replies.{Replies}
 
@@ -31,10 +32,6 @@ abbrev pub in_turn : {Y : Type 0} → (Layers → ScriptCommand → Y) → Layer
 in_turn give ls edits [] = []
 in_turn give ls edits (command ∷ commands) =
     give (edited ls edits) command ∷ in_turn give ls (edits_with edits command) commands
-
--- the line of the reply to a query
-abbrev pub query_line : Replies → Show → Layers → Cell → Cell → List ℕ
-query_line replies show ls s t = reply_line ls.land.width show (replies ls s t)
 
 -- the line that answers a command
 abbrev pub answer_line : Replies → Show → Layers → ScriptCommand → List ℕ

@@ -86,6 +86,11 @@ task command.Live words = record {
   files = λ set tables. map_files set (word_at words 0) tables;
   output = λ manner texts. None;
 }
+task command.Serve words = record {
+  name = codes "serve";
+  files = λ set tables. map_files set (word_at words 0) tables;
+  output = λ manner texts. None;
+}
 task command.Scen words = record {
   name = codes "scen";
   files = λ set tables. map_files set (word_at words 0) tables ++ file_of kind.Scen (word_at words 1) ∷ [];
@@ -185,6 +190,7 @@ output_of replies call texts = (task_of call).output (manner_of replies call.set
 -- whether a command reads the input
 abbrev pub reads_input : Command → Bool
 reads_input command.Live = true
+reads_input command.Serve = true
 reads_input other = false
 
 -- the input may be read for the call: it asks for it, and each of its files is accepted

@@ -17,7 +17,7 @@ use Rattle.word_list.specs.declared.rows.Command.TheVariants as command
 use Rattle.word_list.specs.declared.request.Settings.{Settings}
 use Rattle.call_files.specs.Files.{AreAccepted}
 use Rattle.jps_run.specs.Heard.{RoseHeard}
-use Rattle.jps_run.specs.Live.{OnLive}
+use Rattle.jps_run.specs.Live.{On}
 use Rattle.jps_run.specs.Calls.{cell_at, files_of}
 use Rattle.jps_run.specs.Outcome.{Spell}
 use Rattle.jps_run.specs.Parts.{on_last, on_map, on_read}
@@ -77,7 +77,7 @@ pub data HasCounted (call : Call) (holds : List ℕ → Held) (old new : ℕ) : 
 pub data RoseForCall (call : Call) (holds : List ℕ → Held) (input : Option (List ℕ))
     (old new : ℕ) : Type 0 where
   read : HasCounted call holds old new → RoseForCall call holds input old new
-  heard : OnLive call holds (λ m. RoseHeard (session_on call.settings m) input old new)
+  heard : On command.Live call holds (λ m. RoseHeard (session_on call.settings m) input old new)
       → RoseForCall call holds input old new
 
 -- it rose as the searches of the call that the words spell make it

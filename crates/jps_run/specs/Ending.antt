@@ -12,6 +12,8 @@ use Rattle.jps_run.specs.Calls.{MayHear, files_of, reads_input}
 use Rattle.jps_run.specs.Outcome.{Spell, Outcome, IsOutcome, IsOutput}
 use Rattle.jps_run.specs.Replies.{AreRight, By, Replies}
 use Rattle.jps_run.specs.Live.{WrotePending, WroteSomeTaken, WroteLinesTaken}
+use Rattle.jps_run.specs.Serving.{WroteEndless, WroteSomeServed, WroteWhole}
+use Rattle.jps_run.specs.Standing.{StandFor}
 use Rattle.io_edge.specs.Known.{Disk, Held, Inflow, Outflow}
 use Rattle.line_work.specs.Sending.{Wrote, WroteSome, IsPart, AreLines}
 use Rattle.line_work.specs.declared.stop.Stop.{Stop}
@@ -37,13 +39,15 @@ ending_line status =
 abbrev pub Gets : Outflow → Outflow → List ℕ → Type 0
 Gets before now line = Wrote before now line ⊎ WroteSome before now line
 
--- the outcome came about: its status is answered, `out` got its lines, and `err` its line
+-- the outcome came about: its status is answered, `out` got what stands for its lines, and `err` its line
 pub record Comes (replies : By → Replies) (words : List (List ℕ)) (holds : List ℕ → Held)
     (input : Option (List ℕ)) (out out_now err err_now : Outflow) (status : ℕ) : Type 0 where
   pub outcome : Outcome
   pub is : IsOutcome replies words holds input outcome
   pub same_status : outcome.status ≡ status
-  pub wrote : Wrote out out_now (concat outcome.out)
+  pub texts : List (List ℕ)
+  pub stand : StandFor outcome.wants outcome.out texts
+  pub wrote : Wrote out out_now (concat texts)
   pub printed : Gets err err_now outcome.line
 
 -- the words spell a call of which this holds
@@ -73,23 +77,28 @@ InputRose words input input_now = OfCall words (FailsToHear input input_now)
 module _ (replies : By → Replies) (holds : List ℕ → Held) (input input_now : Inflow)
     (out out_now : Outflow) where
   -- a read failed: of a file, and nothing was written; or of the input, and exactly the lines of the whole
-  -- commands among the bytes that were taken were written
+  -- commands, or by `serve` what stands for the answers to the whole lines, among the bytes that were taken were
+  -- written
   abbrev pub Fails : Disk → Disk → Call → Type 0
   Fails disk disk_now call = (FileRose (files_of call) disk disk_now × Wrote out out_now [])
       ⊎ (FailsToHear input input_now call
-      × WrotePending replies call holds out out_now input.left input_now.left)
+      × (WrotePending replies call holds out out_now input.left input_now.left
+      ⊎ WroteWhole replies call holds out out_now input.left input_now.left))
 
   -- a first part of the call's output was written; where the input is read, of the lines of the whole
-  -- commands among the bytes that were taken
+  -- commands, or by `serve` of what stands for the answers to the lines, among the bytes that were taken
   abbrev pub WrotePart : Call → Type 0
   WrotePart call = IsPart (IsOutput replies call holds) out out_now
       ⊎ WroteSomeTaken replies call holds out out_now input.left input_now.left
+      ⊎ WroteSomeServed replies call holds out out_now input.left input_now.left
 
   -- the first lines of the call's output were, each whole, and not all of them; where the input is read, the
-  -- first lines of the whole commands among the bytes that were taken
+  -- first lines of the whole commands among the bytes that were taken. By `serve` nothing was, or what stands for
+  -- the answers to the whole lines among more bytes than 64 bits count
   abbrev pub WroteFirstLines : Call → Type 0
   WroteFirstLines call = AreLines (IsOutput replies call holds) out out_now
       ⊎ WroteLinesTaken replies call holds out out_now input.left input_now.left
+      ⊎ WroteEndless replies call holds out out_now input.left input_now.left
 
 -- so it is with the call that the words ask for; for want of memory nothing may have been written
 abbrev pub HasFailed : (By → Replies) → List (List ℕ) → Disk → Disk → Inflow → Inflow → Outflow → Outflow

@@ -23,11 +23,14 @@ pub mod Querying
 pub mod Texts
 pub mod Parts
 pub mod Live
+pub mod Standing
+pub mod Serving
 pub mod Counting
 pub mod Outcome
 pub mod Ending
+pub mod ServeLoop
 pub mod Opened
-pub mod Served
+pub mod CallEnds
 pub mod Calls
 pub mod Named
 pub mod Tabled

@@ -1,9 +1,10 @@
--- What a call that reads the input answers, and what was written of its lines at each stop.
+-- What a call of `live` answers, and what was written of its lines at each stop.
 use Rattle.std.specs.Prelude.{◌≡◌, ℕ, List, [], ◌∷◌, Option, Ok}
 use Rattle.io_edge.specs.Known.{Held, Outflow}
 use Rattle.map_text.specs.Map.{Map}
 use Rattle.map_text.specs.Faults.{map_of}
 use Rattle.word_list.specs.Request.{Call}
+use Rattle.word_list.specs.declared.rows.Command.{Command}
 use Rattle.word_list.specs.declared.rows.Command.TheVariants.{Live}
 use Rattle.call_files.specs.Files.{AreAccepted}
 use Rattle.jps_run.specs.Answers.{answer_lines}
@@ -14,9 +15,10 @@ use Rattle.call_files.specs.Layered.{grids_under}
 use Rattle.jps_run.specs.Manner.{Manner, manner_of}
 use Rattle.jps_run.specs.Replies.{By, Replies}
 
--- the call answers what comes in: each of its files is accepted, the map first, and of the map this holds
-pub record OnLive (call : Call) (holds : List ℕ → Held) (Such : Map → Type 0) : Type 0 where
-  pub is : call.request.command ≡ Live
+-- the call is one of this command, which answers what comes in: each of its files is accepted, the map first, and of
+-- the map this holds
+pub record On (command : Command) (call : Call) (holds : List ℕ → Held) (Such : Map → Type 0) : Type 0 where
+  pub is : call.request.command ≡ command
   pub text : List ℕ
   pub behind : List (List ℕ)
   pub accepted : AreAccepted holds [] (files_of call) (text ∷ behind)
@@ -37,19 +39,19 @@ lines_on replies call = answers_on (manner_of replies call.settings)
 abbrev pub WroteHeard : (By → Replies) → Call → (List ℕ → Held) → Outflow → Outflow → Option (List ℕ)
     → Option (List ℕ) → Type 0
 WroteHeard replies call holds out out_now input refusal =
-    OnLive call holds (λ m. WroteAll (AnswerHeard (lines_on replies call m) input refusal) out out_now)
+    On Live call holds (λ m. WroteAll (AnswerHeard (lines_on replies call m) input refusal) out out_now)
 
 abbrev pub WrotePending : (By → Replies) → Call → (List ℕ → Held) → Outflow → Outflow → Option (List ℕ)
     → Option (List ℕ) → Type 0
 WrotePending replies call holds out out_now input left =
-    OnLive call holds (λ m. WroteAll (AnswerPending (lines_on replies call m) input left) out out_now)
+    On Live call holds (λ m. WroteAll (AnswerPending (lines_on replies call m) input left) out out_now)
 
 abbrev pub WroteSomeTaken : (By → Replies) → Call → (List ℕ → Held) → Outflow → Outflow → Option (List ℕ)
     → Option (List ℕ) → Type 0
 WroteSomeTaken replies call holds out out_now input left =
-    OnLive call holds (λ m. WroteFirst (AnswerTaken (lines_on replies call m) input left) out out_now)
+    On Live call holds (λ m. WroteFirst (AnswerTaken (lines_on replies call m) input left) out out_now)
 
 abbrev pub WroteLinesTaken : (By → Replies) → Call → (List ℕ → Held) → Outflow → Outflow → Option (List ℕ)
     → Option (List ℕ) → Type 0
 WroteLinesTaken replies call holds out out_now input left =
-    OnLive call holds (λ m. WroteLines (AnswerTaken (lines_on replies call m) input left) out out_now)
+    On Live call holds (λ m. WroteLines (AnswerTaken (lines_on replies call m) input left) out out_now)

@@ -4,17 +4,13 @@ use Rattle.grid_moves.specs.Layers.{Layers}
 use Rattle.grid_moves.specs.Reply.{IsRight}
 use Rattle.edit_replay.specs.Replies.{answer_of}
 use Rattle.edit_replay.specs.declared.engine.Engine.{Engine}
-use Rattle.edit_replay.specs.declared.reply.Reply.{Reply}
 use Rattle.word_list.specs.declared.request.SmallEngine.{SmallEngine}
+pub use Rattle.reply_lines.specs.Replies.{Replies}
 
 -- how a query is answered: by a session's engine, or by one for small maps
 pub data By : Type 0 where
   by_session : Engine → By
   by_small : SmallEngine → By
-
--- a reply to each query from one cell to another on each pair of grids
-abbrev pub Replies : Type 0
-Replies = Layers → Cell → Cell → Reply
 
 -- each of these replies is right, however queries are answered
 abbrev pub AreRight : (By → Replies) → Type 0

@@ -20,6 +20,7 @@ mod prove;
 mod query;
 mod query_work;
 mod scen;
+mod serve;
 mod solve;
 mod tables;
 
@@ -35,6 +36,7 @@ use drill::drill;
 use io_edge::Files;
 use judge::judge;
 use lengths::lengths;
+use line_server::LineServer;
 use line_work::Stop;
 use live::live;
 use make::make;
@@ -43,6 +45,7 @@ use problems::problems;
 use prove::prove;
 use query::query;
 use scen::scen;
+use serve::serve;
 use solve::solve;
 use std::alloc::Global;
 use tables::tables;
@@ -55,6 +58,8 @@ pub(crate) enum Opened {
     Work(Work),
     /// A session that answers what comes in.
     Listener(Answers),
+    /// A server of the lines that come in.
+    Server(LineServer),
 }
 
 /// Reads the files of what is asked for, and makes what is to be done with them.
@@ -85,6 +90,7 @@ pub(crate) fn open<F: Files>(
         Command::Boxes => as_work(boxes(alloc, request, settings, files)),
         Command::Moves => as_work(moves(alloc, request, settings, files)),
         Command::Live => Ok(Opened::Listener(live(alloc, request, settings, files)?)),
+        Command::Serve => Ok(Opened::Server(serve(alloc, request, settings, files)?)),
         Command::Help => Ok(Opened::Work(Work::Say(help_text()))),
         Command::Version => Ok(Opened::Work(Work::Say(version_text()))),
     }

@@ -17,6 +17,7 @@ mod opening;
 mod row;
 mod ruling;
 mod scenario;
+mod serving;
 mod session;
 mod small;
 
@@ -31,5 +32,6 @@ pub use opening::{open_answers, open_basis};
 pub use row::{Row, Tally};
 pub use ruling::{Counts, Ruling};
 pub use scenario::{Scen, write_rows};
+pub use serving::serve_lines;
 pub use session::session_on;
 pub use small::small_reply;

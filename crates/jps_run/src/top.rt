@@ -6,12 +6,12 @@ ghost use Rattle.word_list.specs.Request.{IsSound, called};
 ghost use Rattle.jps_run.specs.Counting.{RoseAsCalled, RoseForCall};
 ghost use Rattle.jps_run.specs.Ending.{Comes, EndsRight, Gets, HasFailed, HasLines, CanHear, HasPart, InputRose, NamedRose, Names, ending_line, line_of, status_of};
 ghost use Rattle.jps_run.specs.Calls.{MayHear};
-ghost use Rattle.jps_run.specs.Served.{HasServed};
+ghost use Rattle.jps_run.specs.CallEnds.{EndsCall};
 ghost use Rattle.jps_run.specs.Who.{replies_by};
 ghost use Rattle.call_files.specs.FaultLines.{word_line as line_of_word};
 
 use crate::commands::{Opened, open};
-use crate::replies::hear;
+use crate::replies::{hear, serve_lines};
 use crate::work::perform;
 use call_files::word_line;
 use io_edge::{Files, Sink, Source, write_whole};
@@ -22,7 +22,7 @@ use steps::Steps;
 use word_list::{Request, Settings, first_bad, read_words};
 
 // Does what is asked for, and gives the status.
-fn serve<F: Files, I: Source, O: Sink, L: Ledger>(
+fn answer_call<F: Files, I: Source, O: Sink, L: Ledger>(
     alloc: Global,
     request: Request<'_>,
     settings: Settings,
@@ -32,7 +32,7 @@ fn serve<F: Files, I: Source, O: Sink, L: Ledger>(
     steps: &mut Steps<L>,
 ) -> Result<u8, Stop>
     requires { IsSound request settings }
-    ensures served { HasServed (called request.entry settings) (F.disk files.old) (F.disk files.new)
+    ensures ended { EndsCall (called request.entry settings) (F.disk files.old) (F.disk files.new)
         (I.inflow input.old) (I.inflow input.new) (O.outflow out.old) (O.outflow out.new) result }
     ensures counted { OnOk result (RoseForCall (called request.entry settings) (F.disk files.old).holds
         (I.inflow input.old).left steps.old steps.new) }
@@ -44,6 +44,7 @@ fn serve<F: Files, I: Source, O: Sink, L: Ledger>(
     match opened {
         Opened::Work(work) => perform(alloc, work, out, steps),
         Opened::Listener(mut job) => hear(alloc, &mut job, input, out, steps),
+        Opened::Server(mut server) => serve_lines(alloc, &mut server, input, out, steps),
     }
 }
 
@@ -174,7 +175,7 @@ pub fn run<F: Files, I: Source, O: Sink, E: Sink, L: Ledger>(
         Err(bad) => return refuse_word(alloc, bad.0, err),
     };
     finish(
-        serve(alloc, request, settings, files, input, out, steps),
+        answer_call(alloc, request, settings, files, input, out, steps),
         err,
     )
 }

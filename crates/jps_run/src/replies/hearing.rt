@@ -23,7 +23,7 @@ use steps::Steps;
 const MOST: usize = LONGEST as usize;
 
 /// At most so many bytes are read at once.
-const PIECE: usize = 1 << 16;
+pub const PIECE: usize = 1 << 16;
 
 /// Answers the commands that come in, those of each read before the next one.
 ///
@@ -98,8 +98,8 @@ fn turn<I: Source, O: Sink, L: Ledger>(
     }
 }
 
-// Reads once into the buffer.
-fn read_into<I: Source>(input: &mut I, buffer: &mut Vec<u8>) -> Result<usize, Failed>
+/// Reads once into the buffer.
+pub fn read_into<I: Source>(input: &mut I, buffer: &mut Vec<u8>) -> Result<usize, Failed>
     requires { 0 < length buffer.old.items }
     ensures bound { IfOk result (λ n. n ≤ length buffer.new.items) }
     ensures kept { length buffer.new.items ≡ length buffer.old.items }
@@ -109,8 +109,8 @@ fn read_into<I: Source>(input: &mut I, buffer: &mut Vec<u8>) -> Result<usize, Fa
     input.read(buffer.as_mut_slice())
 }
 
-// So many bytes.
-fn blank(alloc: Global, count: usize) -> Result<Vec<u8>, NoMemory>
+/// So many bytes.
+pub fn blank(alloc: Global, count: usize) -> Result<Vec<u8>, NoMemory>
     ensures { IfOk result (λ bytes. length bytes.items ≡ count) }
 {
     vec![in alloc; 0; count]

@@ -1,6 +1,6 @@
 use Rattle.std.specs.Prelude.{map, string_bytes}
 use Rattle.word_list.specs.Request.{called}
-use Rattle.jps_run.proofs.Ended.{rightly, served-ends, word-ends}
+use Rattle.jps_run.proofs.Ended.{rightly, call-ends, word-ends}
 use Rattle.jps_run.proofs.top.run.Goals as goal
 
 pub returns-in-Err : goal.returns-in-Err
@@ -27,13 +27,13 @@ returns-in-Err g c =
 
 pub returns : goal.returns
 returns g c =
-    let h = served-ends (map string_bytes c.args.words.now) (g.F.Files.disk c.args.files.now)
-    (g.F.Files.disk c.serve.new.files) (g.I.Source.inflow c.args.input.now)
-    (g.I.Source.inflow c.serve.new.input) (g.O.Sink.outflow c.args.out.now)
-    (g.O.Sink.outflow c.serve.new.out) (g.E.Sink.outflow c.args.err.now)
-    (g.E.Sink.outflow c.finish.new.err) c.args.steps.now c.serve.new.steps
-    (called c.in-Ok.call.0 c.in-Ok.call.1) c.in-Ok.ensures.found c.serve.ensures.unchanged
-    c.serve.ensures.input_stays c.serve.result c.finish.result c.serve.ensures.served c.serve.ensures.counted
+    let h = call-ends (map string_bytes c.args.words.now) (g.F.Files.disk c.args.files.now)
+    (g.F.Files.disk c.answer_call.new.files) (g.I.Source.inflow c.args.input.now)
+    (g.I.Source.inflow c.answer_call.new.input) (g.O.Sink.outflow c.args.out.now)
+    (g.O.Sink.outflow c.answer_call.new.out) (g.E.Sink.outflow c.args.err.now)
+    (g.E.Sink.outflow c.finish.new.err) c.args.steps.now c.answer_call.new.steps
+    (called c.in-Ok.call.0 c.in-Ok.call.1) c.in-Ok.ensures.found c.answer_call.ensures.unchanged
+    c.answer_call.ensures.input_stays c.answer_call.result c.finish.result c.answer_call.ensures.ended c.answer_call.ensures.counted
     c.finish.ensures.status c.finish.ensures.printed in
     record {
       statuses = h.statuses;

@@ -6,6 +6,7 @@ use Rattle.word_list.specs.Request.{Call}
 use Rattle.call_files.specs.Files.{HasRefused}
 use Rattle.jps_run.specs.Ending.{Fails, WroteFirstLines, WrotePart}
 use Rattle.jps_run.specs.Live.{WroteHeard}
+use Rattle.jps_run.specs.Serving.{WroteServed}
 use Rattle.jps_run.specs.Calls.{files_of}
 use Rattle.jps_run.specs.Outcome.{IsOutput}
 use Rattle.jps_run.specs.Who.{replies_by}
@@ -14,8 +15,8 @@ use Rattle.line_work.specs.Stops.{Stops, EndsOrStops}
 use Rattle.line_work.specs.declared.stop.Stop.{Stop}
 
 -- what is known where the work on a call stops
-abbrev pub served_stops : Call → Disk → Disk → Inflow → Inflow → Outflow → Outflow → Stops
-served_stops call disk disk_now input input_now out out_now = record {
+abbrev pub call_stops : Call → Disk → Disk → Inflow → Inflow → Outflow → Outflow → Stops
+call_stops call disk disk_now input input_now out out_now = record {
   Refused = λ line. (HasRefused disk.holds (files_of call) line × Wrote out out_now [])
       ⊎ WroteHeard replies_by call disk.holds out out_now input.left (Some line);
   Read = Fails replies_by disk.holds input input_now out out_now disk disk_now call;
@@ -25,9 +26,10 @@ served_stops call disk disk_now input input_now out out_now = record {
 }
 
 -- the work on a call came to the call's output, or it stops
-abbrev pub HasServed : Call → Disk → Disk → Inflow → Inflow → Outflow → Outflow → Result ℕ Stop → Type 0
-HasServed call disk disk_now input input_now out out_now result = EndsOrStops
+abbrev pub EndsCall : Call → Disk → Disk → Inflow → Inflow → Outflow → Outflow → Result ℕ Stop → Type 0
+EndsCall call disk disk_now input input_now out out_now result = EndsOrStops
     (λ status. (status ≤ 1)
     × (IsAll (IsOutput replies_by call disk.holds) out out_now status
-    ⊎ ((status ≡ 0) × WroteHeard replies_by call disk.holds out out_now input.left None)))
-    (served_stops call disk disk_now input input_now out out_now) result
+    ⊎ ((status ≡ 0) × (WroteHeard replies_by call disk.holds out out_now input.left None
+    ⊎ WroteServed replies_by call disk.holds out out_now input.left))))
+    (call_stops call disk disk_now input input_now out out_now) result

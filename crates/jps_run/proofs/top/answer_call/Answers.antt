@@ -5,24 +5,24 @@ use Rattle.jps_run.specs.declared.commands.Opened.{Opened}
 use Rattle.jps_run.specs.Heard.{RoseHeard}
 use Rattle.jps_run.specs.Counting.{heard}
 use Rattle.jps_run.proofs.Rising.{on_ok}
-use Rattle.jps_run.proofs.Serving.{heard-served, may-hear, on-session, unopened-served, work-counted}
-use Rattle.jps_run.proofs.Serving.{work-served}
-use Rattle.jps_run.proofs.top.serve.Goals as goal
+use Rattle.jps_run.proofs.CallEnds.{heard-ends, may-hear, on-session, unopened-ends, work-counted}
+use Rattle.jps_run.proofs.CallEnds.{work-ends}
+use Rattle.jps_run.proofs.top.answer_call.Goals as goal
 
-pub returns-in_err-opened-clause-served : goal.returns-in_err-opened-clause-served
-returns-in_err-opened-clause-served g c =
+pub returns-in_err-opened-clause-ended : goal.returns-in_err-opened-clause-ended
+returns-in_err-opened-clause-ended g c =
     let input = g.I.Source.inflow c.args.input.now in
     let out = g.O.Sink.outflow c.args.out.now in
-    unopened-served (called c.args.request c.args.settings) (g.F.Files.disk c.args.files.now)
+    unopened-ends (called c.args.request c.args.settings) (g.F.Files.disk c.args.files.now)
     (g.F.Files.disk c.open.new.files) input input out out c.from_residual.result c.in_err-opened.field-0.0
     c.in_err-opened.ensures.opened c.from_residual.ensures.1
 
-pub returns-in-Work-clause-served : goal.returns-in-Work-clause-served
-returns-in-Work-clause-served g c =
+pub returns-in-Work-clause-ended : goal.returns-in-Work-clause-ended
+returns-in-Work-clause-ended g c =
     let call = called c.args.request c.args.settings in
     let disk = g.F.Files.disk c.args.files.now in
     let input = g.I.Source.inflow c.args.input.now in
-    work-served call disk (g.F.Files.disk c.open.new.files) input input (g.O.Sink.outflow c.args.out.now)
+    work-ends call disk (g.F.Files.disk c.open.new.files) input input (g.O.Sink.outflow c.args.out.now)
     (g.O.Sink.outflow c.perform.new.out) c.perform.result c.in-Work.work
     (subst (λ (o : Opened). IsOpenedAs call disk.holds o) c.in-Work.is c.in_ok-opened.ensures.opened)
     c.perform.ensures.sent
@@ -37,11 +37,11 @@ returns-in-Work-clause-counted g c = on_ok c.perform.result (λ rose.
     c.in-Work.is c.in_ok-opened.ensures.opened) rose)
     c.perform.ensures.counted
 
-pub returns-in-Listener-clause-served : goal.returns-in-Listener-clause-served
-returns-in-Listener-clause-served g c =
+pub returns-in-Listener-clause-ended : goal.returns-in-Listener-clause-ended
+returns-in-Listener-clause-ended g c =
     let call = called c.args.request c.args.settings in
     let disk = g.F.Files.disk c.args.files.now in
-    heard-served call disk (g.F.Files.disk c.open.new.files) (g.I.Source.inflow c.args.input.now)
+    heard-ends call disk (g.F.Files.disk c.open.new.files) (g.I.Source.inflow c.args.input.now)
     (g.I.Source.inflow c.hear.new.input) (g.O.Sink.outflow c.args.out.now) (g.O.Sink.outflow c.hear.new.out)
     c.hear.result c.in-Listener.job
     (subst (λ (o : Opened). IsOpenedAs call disk.holds o) c.in-Listener.is c.in_ok-opened.ensures.opened)
