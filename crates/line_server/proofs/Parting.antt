@@ -1,22 +1,26 @@
 -- What labels tell of the replies of a session.
-use Rattle.std.proofs.Common.{◌≡◌, refl, sym, ap, ◌∙◌, subst, Bool, true, false, List, ℕ, inl, inr, arith}
-use Rattle.std.specs.Prelude.{◌≢◌, ◌↔◌, IsTrue, codes, ◌&&◌, ◌||◌, if◌then◌else◌}
-use Rattle.std.proofs.lemmas.Bool.Decides.{nat_tests}
+use Rattle.std.proofs.Common.{◌≡◌, refl, sym, ap, ◌∙◌, subst, Bool, true, false, List, ℕ, inl, inr}
+use Rattle.std.specs.Prelude.{◌≢◌, ◌↔◌, IsTrue, codes, ◌&&◌, if◌then◌else◌}
+use Rattle.std.proofs.lemmas.Bool.{and_from, cond-false, cond-true}
 use denote.Enum.Bare.{sameb}
 use Rattle.word_list.specs.contracts.request.Show.{the_type}
+use Rattle.grid_moves.specs.contracts.Ground as grounds
 use Rattle.grid_moves.specs.declared.Cell.{Cell}
 use Rattle.grid_moves.specs.declared.Ground.{Ground}
-use Rattle.grid_moves.specs.Grid.{GridData, is_free, is_inside}
-use Rattle.grid_moves.specs.Layers.{AreLayers, Layers, in_one_layer, is_free_ground, is_on_map, query_grid, layers_with}
-use Rattle.grid_moves.specs.Reply.{IsRight, are_free_ends}
+use Rattle.grid_moves.specs.declared.Ground.TheVariants.{Land, Water}
+use Rattle.grid_moves.specs.Grid.{GridData, grid_with, is_free, is_ground}
+use Rattle.grid_moves.specs.Layers.{AreLayers, Layers, in_one_layer, is_free_ground, is_on_map, layers_with, query_grid}
+use Rattle.grid_moves.specs.Reply.{IsRight}
+use Rattle.grid_moves.proofs.Layering.{same_ground}
 use Rattle.joined_cells.specs.Joined.{IsJoined, are_joined}
-use Rattle.components.specs.Kept.{KeptLabels, Tells}
 use Rattle.joined_cells.proofs.Layering.{joined_in_one_layer}
-use Rattle.nearest_cell.specs.Nearest.{IsNearest, nearest_of}
+use Rattle.components.specs.Kept.{KeptLabels, Tells}
+use Rattle.nearest_cell.specs.Nearest.{IsNearest}
 use Rattle.nearest_cell.proofs.Lawful.{nearest_one}
 use Rattle.nearest_cell.proofs.Listed.{nearest_of-first}
 use Rattle.edit_replay.specs.Replies.{EditsSo, answer_of}
 use Rattle.edit_replay.specs.ReplyOf.{reply_of}
+use Rattle.edit_replay.specs.Session.{SessionData}
 use Rattle.edit_replay.specs.declared.engine.Engine.{Engine}
 use Rattle.edit_replay.proofs.Grounds.{ends_free, ends_on}
 use Rattle.edit_replay.proofs.Replying.{is_reply}
@@ -24,20 +28,21 @@ use Rattle.edit_replay.specs.declared.reply.Reply.{Reply}
 use Rattle.edit_replay.specs.declared.reply.Reply.TheVariants as reply
 use Rattle.edit_replay.specs.declared.reply.EditReply.{EditReply}
 use Rattle.edit_replay.specs.declared.reply.EditReply.TheVariants as edit
+use Rattle.grid_answers.proofs.Cells.{free-on}
 use Rattle.word_list.specs.declared.request.Show.{Show}
 use Rattle.word_list.specs.declared.request.Show.TheVariants.{Points, Cells, Trace, Taken}
 use Rattle.reply_lines.specs.Lines.{Unfolds, reply_line}
 use Rattle.reply_lines.specs.Replies.{is_walk, query_line}
 use Rattle.reply_lines.proofs.Unfolding.{replied_unfolds}
-use Rattle.grid_answers.proofs.Cells.{free-on}
 use Rattle.line_server.specs.Answers.{near_line, nearest_by}
+use Rattle.line_server.specs.Joined.{KnowsJoined}
 
 -- the grid of a query, by whether it starts in water
 pub in-water : (ls : Layers) (s : Cell) (b : Bool) → b ≡ is_free ls.water s → b ≡ true → query_grid ls s ≡ ls.water
-in-water ls s b is here = rw (sym is ∙ here) refl
+in-water ls s b is here = cond-true (is_free ls.water s) ls.water ls.land (sym is ∙ here)
 
 pub on-land : (ls : Layers) (s : Cell) (b : Bool) → b ≡ is_free ls.water s → b ≡ false → query_grid ls s ≡ ls.land
-on-land ls s b is here = rw (sym is ∙ here) refl
+on-land ls s b is here = cond-false (is_free ls.water s) ls.water ls.land (sym is ∙ here)
 
 -- fresh labels tell whether cells are joined on that grid
 pub joined-there : (g k : GridData) (p : KeptLabels) → Tells k p → p.fresh ≡ true → g ≡ k → (s t : Cell) (b : Bool)
@@ -46,99 +51,101 @@ joined-there g k p tells fresh same s t b is =
     subst (λ (h : GridData). IsTrue b ↔ IsJoined h s t) (sym same)
     (subst (λ (c : Bool). IsTrue c ↔ IsJoined k s t) (sym is) ((tells.joined fresh).joined s t))
 
-pub both-true : (a b : Bool) → a ≡ true → b ≡ true → (a && b) ≡ true
-both-true true b h k = k
-both-true false b h k = h
+-- the reply of an engine is a walk exactly where one leads
+module _ (engine : Engine) (ls : Layers) (are : AreLayers ls) (s : Cell) where
+  right : (t : Cell) → IsRight ls s t (answer_of (reply_of engine ls s t))
+  right t = (is_reply (record { engine = engine; layers = ls }) s t).right
 
-pub not-both : (a b : Bool) → b ≡ false → (a && b) ≡ false
-not-both true b h = h
-not-both false b h = refl
+  walk-joins : (t : Cell) (r : Reply) → IsRight ls s t (answer_of r) → is_walk r ≡ true
+      → IsJoined (query_grid ls s) s t
+  walk-joins t reply.Outside told is = absurd (cc)
+  walk-joins t reply.Blocked told is = absurd (cc)
+  walk-joins t (reply.None taken) told is = absurd (cc)
+  walk-joins t (reply.Walk points cost taken) told is =
+      record { cells = told.1.cells; walk = told.1.least.walk }
 
--- cells that are free on one grid are free
-free-ends : (ls : Layers) (s t : Cell) → in_one_layer ls s t ≡ true → are_free_ends ls s t ≡ true
-free-ends ls s t one = grind (arith, nat_tests)
+  joined-walks : (t : Cell) (r : Reply) → IsRight ls s t (answer_of r) → IsJoined (query_grid ls s) s t
+      → is_walk r ≡ true
+  joined-walks t reply.Outside told j =
+      let free = ends_free ls are s t (joined_in_one_layer ls s t j) in
+      absurd (let e : true ≡ false = sym (ends_on ls are s t free) ∙ told in cc)
+  joined-walks t reply.Blocked told j =
+      let free = ends_free ls are s t (joined_in_one_layer ls s t j) in
+      absurd (let e : true ≡ false = sym free ∙ told.1 in cc)
+  joined-walks t (reply.None taken) told j = elim told.1 [
+    | inl two ↦ absurd (let e : true ≡ false = sym (joined_in_one_layer ls s t j) ∙ two in cc)
+    | inr none ↦ absurd (none j.cells j.walk)
+  ]
+  joined-walks t (reply.Walk points cost taken) told j = refl
+
+  walks-where-joined : (t : Cell) → IsTrue (is_walk (reply_of engine ls s t)) ↔ IsJoined (query_grid ls s) s t
+  walks-where-joined t =
+      (walk-joins t (reply_of engine ls s t) (right t), joined-walks t (reply_of engine ls s t) (right t))
+
+  -- so the nearest cell is the one to which the replies lead
+  pub nearest-is : (goal c : Cell) → is_free_ground ls s ≡ true → IsNearest (query_grid ls s) s goal c
+      → c ≡ nearest_by (reply_of engine) ls s goal
+  nearest-is goal c free nearest =
+      nearest_one (query_grid ls s) s goal c (nearest_by (reply_of engine) ls s goal) nearest
+      (nearest_of-first (λ t. is_walk (reply_of engine ls s t)) (query_grid ls s) s goal walks-where-joined
+      (free-on ls s (query_grid ls s) refl free))
 
 -- a right reply between cells of one layer that no walk joins is none
-none-right : (ls : Layers) (s t : Cell) (width : ℕ) (show : Show) (r : Reply) → IsRight ls s t (answer_of r)
-    → (is_on_map ls s && is_on_map ls t) ≡ true → in_one_layer ls s t ≡ true
-    → ¬ IsJoined (query_grid ls s) s t → sameb the_type show Trace ≡ false
-    → codes "none\n" ≡ reply_line width show r
-none-right ls s t width show reply.Outside right on one apart shows =
-    absurd (let e : true ≡ false = sym on ∙ right in cc)
-none-right ls s t width show reply.Blocked right on one apart shows =
-    absurd (let e : true ≡ false = sym (free-ends ls s t one) ∙ right.1 in cc)
-none-right ls s t width Points (reply.None taken) right on one apart shows = refl
-none-right ls s t width Cells (reply.None taken) right on one apart shows = refl
-none-right ls s t width Taken (reply.None taken) right on one apart shows = refl
-none-right ls s t width Trace (reply.None taken) right on one apart shows = absurd (cc)
-none-right ls s t width show (reply.Walk points cost taken) right on one apart shows =
-    absurd (apart (record { cells = right.1.cells; walk = right.1.least.walk }))
+none-right : (ls : Layers) (s t : Cell) (width : ℕ) (show : Show) (r : Reply) → AreLayers ls
+    → IsRight ls s t (answer_of r) → in_one_layer ls s t ≡ true → ¬ IsJoined (query_grid ls s) s t
+    → sameb the_type show Trace ≡ false → codes "none\n" ≡ reply_line width show r
+none-right ls s t width show reply.Outside are told one apart shows =
+    absurd (let e : true ≡ false = sym (ends_on ls are s t (ends_free ls are s t one)) ∙ told in cc)
+none-right ls s t width show reply.Blocked are told one apart shows =
+    absurd (let e : true ≡ false = sym (ends_free ls are s t one) ∙ told.1 in cc)
+none-right ls s t width Points (reply.None taken) are told one apart shows = refl
+none-right ls s t width Cells (reply.None taken) are told one apart shows = refl
+none-right ls s t width Taken (reply.None taken) are told one apart shows = refl
+none-right ls s t width Trace (reply.None taken) are told one apart shows = absurd (cc)
+none-right ls s t width show (reply.Walk points cost taken) are told one apart shows =
+    absurd (apart (record { cells = told.1.cells; walk = told.1.least.walk }))
 
-pub none-line : (engine : Engine) (show : Show) (ls : Layers) (s t : Cell) → is_on_map ls s ≡ true
-    → is_on_map ls t ≡ true → in_one_layer ls s t ≡ true → ¬ IsJoined (query_grid ls s) s t
-    → sameb the_type show Trace ≡ false → codes "none\n" ≡ query_line (reply_of engine) show ls s t
-none-line engine show ls s t on onto one apart shows =
-    none-right ls s t ls.land.width show (reply_of engine ls s t)
-    (is_reply (record { engine = engine; layers = ls }) s t).right
-    (both-true (is_on_map ls s) (is_on_map ls t) on onto) one apart shows
+pub none-line : (engine : Engine) (show : Show) (ls : Layers) (s t : Cell) → AreLayers ls
+    → in_one_layer ls s t ≡ true → ¬ IsJoined (query_grid ls s) s t → sameb the_type show Trace ≡ false
+    → codes "none\n" ≡ query_line (reply_of engine) show ls s t
+none-line engine show ls s t are one apart shows =
+    none-right ls s t ls.land.width show (reply_of engine ls s t) are
+    (is_reply (record { engine = engine; layers = ls }) s t).right one apart shows
 
 pub reply-unfolds : (engine : Engine) (ls : Layers) (s t : Cell) (r : Reply) → r ≡ reply_of engine ls s t
     → Unfolds r
 reply-unfolds engine ls s t r is = subst Unfolds (sym is)
     (replied_unfolds ls s t (reply_of engine ls s t) (is_reply (record { engine = engine; layers = ls }) s t).right)
 
--- where a walk leads the reply is one, and there alone
-walk-right : (ls : Layers) → AreLayers ls → (s t : Cell) (r : Reply) → IsRight ls s t (answer_of r)
-    → IsTrue (is_walk r) ↔ IsJoined (query_grid ls s) s t
-walk-right ls are s t r right = (leads r right, reached r right)
-  where
-    leads : (r : Reply) → IsRight ls s t (answer_of r) → is_walk r ≡ true → IsJoined (query_grid ls s) s t
-    leads reply.Outside right is = absurd (let e : false ≡ true = is in cc)
-    leads reply.Blocked right is = absurd (let e : false ≡ true = is in cc)
-    leads (reply.None taken) right is = absurd (let e : false ≡ true = is in cc)
-    leads (reply.Walk points cost taken) right is =
-        record { cells = right.1.cells; walk = right.1.least.walk }
-
-    reached : (r : Reply) → IsRight ls s t (answer_of r) → IsJoined (query_grid ls s) s t → is_walk r ≡ true
-    reached reply.Outside right j = absurd (
-        let free = ends_free ls are s t (joined_in_one_layer ls s t j) in
-        let e : true ≡ false = sym (ends_on ls are s t free) ∙ right in cc)
-    reached reply.Blocked right j = absurd (
-        let e : true ≡ false = sym (ends_free ls are s t (joined_in_one_layer ls s t j)) ∙ right.1 in cc)
-    reached (reply.None taken) right j = elim right.1 [
-      | inl two ↦ absurd (let e : true ≡ false = sym (joined_in_one_layer ls s t j) ∙ two in cc)
-      | inr none ↦ absurd (none j.cells j.walk)
-    ]
-    reached (reply.Walk points cost taken) right j = refl
-
--- so the nearest cell by the replies is the nearest one
-module _ (engine : Engine) (ls : Layers) (are : AreLayers ls) (s goal : Cell) where
-  walks-joined : (c : Cell) → IsTrue (is_walk (reply_of engine ls s c)) ↔ IsJoined (query_grid ls s) s c
-  walks-joined c = walk-right ls are s c (reply_of engine ls s c)
-      (is_reply (record { engine = engine; layers = ls }) s c).right
-
-  pub nearest-by : (c : Cell) → is_free (query_grid ls s) s ≡ true → IsNearest (query_grid ls s) s goal c
-      → c ≡ nearest_by (reply_of engine) ls s goal
-  nearest-by c free near = nearest_one (query_grid ls s) s goal c (nearest_by (reply_of engine) ls s goal) near
-      (nearest_of-first (λ d. is_walk (reply_of engine ls s d)) (query_grid ls s) s goal walks-joined free)
-
 -- the answers to `near`
-module _ (engine : Engine) (show : Show) (ls : Layers) (s t : Cell) where
-  pub near-off : (is_on_map ls s && is_on_map ls t) ≡ false
-      → codes "outside\n" ≡ near_line (reply_of engine) show ls s t
-  near-off off = rw off refl
+module _ (engine : Engine) (show : Show) (ls : Layers) (s goal : Cell) where
+  abbrev line : List ℕ
+  line = query_line (reply_of engine) show ls s (nearest_by (reply_of engine) ls s goal)
 
-  pub near-blocked : is_on_map ls s ≡ true → is_on_map ls t ≡ true → is_free_ground ls s ≡ false
-      → codes "blocked\n" ≡ near_line (reply_of engine) show ls s t
-  near-blocked on onto blocked = rw (both-true (is_on_map ls s) (is_on_map ls t) on onto, blocked) refl
+  on-map : (b : Bool) → (is_on_map ls s && is_on_map ls goal) ≡ b → near_line (reply_of engine) show ls s goal
+      ≡ if b then (if is_free_ground ls s then line else codes "blocked\n") else codes "outside\n"
+  on-map b is = ap (λ (a : Bool). if a then (if is_free_ground ls s then line else codes "blocked\n")
+      else codes "outside\n") is
 
-  pub near-there : AreLayers ls → (c : Cell) → is_on_map ls s ≡ true → is_on_map ls t ≡ true
-      → is_free_ground ls s ≡ true → IsNearest (query_grid ls s) s t c
-      → query_line (reply_of engine) show ls s c ≡ near_line (reply_of engine) show ls s t
-  near-there are c on onto free nearest =
-      rw (both-true (is_on_map ls s) (is_on_map ls t) on onto, free)
-      (ap (λ (d : Cell). query_line (reply_of engine) show ls s d)
-      (nearest-by engine ls are s t c (free-on ls s (query_grid ls s) refl free) nearest))
+  pub near-off : (is_on_map ls s && is_on_map ls goal) ≡ false
+      → codes "outside\n" ≡ near_line (reply_of engine) show ls s goal
+  near-off off = sym (on-map false off)
+
+  module _ (on : is_on_map ls s ≡ true) (onto : is_on_map ls goal ≡ true) where
+    by-free : (b : Bool) → is_free_ground ls s ≡ b
+        → near_line (reply_of engine) show ls s goal ≡ if b then line else codes "blocked\n"
+    by-free b is = on-map true (and_from (is_on_map ls s) (is_on_map ls goal) on onto)
+        ∙ ap (λ (a : Bool). if a then line else codes "blocked\n") is
+
+    pub near-blocked : is_free_ground ls s ≡ false → codes "blocked\n" ≡ near_line (reply_of engine) show ls s goal
+    near-blocked blocked = sym (by-free false blocked)
+
+    pub near-there : (c : Cell) (text : List ℕ) → AreLayers ls → is_free_ground ls s ≡ true
+        → IsNearest (query_grid ls s) s goal c → text ≡ query_line (reply_of engine) show ls s c
+        → text ≡ near_line (reply_of engine) show ls s goal
+    near-there c text are free nearest is =
+        is ∙ ap (λ (d : Cell). query_line (reply_of engine) show ls s d) (nearest-is engine ls are s goal c free nearest)
+        ∙ sym (by-free true free)
 
 -- an edit that is not done changes nothing
 pub stays-off : (ls after : Layers) (c : Cell) (to : Ground) (r : EditReply) → EditsSo ls c to after r
@@ -158,3 +165,30 @@ pub is-done : (ls after : Layers) (c : Cell) (to : Ground) (r : EditReply) → E
 is-done ls after c to edit.Outside so done = absurd (cc)
 is-done ls after c to edit.Same so done = absurd (cc)
 is-done ls after c to edit.Done so done = so.2
+
+-- labels tell the grids that stay, and those after an edit that both were told of
+pub knows-still : (old new : SessionData) (land water : KeptLabels) → KnowsJoined old land water
+    → new.layers ≡ old.layers → KnowsJoined new land water
+knows-still old new land water knows same = record {
+  land = subst (λ (ls : Layers). Tells ls.land land) (sym same) knows.land;
+  water = subst (λ (ls : Layers). Tells ls.water water) (sym same) knows.water;
+}
+
+-- labels tell the grid that an edit leaves, if its test of the ground was handed on
+tells-edited : (g : GridData) (c : Cell) (of to : Ground) (b : Bool) (old new : KeptLabels)
+    → b ≡ sameb grounds.the_type to of → Tells g old → ((k : GridData) → Tells k old → Tells (grid_with k c b) new)
+    → Tells (grid_with g c (is_ground of to)) new
+tells-edited g c of to b old new is tells edits =
+    subst (λ (f : Bool). Tells (grid_with g c f) new) (is ∙ same_ground to of) (edits g tells)
+
+pub knows-edited : (old new : SessionData) (c : Cell) (to : Ground) (a b : Bool) (land water land' water' : KeptLabels)
+    → KnowsJoined old land water → new.layers ≡ layers_with old.layers c to
+    → a ≡ sameb grounds.the_type to Land → ((k : GridData) → Tells k land → Tells (grid_with k c a) land')
+    → b ≡ sameb grounds.the_type to Water → ((k : GridData) → Tells k water → Tells (grid_with k c b) water')
+    → KnowsJoined new land' water'
+knows-edited old new c to a b land water land' water' knows changed is of_land same of_water = record {
+  land = subst (λ (ls : Layers). Tells ls.land land') (sym changed)
+      (tells-edited old.layers.land c Land to a land land' is knows.land of_land);
+  water = subst (λ (ls : Layers). Tells ls.water water') (sym changed)
+      (tells-edited old.layers.water c Water to b water water' same knows.water of_water);
+}

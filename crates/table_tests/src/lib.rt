@@ -7,6 +7,8 @@
 #[cfg(test)]
 mod edit_replay_tests;
 #[cfg(test)]
+mod line_server_tests;
+#[cfg(test)]
 mod plus_tables_tests;
 #[cfg(test)]
 mod table_file_tests;
