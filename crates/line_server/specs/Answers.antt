@@ -100,7 +100,7 @@ near_from_a_block = refl
 
 -- `near` from a cell that walks lead to no other from; and on `..@..`, where they lead to the columns before the block
 pub near_itself : answer_to none_found Points row_of_three (asked.Near 0 0 2 0) ≡ codes "none\n"
-unfolding nearest_of, first_nearest
+unfolding nearest_of first_nearest
 near_itself = refl
 
 abbrev row_of_five : Layers
@@ -111,7 +111,7 @@ walks_left ls s t =
     if nat_lt t.x 2 then reply.Walk (s ∷ t ∷ []) (record { a = 1; b = 0 }) [] else reply.None []
 
 pub near_the_block : answer_to walks_left Points row_of_five (asked.Near 0 0 4 0) ≡ codes "walk 1 0 0,0 1,0\n"
-unfolding nearest_of, first_nearest
+unfolding nearest_of first_nearest
 near_the_block = refl
 
 -- memory may be refused where some is taken, and there alone

@@ -70,13 +70,13 @@ abbrev corner : Cell
 corner = record { x = 2; y = 2 }
 
 pub above : nearest_of (is_free pillar) pillar corner middle ≡ record { x = 1; y = 0 }
-unfolding nearest_of, first_nearest
+unfolding nearest_of first_nearest
 above = refl
 
 pub to_the_left : nearest_of (λ c. is_free pillar c && nat_lt 0 c.y) pillar corner middle ≡ record { x = 0; y = 1 }
-unfolding nearest_of, first_nearest
+unfolding nearest_of first_nearest
 to_the_left = refl
 
 pub the_start : nearest_of (λ c. false) pillar corner middle ≡ corner
-unfolding nearest_of, first_nearest
+unfolding nearest_of first_nearest
 the_start = refl
