@@ -33,6 +33,16 @@ def scatter(width, height, percent, seed):
     return [bytearray(WALL if it else FREE for it in row) for row in noise(random.Random(seed), width, height, least)]
 
 
+def towers(width, height, pitch, seed):
+    """Open land with towers of 2 by 2, one in each square of this side."""
+    source, rows = random.Random(seed), blank(width, height)
+    for top in range(0, height - pitch + 1, pitch):
+        for left in range(0, width - pitch + 1, pitch):
+            x, y = left + source.randrange(pitch - 1), top + source.randrange(pitch - 1)
+            fill(rows, x, y, x + 2, y + 2, WALL)
+    return rows
+
+
 def maze(width, height, corridor, seed):
     """A perfect maze by a walk that goes back where it cannot go on."""
     source = random.Random(seed)
