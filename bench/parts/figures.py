@@ -9,6 +9,7 @@ import re
 import inputs
 import numbers_of as told
 import plots
+import tick_phases
 
 ENGINES = ("plain", "jps", "block", "plus")
 JUMPS = ENGINES[1:]
@@ -496,6 +497,55 @@ def open_land_spread_text(results):
     return [told.table(["Question", "By", "How many", "median", "99 of 100 within"], lines)]
 
 
+def tick_time(row):
+    """The median of the turns."""
+    return told.seconds(max(told.median(row["per_piece"]), 1e-9)) if row else ""
+
+
+def ticks_text(results):
+    part = results["ticks"]
+    lines = []
+    for name, (words, _) in tick_phases.MAPS.items():
+        for engine in tick_phases.ENGINES:
+            found = [find(part["rows"], map=name, kind=kind, engine=engine) for kind in tick_phases.KINDS]
+            lines.append([words, f"`{engine}`", *map(tick_time, found)])
+    head = ["{0} x {0} cells".format(part["side"]), "Engine", *tick_phases.KINDS]
+    words = "Four edits and the lines of {} units (`near`): processor time of `serve` for a tick, the median of {} turns."
+    more = [row for row in part["rows"] if row["kind"] not in tick_phases.KINDS]
+    rows = [[f"200 units: {row['kind']}", tick_time(row), told.seconds(row["0.99"])] for row in more]
+    rows += [[row["what"], tick_time(row), ""] for row in part["lines"]]
+    rows.append(["a million lines: the most memory behind the first 10,000, and behind all", memory_words(part), ""])
+    tables = [told.table(head, lines), told.table(["By `block`", "A tick or a line", "99 of 100 ticks by the clock"], rows)]
+    return ["## A tick of a game", words.format(part["units"], part["turns"]), *tables, field_table(part)]
+
+
+def memory_words(part):
+    peaks = [part["memory"][it] for it in ("first", "last")]
+    return ", ".join(map(told.megabytes, peaks)) if all(peaks) else ""
+
+
+def field_table(part):
+    """`field` and `costs` of `serve`, and the field by buckets."""
+    lines, names = [], {"open": "open land", "quarter": "a quarter blocked"}
+    for row in part["fields"]:
+        times = [told.seconds(told.median(row[it])) if row[it] else "" for it in ("field", "costs", "flow_field")]
+        ratio = told.ratio_text(told.ratio(row["field"], row["flow_field"])) if row["flow_field"] else ""
+        lines.append([names[row["map"]], *times, ratio])
+    by_buckets = "[by buckets, in C++](../bench/ticks/flow_field.cpp)"
+    return told.table(["All cells", "`field`", "`costs`", by_buckets, "`field` over that"], lines)
+
+
+def tick_words(results):
+    """README's words of a tick of a game, where it was measured."""
+    if not results.get("ticks"):
+        return "[units, edits, crowds](examples/serve)"
+    rows = results["ticks"]["rows"]
+    times = [told.median(row["per_piece"]) for row in rows if row["engine"] == "block" and row["kind"] in tick_phases.KINDS]
+    walled = find(rows, kind="`near` to a closed tower", engine="block")
+    least, most, closed = (in_unit(it, "ms") for it in (min(times), max(times), told.median(walled["per_piece"])))
+    return f"a tick of {results['ticks']['units']} units: {least} to {most} ms; round a closed tower {closed}"
+
+
 def dear_time(row):
     """A median of seconds; what is shorter than the start of a process can tell has no digits."""
     return told.seconds(max(told.median(row["per_query"]), 1e-6)) if row else ""
@@ -665,6 +715,7 @@ def engines_text(results):
         f"{{}} µs; `plus` {{}} µs, amid open land {{}} ms ({side})".format(*edits),
         "across {} × {}: {}, {} s, `plain` {}; by arrival {}, {}".format(*walls),
     ]
+    told_of.append(tick_words(results))
     lines = [[*row, figures] for row, figures in zip(SUITED, told_of)]
     return [told.table(["Your queries", "Engine", "Figures, with `states=cell`"], lines)]
 
@@ -677,6 +728,7 @@ SUITED = (
     ("unreachable goals on open land", "`plus`, `block`"),
     ("edits", "`block`"),
     ("scattered walls, a quarter blocked", "`plus`, `block`"),
+    ("for games: `serve`", "`block`"),
 )
 ROOMS = (("plus", "µs", "cell"), ("block", "µs", "cell"), ("plain",))
 WALLS = (("plus", "cell"), ("block", "cell"), ("plain", "arrival"), ("plus", "arrival"), ("block", "arrival"))
@@ -698,6 +750,8 @@ def speed_blocks(results, pictures):
         blocks["pipe"] = pipe_text(results)
     if has("open_land"):
         blocks["open_land"] = open_land_text(results)
+    if has("ticks"):
+        blocks["ticks"] = ticks_text(results)
     if has("dearest"):
         blocks["dearest"] = dearest_text(results)
     if has("elsewhere") and results["elsewhere"]["rows"]:
