@@ -1,6 +1,6 @@
 # Which program ./jps runs, and how it is proved and built. Read by ./jps and tools/ship, with `top`, the checkout's
 # folder.
-# shellcheck shell=bash
+# shellcheck shell=bash disable=SC2154
 out=$top/crates/jps/out
 built=$out/jps
 # Beside the program: the sum of its sources, its own sum, and the kit's line.
