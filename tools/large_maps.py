@@ -28,15 +28,17 @@ class Runner:
     def __init__(self, program, folder):
         self.program, self.folder = program, folder
         self.lock, self.calls, self.over = threading.Lock(), set(), False
-        self.pool, self.cases = (concurrent.futures.ThreadPoolExecutor(min(4, os.cpu_count() or 1)) for _ in "12")
+        self.pool, self.cases = (
+            concurrent.futures.ThreadPoolExecutor(min(4, os.cpu_count() or 1)) for _ in "12"
+        )
 
     def shown(self, words, source=None):
         """The command as one would type it."""
         return shlex.join([self.program, *map(str, words)]) + (f" < {source}" if source else "")
 
     def start(self, *words, status=0, line=b"", source=None, target=None):
-        """What the program writes with these words, once it is asked for; its status and its error line have to be
-        these. It reads from the file `source` and writes to the file `target`, where they are named."""
+        """What the program writes with these words, once it is asked for; its status and its error line have
+        to be these. It reads from the file `source` and writes to the file `target`, where they are named."""
         return self.pool.submit(self.run, words, (status, line), source, target)
 
     def run(self, words, wanted, source, target):
@@ -44,7 +46,11 @@ class Runner:
             with self.lock:
                 if self.over:
                     return b""
-                pipes = {"stdin": given, "stdout": taken if target else subprocess.PIPE, "stderr": subprocess.PIPE}
+                pipes = {
+                    "stdin": given,
+                    "stdout": taken if target else subprocess.PIPE,
+                    "stderr": subprocess.PIPE,
+                }
                 call = subprocess.Popen([self.program, *map(str, words)], **pipes)
                 self.calls.add(call)
             out, err = call.communicate()
@@ -112,7 +118,7 @@ class Map:
         return self
 
 
-# --- the maps ---------------------------------------------------------------------------------------------------------
+# --- the maps -----------------------------------------------------------------------------------------------
 
 
 def words_of(seed):
@@ -147,7 +153,8 @@ def made_rows(runner, seed, width, height, percent):
 
 
 def striped_rows(width, height):
-    """Walls of trees in each eighth row, each with a door of swamp; the lower third is water, its walls rock."""
+    """Walls of trees in each eighth row, each with a door of swamp; the lower third is water, its walls
+    rock."""
     rows = []
     for y in range(height):
         ground, wall, door = (b"W", b"O", b"W") if 3 * y >= 2 * height else (b".", b"T", b"S")
@@ -177,8 +184,8 @@ def close_room(rows, left, top, side):
 def random_map(runner, width, height, reach, percent=10):
     """A made map with water at its right end and a closed room; searches go as far as `reach`, in both ways.
 
-    Where more walls stand engines that jump stop at each step, which takes long on large maps, and narrow ones fall
-    into parts.
+    Where more walls stand engines that jump stop at each step, which takes long on large maps, and narrow
+    ones fall into parts.
     """
     rows = made_rows(runner, 7, width, height, percent)
     wet = width - width // 4
@@ -261,7 +268,7 @@ def sized_maps(runner):
         yield it, whole
 
 
-# --- what is looked at by this script alone ---------------------------------------------------------------------------
+# --- what is looked at by this script alone -----------------------------------------------------------------
 
 
 def is_legal(grid, layer, rule, x, y, to_x, to_y):
@@ -296,7 +303,8 @@ def read_points(words):
 
 
 def fault_of_query(grid, rule, ends, line):
-    """What is wrong with the line of a query, or None; that a walk is least or that there is none is not seen here."""
+    """What is wrong with the line of a query, or None; that a walk is least or that there is none is not seen
+    here."""
     (sx, sy), (gx, gy) = ends[:2], ends[2:]
     if not all(x < len(grid[0]) and y < len(grid) for x, y in ((sx, sy), (gx, gy))):
         return None if line == b"outside" else "outside is not told"
@@ -354,7 +362,9 @@ def repeated_cell(text):
 
 def bare(text):
     """The answers without points and states: what all engines have to say alike."""
-    return [b" ".join(line.split(b" ", 3)[:3]) if line[:5] == b"walk " else line[:7] for line in text.split(b"\n")]
+    return [
+        b" ".join(line.split(b" ", 3)[:3]) if line[:5] == b"walk " else line[:7] for line in text.split(b"\n")
+    ]
 
 
 def octile(ends):
@@ -364,7 +374,8 @@ def octile(ends):
 
 
 def problems_on_shore(it, wet, seed, number):
-    """The entries of a map of free cells whose first rows are water, as the generator says; and their costs."""
+    """The entries of a map of free cells whose first rows are water, as the generator says; and their
+    costs."""
     draw, kept = words_of(seed ^ 2), []
     while len(kept) < number:
         (sy, sx), (gy, gx) = (divmod(next(draw) % (it.width * it.height), it.width) for _ in "sg")
@@ -404,13 +415,14 @@ def strokes_of(it, kinds):
     return b"".join(b"M%d %dh%d" % (run.start(), y, run.end() - run.start()) for y, run in every)
 
 
-# --- calls by each engine ---------------------------------------------------------------------------------------------
+# --- calls by each engine -----------------------------------------------------------------------------------
 
 
 def engines(has_states):
     """The words of each engine, by the rule of states under which all have one trace; plain has its own.
 
-    Where the help has `states=`, block names the one that holds without a word, so both spellings are compared.
+    Where the help has `states=`, block names the one that holds without a word, so both spellings are
+    compared.
     """
     first = {engine: [f"engine={engine}"] for engine in JUMPING}
     if has_states:
