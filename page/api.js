@@ -1,5 +1,5 @@
-// What the page asks of the program. There are two forms of it, and nothing else of the page knows which one it has:
-// asked.js asks a server, inside.js a worker with the program's module.
+// What the page asks of the program. There are two forms of it, and nothing else of the page knows which one
+// it has: asked.js asks a server, inside.js a worker with the program's module.
 
 export { Fault } from "./fault.js";
 

@@ -1,4 +1,5 @@
-// Pictures with one pixel for each cell, and smaller copies of them, so that a whole large map is drawn at once.
+// Pictures with one pixel for each cell, and smaller copies of them, so that a whole large map is drawn at
+// once.
 
 import { palette } from "./palette.js";
 
@@ -59,7 +60,8 @@ export class Bitmap {
       [x, y, w, h] = [left, top, right - left, bottom - top];
       to.clearRect(x, y, w, h);
       to.imageSmoothingEnabled = !this.covers;
-      // Without smoothing a pixel is taken from one of the four, and each of them in turn from a place moved by one.
+      // Without smoothing a pixel is taken from one of the four, and each of them in turn from a place moved
+      // by one.
       for (const [dx, dy] of this.covers ? [[-1, -1], [0, -1], [-1, 0], [0, 0]] : [[0, 0]]) {
         to.drawImage(from, 2 * x + dx, 2 * y + dy, 2 * w, 2 * h, x, y, w, h);
       }

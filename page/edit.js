@@ -1,4 +1,5 @@
-// Paints walls, land and water. Every cell of a stroke goes to `jps live` as an edit; what it answers is counted.
+// Paints walls, land and water. Every cell of a stroke goes to `jps live` as an edit; what it answers is
+// counted.
 
 import * as api from "./api.js";
 import { byId, commandLine, copy, during, element, faultWords, firstMapWord, on, saveAs, settings, showBanner, state, tell } from "./app.js";

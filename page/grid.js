@@ -1,4 +1,5 @@
-// Maps as bytes: what is read here is only what the page draws. What is wrong with a map the program alone says.
+// Maps as bytes: what is read here is only what the page draws. What is wrong with a map the program alone
+// says.
 
 const MOST_SIDE = 4096;
 const GROUNDS = new Set([..." .GS@OTW".slice(1)].map((it) => it.charCodeAt(0)));

@@ -1,5 +1,5 @@
-// The page without a server: the program's module is asked in workers, and the files are in memory. The one of two
-// forms that api.js takes on a site.
+// The page without a server: the program's module is asked in workers, and the files are in memory. The one
+// of two forms that api.js takes on a site.
 
 import { Fault } from "./fault.js";
 import { editMap, mapText, readMap } from "./grid.js";

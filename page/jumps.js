@@ -1,5 +1,5 @@
-// Moves, pruning and jumps by their definitions (docs/RULES.md): for what the page counts and explains. No path is
-// found by it: it reads the states that the program took.
+// Moves, pruning and jumps by their definitions (docs/RULES.md): for what the page counts and explains. No
+// path is found by it: it reads the states that the program took.
 
 import { DIRECTIONS } from "./lines.js";
 

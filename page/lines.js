@@ -1,4 +1,5 @@
-// Reads the lines that the program prints, and the files that it is given. Nothing is reckoned here but decimals.
+// Reads the lines that the program prints, and the files that it is given. Nothing is reckoned here but
+// decimals.
 
 export const DIRECTIONS = ["N", "NE", "E", "SE", "S", "SW", "W", "NW"];
 const text = new TextDecoder();

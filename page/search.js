@@ -1,5 +1,5 @@
-// The taken states: in their order, with a slider and a player, of one engine or of four ways side by side; and the
-// jumps between them, with what they looked at.
+// The taken states: in their order, with a slider and a player, of one engine or of four ways side by side;
+// and the jumps between them, with what they looked at.
 
 import * as api from "./api.js";
 import { byId, during, element, faultWords, on, showBanner, state, tell } from "./app.js";

@@ -1,4 +1,5 @@
-// The taken states as a picture: each cell in the colour of the first state of it, up to a number that can be moved.
+// The taken states as a picture: each cell in the colour of the first state of it, up to a number that can be
+// moved.
 
 import { Bitmap, ramp } from "./bitmap.js";
 import { palette, stateRamp } from "./palette.js";

@@ -1,4 +1,5 @@
-// What another program told of a scenario, judged: a refused walk is drawn beside a least one, with the point that is wrong.
+// What another program told of a scenario, judged: a refused walk is drawn beside a least one, with the point
+// that is wrong.
 
 import * as api from "./api.js";
 import { byId, commandLine, copy, during, element, faultWords, mapWord, on, scenWord, state } from "./app.js";

@@ -1,18 +1,21 @@
 #!/usr/bin/env python3
-"""Proves the crates below a program side by side, each once those that it uses are done, and then builds the program.
+"""Proves the crates below a program side by side, each once those that it uses are done, and then builds the
+program.
 
     tools/build.py PROGRAM LOG LANES [--keep]
 
-Each crate is proved by the compiler with the words that rt gives it for a verdict: a library is kept as its statements
-alone, and not its proofs, so that the crates above it have little to read. What is kept lies in the program's folder
-`out/libs`, with a sum of all that it was made from beside it; what has not changed since is not proved again.
+Each crate is proved by the compiler with the words that rt gives it for a verdict: a library is kept as its
+statements alone, and not its proofs, so that the crates above it have little to read. What is kept lies in
+the program's folder `out/libs`, with a sum of all that it was made from beside it; what has not changed since
+is not proved again.
 
-With --keep rt proves each crate below the program, and keeps its proofs in the crate's folder `out`, so that after a
-change rt check proves what changed alone. This is for who works on the crates; the program is left to rt run.
+With --keep rt proves each crate below the program, and keeps its proofs in the crate's folder `out`, so that
+after a change rt check proves what changed alone. This is for who works on the crates; the program is left to
+rt run.
 
-With more than two processors, the crate with the longest chain of others behind it comes first: it waits for no lane,
-gives way to none, and gets the processors that are free. The others get one each while all processors are busy, since
-several jobs of one check take more time in all.
+With more than two processors, the crate with the longest chain of others behind it comes first: it waits for
+no lane, gives way to none, and gets the processors that are free. The others get one each while all
+processors are busy, since several jobs of one check take more time in all.
 """
 import contextlib
 import hashlib
@@ -30,7 +33,8 @@ TOP = os.path.dirname(os.path.dirname(os.path.abspath(__file__)))
 # `tools/first-answer --store`.
 SECONDS = f"{TOP}/tools/check_seconds.txt"
 
-# What a check takes whatever stands in the crate, and for each line of its code, where the file has no line for it.
+# What a check takes whatever stands in the crate, and for each line of its code, where the file has no line
+# for it.
 SECONDS_OF_ANY, SECONDS_OF_LINE = 15, 0.15
 
 # A check gains little by more jobs than this.
@@ -88,7 +92,8 @@ def times_of(name):
 
 
 def into_group(pid):
-    """The words by which Popen puts a new process into the group of this one (0: one of its own) before all else."""
+    """The words by which Popen puts a new process into the group of this one (0: one of its own) before all
+    else."""
     if sys.version_info >= (3, 11):
         return {"process_group": pid}
     return {"preexec_fn": lambda: os.setpgid(0, pid)}
@@ -291,7 +296,8 @@ class Build:
         return max(chain, work / self.lanes, 0)
 
     def tell(self):
-        """Tells on standard error how far it is: on a terminal over the line before, elsewhere each half a minute."""
+        """Tells on standard error how far it is: on a terminal over the line before, elsewhere each half a
+        minute."""
         is_terminal = is_on_terminal()
         now = time.monotonic()
         if not is_terminal and now < self.said + 30:
@@ -303,12 +309,15 @@ class Build:
         write(f"{begin}jps: {len(self.done)} of {len(self.names)} crates proved, {left}{end}")
 
     def start(self):
-        """Starts what can be started: one crate a lane, and the one with the longest chain behind it at once."""
+        """Starts what can be started: one crate a lane, and the one with the longest chain behind it at
+        once."""
         ready = [it for it in self.waiting if self.done.issuperset(self.uses[it])]
         ready.sort(key=lambda it: -self.chain[it])
         for at, name in enumerate(ready):
             # (With two processors no check runs beside those that have one.)
-            is_first = self.lanes > 2 and all(self.chain[it] <= self.chain[name] for it in [*self.running, *ready])
+            is_first = self.lanes > 2 and all(
+                self.chain[it] <= self.chain[name] for it in [*self.running, *ready]
+            )
             if len(self.running) >= self.lanes and not is_first:
                 break
             free, others = self.lanes - sum(it[0] for it in self.running.values()), len(ready[at + 1 :])
@@ -370,8 +379,8 @@ def link_crate(crate, to, with_rlib):
 class KeptBuild(Build):
     """The same by rt lib, which keeps all that a later check needs, for the crates below the program.
 
-    rt takes the folders of a crate and of all below it for itself. So each is proved in a tree of links to what it
-    needs, and what rt keeps of it (`out`) is then put beside the crate's sources.
+    rt takes the folders of a crate and of all below it for itself. So each is proved in a tree of links to
+    what it needs, and what rt keeps of it (`out`) is then put beside the crate's sources.
     """
 
     def __init__(self, program, log, lanes):

@@ -1,7 +1,9 @@
-"""The pages of this repository, and what is wrong with their links: for tools/check-docs and tools/check-readme.
+"""The pages of this repository, and what is wrong with their links: for tools/check-docs and
+tools/check-readme.
 
-A link to a file has to lead to one, with a `#` to a heading of it, and from an installed page to what is installed
-with it (tools/packed-docs); of a link that leads out only the form is looked at. Where a link's text is code, as [`word`](FILE), the file has to have the word.
+A link to a file has to lead to one, with a `#` to a heading of it, and from an installed page to what is
+installed with it (tools/packed-docs); of a link that leads out only the form is looked at. Where a link's
+text is code, as [`word`](FILE), the file has to have the word.
 """
 
 import functools
@@ -12,7 +14,15 @@ import subprocess
 TOP = pathlib.Path(__file__).resolve().parent.parent
 AT_THE_TOP = ("README.md", "CONTRIBUTING.md", "CHANGELOG.md")
 WRITTEN = ("bench/results", "bench/.cache")  # by bench/run
-BELOW = ("docs/*.md", "examples/README.md", "examples/*/README.md", "crates/*/README.md", "bench/*.md", "page/README.md", "edge/README.md")
+BELOW = (
+    "docs/*.md",
+    "examples/README.md",
+    "examples/*/README.md",
+    "crates/*/README.md",
+    "bench/*.md",
+    "page/README.md",
+    "edge/README.md",
+)
 
 
 def pages():

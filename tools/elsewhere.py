@@ -4,13 +4,14 @@
     tools/elsewhere.py FOLDER
     tools/elsewhere.py --sum    prints a sum of what is made into them beside the program's own sources
 
-FOLDER gets aarch64-linux/jps, x86_64-linux-static/jps, wasm64/jps.wasm with jps.mjs, and x86_64-windows/jps.exe, and
-the lines of dist/MANIFEST that tell of them (`lines`). The libraries are those that `./jps --prove` or `rt ci` left. That they are
-of the program that was proved is seen by its own crate, which is built over them anew: it has to be
-crates/jps/out/jps, byte by byte.
+FOLDER gets aarch64-linux/jps, x86_64-linux-static/jps, wasm64/jps.wasm with jps.mjs, and
+x86_64-windows/jps.exe, and the lines of dist/MANIFEST that tell of them (`lines`). The libraries are those
+that `./jps --prove` or `rt ci` left. That they are of the program that was proved is seen by its own crate,
+which is built over them anew: it has to be crates/jps/out/jps, byte by byte.
 
-The kit compiles the ARM program as it compiles that one. For WebAssembly and Windows its clang is given the LLVM module
-that the proved build makes, with the kit's own flags but for those of the processor; a script in its place keeps them.
+The kit compiles the ARM program as it compiles that one. For WebAssembly and Windows its clang is given the
+LLVM module that the proved build makes, with the kit's own flags but for those of the processor; a script in
+its place keeps them.
 """
 import concurrent.futures
 import filecmp
@@ -75,7 +76,9 @@ def build_tool():
 
 def call(words, folder=TOP):
     """Runs a command, and gives what it told; where it fails, ends with that."""
-    ran = subprocess.run(words, cwd=folder, stdout=subprocess.PIPE, stderr=subprocess.STDOUT, text=True, check=False)
+    ran = subprocess.run(
+        words, cwd=folder, stdout=subprocess.PIPE, stderr=subprocess.STDOUT, text=True, check=False
+    )
     if ran.returncode:
         sys.exit(f"{ran.stdout}elsewhere: failed: {shlex.join(words)}")
     return ran.stdout
@@ -101,7 +104,8 @@ def sections_of(module):
 
 
 def drop_table(path):
-    """Takes out the linker's table of functions: none is called by it, and Node 20 refuses one for 64 bits."""
+    """Takes out the linker's table of functions: none is called by it, and Node 20 refuses one for 64
+    bits."""
     with open(path, "rb") as file:
         module = file.read()
     found = list(sections_of(module))
@@ -175,7 +179,15 @@ class Maker:
         """Linux on ARM, with the C library in it. Gives the verdict's line."""
         target = ["--target", "aarch64-unknown-linux-gnu", "--toolchain", f"{self.kit}/toolchain"]
         verdict = self.crate("jps", "arm.o", *target)
-        words = ["aarch64-linux-gnu-gcc-12", "-static", "-s", "-O2", "-Wall", "-Werror", "-Wl,--build-id=none"]
+        words = [
+            "aarch64-linux-gnu-gcc-12",
+            "-static",
+            "-s",
+            "-O2",
+            "-Wall",
+            "-Werror",
+            "-Wl,--build-id=none",
+        ]
         call([*words, "-o", to, f"{self.room}/arm.o", f"{TOP}/edge/linux.c"])
         return verdict
 
@@ -186,7 +198,18 @@ class Maker:
         verdict = self.crate("page_calls", "page.a", *kind)
         words = [self.clang, "--target=wasm64-unknown-unknown", "-O3", "-msimd128", "-mbulk-memory", "-c"]
         tell = ["-Wall", "-Werror", "-Wno-override-module", "-ffreestanding", "-fno-ident"]
-        call([*words, *self.flags("page"), "-Wno-override-module", "-x", "ir", f"{room}/page.bc", "-o", f"{room}/page.o"])
+        call(
+            [
+                *words,
+                *self.flags("page"),
+                "-Wno-override-module",
+                "-x",
+                "ir",
+                f"{room}/page.bc",
+                "-o",
+                f"{room}/page.o",
+            ]
+        )
         call([*words, *tell, f"{TOP}/edge/wasm.c", "-o", f"{room}/heap.o"])
         os.symlink(f"{self.kit}/toolchain/bin/ld.lld", f"{room}/wasm-ld")
         links = [f"{room}/wasm-ld", "-mwasm64", "--no-entry", "--gc-sections", "--strip-all", "--stack-first"]
@@ -198,10 +221,21 @@ class Maker:
     def windows(self, to):
         """Windows on x86-64."""
         room = self.room
-        words = [self.clang, "--target=x86_64-w64-windows-gnu", "-march=x86-64-v2", "-O3", "-Wno-override-module", "-c", "-x", "ir"]
+        words = [
+            self.clang,
+            "--target=x86_64-w64-windows-gnu",
+            "-march=x86-64-v2",
+            "-O3",
+            "-Wno-override-module",
+            "-c",
+            "-x",
+            "ir",
+        ]
         call([*words, *self.flags("program"), f"{room}/program.bc", "-o", f"{room}/windows.o"])
         call([*words, f"{TOP}/edge/windows.ll", "-o", f"{room}/alloc.o"])
-        turns = [f"--redefine-sym={it}=jps_{it}" for it in TURNED] + ["--redefine-sym=inline-asm=___chkstk_ms"]
+        turns = [f"--redefine-sym={it}=jps_{it}" for it in TURNED] + [
+            "--redefine-sym=inline-asm=___chkstk_ms"
+        ]
         call(["x86_64-w64-mingw32-objcopy", *turns, f"{room}/windows.o"])
         links = ["x86_64-w64-mingw32-gcc-win32", "-O2", "-Wall", "-Wextra", "-Werror", "-s", "-static"]
         links += ["-Wl,--no-insert-timestamp", "-Wl,--stack,8388608", "-o", to]

@@ -1,8 +1,10 @@
-"""A runner of a built program, large maps, and what is right of their answers: for tools/check-large."""
+"""A runner of a built program, calls by each engine, large maps, and what is right of their answers: for
+tools/check-large."""
 
 import concurrent.futures
+import math
 import os
-import pathlib
+import re
 import shlex
 import subprocess
 import threading
@@ -11,6 +13,8 @@ BIG = (4096, 4096)
 SIZES = [(512, 512), (1024, 768), (17, 4096), (4096, 17)]
 GROUNDS = bytes.maketrans(b".GSW@OT", b"\x01\x01\x01\x02\x00\x00\x00")
 LAND, WATER = 1, 2
+RULES = ["none", "one", "both"]
+JUMPING = ["jps", "block", "plus"]
 EDITS = {"block": 0, "free": LAND, "flood": WATER}
 
 
@@ -24,15 +28,17 @@ class Runner:
     def __init__(self, program, folder):
         self.program, self.folder = program, folder
         self.lock, self.calls, self.over = threading.Lock(), set(), False
-        self.pool, self.cases = (concurrent.futures.ThreadPoolExecutor(min(4, os.cpu_count() or 1)) for _ in "12")
+        self.pool, self.cases = (
+            concurrent.futures.ThreadPoolExecutor(min(4, os.cpu_count() or 1)) for _ in "12"
+        )
 
     def shown(self, words, source=None):
         """The command as one would type it."""
         return shlex.join([self.program, *map(str, words)]) + (f" < {source}" if source else "")
 
     def start(self, *words, status=0, line=b"", source=None, target=None):
-        """What the program writes with these words, once it is asked for; its status and its error line have to be
-        these. It reads from the file `source` and writes to the file `target`, where they are named."""
+        """What the program writes with these words, once it is asked for; its status and its error line have
+        to be these. It reads from the file `source` and writes to the file `target`, where they are named."""
         return self.pool.submit(self.run, words, (status, line), source, target)
 
     def run(self, words, wanted, source, target):
@@ -40,7 +46,11 @@ class Runner:
             with self.lock:
                 if self.over:
                     return b""
-                pipes = {"stdin": given, "stdout": taken if target else subprocess.PIPE, "stderr": subprocess.PIPE}
+                pipes = {
+                    "stdin": given,
+                    "stdout": taken if target else subprocess.PIPE,
+                    "stderr": subprocess.PIPE,
+                }
                 call = subprocess.Popen([self.program, *map(str, words)], **pipes)
                 self.calls.add(call)
             out, err = call.communicate()
@@ -108,7 +118,7 @@ class Map:
         return self
 
 
-# --- the maps ---------------------------------------------------------------------------------------------------------
+# --- the maps -----------------------------------------------------------------------------------------------
 
 
 def words_of(seed):
@@ -143,7 +153,8 @@ def made_rows(runner, seed, width, height, percent):
 
 
 def striped_rows(width, height):
-    """Walls of trees in each eighth row, each with a door of swamp; the lower third is water, its walls rock."""
+    """Walls of trees in each eighth row, each with a door of swamp; the lower third is water, its walls
+    rock."""
     rows = []
     for y in range(height):
         ground, wall, door = (b"W", b"O", b"W") if 3 * y >= 2 * height else (b".", b"T", b"S")
@@ -173,8 +184,8 @@ def close_room(rows, left, top, side):
 def random_map(runner, width, height, reach, percent=10):
     """A made map with water at its right end and a closed room; searches go as far as `reach`, in both ways.
 
-    Where more walls stand engines that jump stop at each step, which takes long on large maps, and narrow ones fall
-    into parts.
+    Where more walls stand engines that jump stop at each step, which takes long on large maps, and narrow
+    ones fall into parts.
     """
     rows = made_rows(runner, 7, width, height, percent)
     wet = width - width // 4
@@ -249,7 +260,15 @@ def maps_of(runner):
         yield comb_map(runner, width, height)
 
 
-# --- what is looked at by this script alone ---------------------------------------------------------------------------
+def sized_maps(runner):
+    """The map of each size on which single commands are tried, and whether all its cells may be searched."""
+    for width, height in [*SIZES, BIG]:
+        whole = (width, height) != BIG
+        it = random_map(runner, width, height, max(width, height) if whole else 700)
+        yield it, whole
+
+
+# --- what is looked at by this script alone -----------------------------------------------------------------
 
 
 def is_legal(grid, layer, rule, x, y, to_x, to_y):
@@ -284,7 +303,8 @@ def read_points(words):
 
 
 def fault_of_query(grid, rule, ends, line):
-    """What is wrong with the line of a query, or None; that a walk is least or that there is none is not seen here."""
+    """What is wrong with the line of a query, or None; that a walk is least or that there is none is not seen
+    here."""
     (sx, sy), (gx, gy) = ends[:2], ends[2:]
     if not all(x < len(grid[0]) and y < len(grid) for x, y in ((sx, sy), (gx, gy))):
         return None if line == b"outside" else "outside is not told"
@@ -342,4 +362,106 @@ def repeated_cell(text):
 
 def bare(text):
     """The answers without points and states: what all engines have to say alike."""
-    return [b" ".join(line.split(b" ", 3)[:3]) if line[:5] == b"walk " else line[:7] for line in text.split(b"\n")]
+    return [
+        b" ".join(line.split(b" ", 3)[:3]) if line[:5] == b"walk " else line[:7] for line in text.split(b"\n")
+    ]
+
+
+def octile(ends):
+    """The cost of a least walk over open ground."""
+    dx, dy = abs(ends[0] - ends[2]), abs(ends[1] - ends[3])
+    return abs(dx - dy), min(dx, dy)
+
+
+def problems_on_shore(it, wet, seed, number):
+    """The entries of a map of free cells whose first rows are water, as the generator says; and their
+    costs."""
+    draw, kept = words_of(seed ^ 2), []
+    while len(kept) < number:
+        (sy, sx), (gy, gx) = (divmod(next(draw) % (it.width * it.height), it.width) for _ in "sg")
+        if (sx, sy) != (gx, gy) and (sy < wet) == (gy < wet):
+            kept.append((sx, sy, gx, gy))
+    kept.sort(key=lambda ends: octile(ends)[0] + octile(ends)[1] * math.sqrt(2))
+    lines = []
+    for ends in kept:
+        length = octile(ends)[0] + octile(ends)[1] * math.sqrt(2)
+        fields = [int(length / 4), it.path.name, it.width, it.height, *ends, f"{length:.8f}"]
+        lines.append("\t".join(map(str, fields)).encode() + b"\n")
+    return lines, kept
+
+
+def walks_of(text):
+    """The answers of queries as lines of a walks file."""
+    told = [line if line == b"none" else line.split(b" ", 3)[3] for line in text.splitlines()]
+    return b"\n".join(told) + b"\n"
+
+
+def own_walk(start, goal):
+    """All cells of a least walk over open land, its straight moves first, as no engine prints it."""
+    (x, y), (gx, gy) = start, goal
+    cells = [start]
+    while (x, y) != goal:
+        dx, dy = abs(gx - x), abs(gy - y)
+        x += (gx > x) - (gx < x) if dx >= dy else 0
+        y += (gy > y) - (gy < y) if dy >= dx else 0
+        cells.append((x, y))
+    return cells
+
+
+def strokes_of(it, kinds):
+    """The longest runs of these bytes, as a picture has them."""
+    runs = re.compile(b"[" + kinds + b"]+")
+    every = ((y, run) for y, row in enumerate(it.rows) for run in runs.finditer(row))
+    return b"".join(b"M%d %dh%d" % (run.start(), y, run.end() - run.start()) for y, run in every)
+
+
+# --- calls by each engine -----------------------------------------------------------------------------------
+
+
+def engines(has_states):
+    """The words of each engine, by the rule of states under which all have one trace; plain has its own.
+
+    Where the help has `states=`, block names the one that holds without a word, so both spellings are
+    compared.
+    """
+    first = {engine: [f"engine={engine}"] for engine in JUMPING}
+    if has_states:
+        first["block"].append("states=arrival")
+    told = {"plain": [["engine=plain"]], "arrival": list(first.values())}
+    if has_states:
+        told["cell"] = [[f"engine={engine}", "states=cell"] for engine in JUMPING]
+    return told
+
+
+def compare_engines(runner, it, rule, calls):
+    """Compares the answers of each engine to a map's commands; the number of lines looked at."""
+    first, looked = None, 0
+    for family, group in calls.items():
+        texts = [(words, call.result()) for words, call in group]
+        for words, text in texts:
+            runner.need(text == texts[0][1], "other points or states than `jps`", words)
+        words, text = texts[0]
+        fault = fault_of_answers(it, rule, text)
+        runner.need(fault is None, fault, words)
+        first = first or bare(text)
+        for told, wanted in zip(bare(text), first):
+            runner.need(told == wanted, f"`{told.decode()}` where plain has `{wanted.decode()}`", words)
+        twice = repeated_cell(text) if family != "arrival" else None
+        runner.need(not twice, f"the cell {twice} is taken twice", words)
+        looked += len(first) - 1
+    return looked
+
+
+def calls_by_engine(runner, has_states, words, rule):
+    """The calls of a command by each engine, in families that print the same."""
+    calls = {}
+    for family, group in engines(has_states).items():
+        whole = [[*words, *picked, f"rule={rule}"] for picked in group]
+        calls[family] = [(line, runner.start(*line)) for line in whole]
+    return calls
+
+
+def quick_engines(has_states):
+    """Those that answer at once where much land is open: not `jps`, which looks at each cell."""
+    every = engines(has_states)
+    return {family: [words for words in group if words[0] != "engine=jps"] for family, group in every.items()}

@@ -5,10 +5,10 @@
 
 writes them below FOLDER, each at its usual place, for a program that is called NAME and whose docs will stand
 in the folder DOCS. Commands with their words and settings, statuses and faults are the rows of `--help`; the
-words beside those of the field, the form of a map with its example, and the codes of faults stand in docs/RULES.md and
-docs/FORMATS.md. What those leave open is asked of the program, which refuses words that it does not know with status 2:
-whether a word is a file's name or a number, and which values a setting such as `engine=ENGINE` has. So is what the
-example prints.
+words beside those of the field, the form of a map with its example, and the codes of faults stand in
+docs/RULES.md and docs/FORMATS.md. What those leave open is asked of the program, which refuses words that it
+does not know with status 2: whether a word is a file's name or a number, and which values a setting such as
+`engine=ENGINE` has. So is what the example prints.
 """
 
 import concurrent.futures
@@ -141,7 +141,10 @@ def map_lines():
     means = table(section("RULES.md", "Map and grids"), "| Byte | The format's meaning | Here |")
     return [
         *((f"line {number}" if number[0].isdigit() else number, fields) for number, fields in form),
-        *((byte.replace("`", ""), here if meaning == "none" else f"{here} ({meaning})") for byte, meaning, here in means),
+        *(
+            (byte.replace("`", ""), here if meaning == "none" else f"{here} ({meaning})")
+            for byte, meaning, here in means
+        ),
     ]
 
 
@@ -155,7 +158,12 @@ def codes():
     head = "| Fault | Where |"
     found = re.findall(r"^## (.*)\n", (DOCS / "FORMATS.md").read_text(), re.M)
     texts = [(it, section("FORMATS.md", it)) for it in found]
-    return [(code, f"{name}: {where}") for name, text in texts if head in text for code, where in table(text, head)]
+    return [
+        (code, f"{name}: {where}")
+        for name, text in texts
+        if head in text
+        for code, where in table(text, head)
+    ]
 
 
 def man_page(told, version, name, docs, printed):

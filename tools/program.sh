@@ -1,6 +1,6 @@
-# Which program ./jps runs, and how it is proved and built. Read by ./jps and tools/ship, with `top`, the checkout's
-# folder.
-# shellcheck shell=bash
+# Which program ./jps runs, and how it is proved and built. Read by ./jps and tools/ship, with `top`, the
+# checkout's folder.
+# shellcheck shell=bash disable=SC2154
 out=$top/crates/jps/out
 built=$out/jps
 # Beside the program: the sum of its sources, its own sum, and the kit's line.
@@ -23,7 +23,8 @@ fail() {
     exit "$not_run"
 }
 
-# Reads what dist/MANIFEST says, by its words; the sums of the programs by their names. Returns whether there is one.
+# Reads what dist/MANIFEST says, by its words; the sums of the programs by their names. Returns whether there
+# is one.
 read_manifest() {
     local word value
     declare -gA told=() sums=()
@@ -55,7 +56,8 @@ newer_than_lock() {
         find -L -files0-from - -maxdepth 0 \( -type f -o -path '*/*/*' \) -cnewer .git/rt-ci.lock -print -quit 2>&1
 }
 
-# Whether `rt ci` built the program from the sources as they stand: it leaves no sum, but takes its lock first.
+# Whether `rt ci` built the program from the sources as they stand: it leaves no sum, but takes its lock
+# first.
 is_of_gate() {
     [ -f "$top/.git/rt-ci.lock" ] && [ "$built" -nt "$top/.git/rt-ci.lock" ] &&
         [ ! -e "$made" ] && [ ! -e "$log" ] && [ -z "$(newer_than_lock)" ]
@@ -80,7 +82,8 @@ names_here() {
     esac
 }
 
-# Whether a program in dist/ was made from these sources, for this system. If so it has to be whole, and to run here.
+# Whether a program in dist/ was made from these sources, for this system. If so it has to be whole, and to
+# run here.
 is_handed() {
     local name said=""
     read_manifest && [ "${told[sources]-}" = "$sources" ] || return 1
@@ -107,8 +110,8 @@ begin_look() {
     sleep 0.02
 }
 
-# Writes what this look found and what it looked at. Of the program in dist/ its folders are looked at too: another
-# one may be put in their place, with another program in it, that is older than this look.
+# Writes what this look found and what it looked at. Of the program in dist/ its folders are looked at too:
+# another one may be put in their place, with another program in it, that is older than this look.
 write_look() {
     local names=("${program#"$top"/}" "${made#"$top"/}")
     if [ "$program" = "$handed" ]; then names=("${handed#"$top"/}" dist/MANIFEST dist); fi
@@ -116,8 +119,9 @@ write_look() {
     printf '%s\0' "${names[@]}" && "$top/tools/sources" --list
 }
 
-# Keeps what was found, so that the next call need not look. Where that cannot be kept, as on a full disk, nothing is;
-# nor where files have times of whole seconds alone, as a change in the same second would not be seen.
+# Keeps what was found, so that the next call need not look. Where that cannot be kept, as on a full disk,
+# nothing is; nor where files have times of whole seconds alone, as a change in the same second would not be
+# seen.
 keep_look() {
     (
         trap '' XFSZ
@@ -175,9 +179,10 @@ await() {
     return "$status"
 }
 
-# Proves what is left and builds the program. Where rt keeps a developer's work beside the crate, rt does it, which
-# proves what changed alone, and leaves of the rest what it needs for the next change; else tools/build.py, which
-# keeps no proofs, and is quicker from nothing. Either ends with this command, also where that is killed.
+# Proves what is left and builds the program. Where rt keeps a developer's work beside the crate, rt does it,
+# which proves what changed alone, and leaves of the rest what it needs for the next change; else
+# tools/build.py, which keeps no proofs, and is quicker from nothing. Either ends with this command, also
+# where that is killed.
 prove_and_make() {
     local bound=()
     if setpriv --pdeathsig TERM true 2>/dev/null; then bound=(setpriv --pdeathsig TERM); fi
@@ -188,7 +193,8 @@ prove_and_make() {
     fi
 }
 
-# Keeps other calls from building at the same time: the second one waits. (Not crates/jps itself, which rt locks.)
+# Keeps other calls from building at the same time: the second one waits. (Not crates/jps itself, which rt
+# locks.)
 take_lock() {
     local status=0
     exec 9<"$top/crates/jps/src"
@@ -277,7 +283,8 @@ find_program() {
     case $(uname -sm) in
         "Linux x86_64" | "Linux aarch64") if look; then return; fi ;;
     esac
-    # Before the first build these two answer from the program's source; the gate compares that with the program.
+    # Before the first build these two answer from the program's source; the gate compares that with the
+    # program.
     case $#,${1-} in
         1,--help) answer_from help_text ;;
         1,--version) answer_from version_text ;;

@@ -1,5 +1,6 @@
-// HOG2 (https://github.com/nathansttt/hog2): its A* on a grid, for bench/contest. NOT RUN HERE: written from its public
-// interface; where your version has other names, change them here and nothing else. Its JPS class has the same GetPath.
+// HOG2 (https://github.com/nathansttt/hog2): its A* on a grid, for bench/contest. NOT RUN HERE: written from
+// its public interface; where your version has other names, change them here and nothing else. Its JPS class
+// has the same GetPath.
 //
 //     g++ -std=c++17 -O3 -march=native -DNO_OPENGL -I HOG2/... -o hog2 hog2.cpp LIBRARIES
 //     hog2 MAP SCEN

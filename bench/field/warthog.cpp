@@ -1,5 +1,5 @@
-// warthog (https://bitbucket.org/dharabor/pathfinding): its JPS, for bench/contest. NOT RUN HERE: written from its public
-// interface; where your version has other names, change them here and nothing else.
+// warthog (https://bitbucket.org/dharabor/pathfinding): its JPS, for bench/contest. NOT RUN HERE: written
+// from its public interface; where your version has other names, change them here and nothing else.
 //
 //     g++ -std=c++17 -O3 -march=native -DNDEBUG -I WARTHOG/src/... -o warthog warthog.cpp LIBWARTHOG.a
 //     warthog MAP SCEN

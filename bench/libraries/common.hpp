@@ -1,5 +1,5 @@
-// What the programs in C++ that ask a library have in common: the map with its legal moves (no corner is cut), the
-// scenario, and the line that tells the times.
+// What the programs in C++ that ask a library have in common: the map with its legal moves (no corner is
+// cut), the scenario, and the line that tells the times.
 #pragma once
 
 #include <algorithm>
@@ -79,9 +79,9 @@ static double octile(int columns, int rows) {
     return std::max(one, other) - less + less * SQRT2;
 }
 
-// Asks `length_of` for each query (the length found, below 0 where there is none). Prints a line of JSON; or, where
-// `timed` stands behind the names of the files, the walks as bench/contest reads them, each with its nanoseconds, in which
-// `path_of`, which puts the cells from start to goal, is counted too.
+// Asks `length_of` for each query (the length found, below 0 where there is none). Prints a line of JSON; or,
+// where `timed` stands behind the names of the files, the walks as bench/contest reads them, each with its
+// nanoseconds, in which `path_of`, which puts the cells from start to goal, is counted too.
 template <class F, class G>
 static void measure(double began, char **words, const Map &map, const std::vector<Query> &queries, F length_of, G path_of) {
     double prepared = now() - began, sum = 0;

@@ -9,10 +9,10 @@ import re
 import inputs
 import numbers_of as told
 import plots
+import programs
 import tick_phases
 
-ENGINES = ("plain", "jps", "block", "plus")
-JUMPS = ENGINES[1:]
+ENGINES, JUMPS = programs.ENGINES, programs.JUMPS
 MOST = 1.15                              # above this the part of the open list is told
 TEXTBOOK = "../bench/FIGURES.md#beside-the-textbook"
 
@@ -378,19 +378,6 @@ def asked_words(row):
     return "neighbours on an open map" if row["map"] == "neighbours" else name_of(row["map"])
 
 
-def pipe_text(results):
-    """The medians; the engines that jump with one state for each cell."""
-    rows = [row for row in results["pipe"] if row["states"] in ("", main_states(results["pipe"], row["engine"]))]
-    engines = list(dict.fromkeys(row["engine"] for row in rows))
-    lines = []
-    for name in maps_of(rows):
-        found = [find(rows, map=name, engine=engine) for engine in engines]
-        lines.append([asked_words(find(rows, map=name)), *(told.seconds(row["0.5"]) if row else "" for row in found)])
-    head = ["Questions", *("the pipe alone" if it == "cat" else f"`{it}`" for it in engines)]
-    words = "Medians over the questions by the clock, so below the means above; how late answers may be: [FIGURES](../bench/FIGURES.md#the-pipe-of-live)."
-    return ["## Answers through the pipe of `live`", words, told.table(head, lines)]
-
-
 def pipe_spread_text(results):
     lines = []
     for row in results["pipe"]:
@@ -398,7 +385,7 @@ def pipe_spread_text(results):
         who = "the pipe alone (`cat`)" if engine == "cat" else f"`{engine}`"
         lines.append([asked_words(row), who, row["questions"], *(told.seconds(row[it]) for it in ("0.5", "0.99", "0.999"))])
     head = ["Questions", "By", "How many", "median", "99 of 100 within", "999 of 1000 within"]
-    return [told.table(head, lines)]
+    return ["By the clock.", told.table(head, lines)]
 
 
 def by_size(results, part, write):
@@ -476,25 +463,13 @@ DEAR_WORDS = {
 QUICK_FOR_JUMPS = ("spiral", "open")     # these have room in bench/FIGURES.md alone
 
 
-def open_land_text(results):
-    """The medians; the engines that jump with one state for each cell."""
-    part = results["open_land"]
-    states = {engine: main_states(part["rows"], engine) for engine in ENGINES}
-    lines = []
-    for kind, words in KIND_WORDS.items():
-        found = [find(part["rows"], kind=kind, engine=engine, states=states[engine]) for engine in ENGINES]
-        lines.append([words, *(told.seconds(row["0.5"]) if row else "" for row in found)])
-    words = "The median by the clock, through `live`; more: [FIGURES](../bench/FIGURES.md#on-open-land)."
-    head = ["On {0} x {0} open cells".format(part["side"]), *(f"`{it}`" for it in ENGINES)]
-    return ["## On open land", words, told.table(head, lines)]
-
-
 def open_land_spread_text(results):
     lines = []
     for row in results["open_land"]["rows"]:
         values = (told.seconds(row[it]) for it in ("0.5", "0.99"))
         lines.append([KIND_WORDS[row["kind"]], f"`{engine_words(row)}`", row["questions"], *values])
-    return [told.table(["Question", "By", "How many", "median", "99 of 100 within"], lines)]
+    words = "On {0} x {0} open cells, through `live`, by the clock.".format(results["open_land"]["side"])
+    return [words, told.table(["Question", "By", "How many", "median", "99 of 100 within"], lines)]
 
 
 def tick_time(row):
@@ -746,10 +721,6 @@ def speed_blocks(results, pictures):
         blocks["libraries"] = libraries_text(results)
     if has("processes"):
         blocks["processes"] = processes_text(results)
-    if has("pipe"):
-        blocks["pipe"] = pipe_text(results)
-    if has("open_land"):
-        blocks["open_land"] = open_land_text(results)
     if has("ticks"):
         blocks["ticks"] = ticks_text(results)
     if has("dearest"):

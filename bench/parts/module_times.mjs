@@ -1,4 +1,5 @@
-// Times of the program as a WebAssembly module, for elsewhere.py. In a page it is imported; as a command it prints them:
+// Times of the program as a WebAssembly module, for elsewhere.py. In a page it is imported; as a command it
+// prints them:
 //
 //     node module_times.mjs JPS.MJS MAP WHOLE FIRST WORD..
 

@@ -5,9 +5,10 @@ import math
 
 import inputs
 import numbers_of as told
+import programs
 
 # The colours of the page (page/style.css), which people who see few colours tell apart (after Okabe and Ito).
-COLOURS = {"plain": "#d55e00", "jps": "#0072b2", "block": "#007a5a", "plus": "#b3508c"}
+COLOURS = dict(zip(programs.ENGINES, ("#d55e00", "#0072b2", "#007a5a", "#b3508c"), strict=True))
 INK, PALE = "#333", "#ddd"
 
 # In the picture of taken states one state for each cell has a colour of its own: its dots are too small to be rings.

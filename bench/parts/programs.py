@@ -12,7 +12,7 @@ BENCH = pathlib.Path(__file__).resolve().parent.parent
 TOP = BENCH.parent
 
 ENGINES = ("plain", "jps", "block", "plus")
-JUMPS = ("jps", "block", "plus")
+JUMPS = ENGINES[1:]
 OPTIONS = ["-std=c++17", "-O3", "-march=x86-64-v2"]
 
 # Each library: the Debian package that has it, how many entries it is asked, and the largest map that is tried.

@@ -9,20 +9,22 @@
 //   reference tables MAP [SETTINGS]                what `jps tables` prints
 //   reference scenario MAP COUNT SEED NAME         a scenario with exact lengths, spread over all lengths
 //
-// Settings: engine=plain|jps|block|plus, states=arrival|cell, rule=none|one|both, show=points|cells|trace|taken
-// as the program has them (docs/RULES.md, docs/FORMATS.md); open=heap|pairing: which open list the jump engines use;
-// and by=textbook: the searches of textbook.hpp. It trusts its inputs: what breaks a form ends it with a line, not with the program's own fault.
+// Settings: engine=plain|jps|block|plus, states=arrival|cell, rule=none|one|both,
+// show=points|cells|trace|taken as the program has them (docs/RULES.md, docs/FORMATS.md); open=heap|pairing:
+// which open list the jump engines use; and by=textbook: the searches of textbook.hpp. It trusts its inputs:
+// what breaks a form ends it with a line, not with the program's own fault.
 //
-// It is there to be compared with. So it chooses freely what is fast in C++: a heap with four children for each place, in
-// which a state may stand more than once, sums as doubles, an index by cell. (For `plain` buckets are faster, which
-// `by=textbook` has, but take equal sums in another order.) `open=pairing` is the kind
-// of open list that the program has (a pairing heap, in which a state stands once and is moved), so that the price
-// of that list can be told from the price of the language.
+// It is there to be compared with. So it chooses freely what is fast in C++: a heap with four children for
+// each place, in which a state may stand more than once, sums as doubles, an index by cell. (For `plain`
+// buckets are faster, which `by=textbook` has, but take equal sums in another order.) `open=pairing` is the
+// kind of open list that the program has (a pairing heap, in which a state stands once and is moved), so that
+// the price of that list can be told from the price of the language.
 //
-// Exactness. A sum is a pair (a, b) with the value a + b * sqrt 2, and is compared as the double a + b * SQRT2.
-// With both parts at most M the double is wrong by at most 5.25 * M * 2^-53, and two different pairs differ by at
-// least 1 / (2.4143 * M). So the doubles are in the order of the values, and equal ones are equal pairs, as long as
-// M <= 2^24. Each sum that enters the open list is looked at for that bound, and beyond it the program ends.
+// Exactness. A sum is a pair (a, b) with the value a + b * sqrt 2, and is compared as the double a + b *
+// SQRT2. With both parts at most M the double is wrong by at most 5.25 * M * 2^-53, and two different pairs
+// differ by at least 1 / (2.4143 * M). So the doubles are in the order of the values, and equal ones are
+// equal pairs, as long as M <= 2^24. Each sum that enters the open list is looked at for that bound, and
+// beyond it the program ends.
 
 #include <algorithm>
 #include <cstdint>
@@ -238,8 +240,9 @@ static std::string decimal_of(u32 straight, u32 diagonal) {
 
 // ---------------------------------------------------------------- a grid
 
-// Lines of bits, 1 for a free cell. Line `line` (from -1 to `lines`) has its cell `place` (from -1 to `length`) in bit
-// place + 1; what lies outside the map is 0. Bits are read by eight bytes at a time from any byte on.
+// Lines of bits, 1 for a free cell. Line `line` (from -1 to `lines`) has its cell `place` (from -1 to
+// `length`) in bit place + 1; what lies outside the map is 0. Bits are read by eight bytes at a time from any
+// byte on.
 struct Bits {
     size_t stride = 0;                                       // bytes from one line to the next
     std::vector<u64> memory;
@@ -321,7 +324,8 @@ INLINE u32 around(const Grid &grid, int x, int y) {
     return three(middle - grid.rows.stride) | three(middle) << 3 | three(middle + grid.rows.stride) << 6;
 }
 
-// ---------------------------------------------------------------- the corner rule, told by what lies around a cell
+// ---------------------------------------------------------------- the corner rule, told by what lies around
+// a cell
 
 // Sets of directions are bytes with bit d for direction d.
 static u8 LEGAL[512];                    // the legal moves
@@ -374,9 +378,9 @@ static void make_rule(Rule rule) {
 
 // ---------------------------------------------------------------- jumps
 
-// A straight run is told by one number: where it meets a mark, the number of moves to the first one; else the number
-// of moves of the whole run, below zero or zero. `with_goal` gives the first stop of it, 0 where there is none, for
-// a goal that lies `to_goal` moves ahead on its line, or not ahead where that is not above 0.
+// A straight run is told by one number: where it meets a mark, the number of moves to the first one; else the
+// number of moves of the whole run, below zero or zero. `with_goal` gives the first stop of it, 0 where there
+// is none, for a goal that lies `to_goal` moves ahead on its line, or not ahead where that is not above 0.
 INLINE int with_goal(int run, int to_goal) {
     if (to_goal > 0 && to_goal <= std::abs(run)) return to_goal;
     return run > 0 ? run : 0;
@@ -389,8 +393,9 @@ INLINE int moves_to_goal(int d, int x, int y, int goal_x, int goal_y) {
     default: return goal_y == y ? x - goal_x : 0;
     }
 }
-// A diagonal jump meets the goal's row and column once each, first at the lesser of the two distances. Is the goal on
-// the run of a component there? `rest` is the distance in columns less that in rows, from where the jump began.
+// A diagonal jump meets the goal's row and column once each, first at the lesser of the two distances. Is the
+// goal on the run of a component there? `rest` is the distance in columns less that in rows, from where the
+// jump began.
 INLINE bool is_in_sight(int rest, int along_row, int along_column) {
     return rest >= 0 ? rest <= -along_row : -rest <= -along_column;
 }
@@ -450,9 +455,9 @@ template <Rule RULE> struct BlockJumps {
     const Grid &grid;
     explicit BlockJumps(const Grid &on) : grid(on) {}
 
-    // The cells at which a run has to stop: blocked ones, and marked ones. `behind` of a word has each cell's bit
-    // where the bit of the cell before it on the run was, `beyond` that of the next one. `seen` has a bit for each
-    // cell of which all that is asked is in the words.
+    // The cells at which a run has to stop: blocked ones, and marked ones. `behind` of a word has each cell's
+    // bit where the bit of the cell before it on the run was, `beyond` that of the next one. `seen` has a bit
+    // for each cell of which all that is asked is in the words.
     template <class F, class G>
     static INLINE u64 stops(u64 middle, u64 left, u64 right, u64 seen, F behind, G beyond) {
         u64 marks;
@@ -463,9 +468,9 @@ template <Rule RULE> struct BlockJumps {
         }
         return (~middle | marks) & seen;
     }
-    // The stops in the window of 64 cells from one cell on, that one left out, and the cells of the line there. `told`
-    // is how many cells further on the window tells of. The next one begins with the last of them, at which it looks
-    // back.
+    // The stops in the window of 64 cells from one cell on, that one left out, and the cells of the line
+    // there. `told` is how many cells further on the window tells of. The next one begins with the last of
+    // them, at which it looks back.
     static INLINE u64 window_ahead(const Bits &bits, int line, int bit, u64 &middle, int &told) {
         const u8 *at = bits.line(line) + (bit >> 3);
         int shift = bit & 7;
@@ -548,7 +553,8 @@ template <Rule RULE> struct BlockJumps {
     INLINE void prefetch(u32) const {}
 };
 
-// The tables of JPS+: for each cell and direction how far the next mark is, or else minus how long the run is.
+// The tables of JPS+: for each cell and direction how far the next mark is, or else minus how long the run
+// is.
 struct Tables {
     const Grid &grid;
     Zeroed<i16> entries;
@@ -600,9 +606,9 @@ struct PlusJumps {
 
 // ---------------------------------------------------------------- open lists
 
-// What both open lists offer: `clear`, `add` of a node with its sum and its state, `lower` of one that has a lesser sum
-// now, `pop` of the first node by sum and then by state (NIL where none is left), which may come once more after it
-// was lowered, and `next`, a guess of what comes next.
+// What both open lists offer: `clear`, `add` of a node with its sum and its state, `lower` of one that has a
+// lesser sum now, `pop` of the first node by sum and then by state (NIL where none is left), which may come
+// once more after it was lowered, and `next`, a guess of what comes next.
 INLINE u64 bits_of(double sum) {         // the doubles here are not negative, so their bits are in their order
     u64 bits;
     memcpy(&bits, &sum, 8);
@@ -671,7 +677,8 @@ struct FourHeap {
     INLINE const Item *next() const { return items.data(); }
 };
 
-// A pairing heap over the nodes (Fredman, Sedgewick, Sleator and Tarjan 1986). A lowered node is cut and joined anew.
+// A pairing heap over the nodes (Fredman, Sedgewick, Sleator and Tarjan 1986). A lowered node is cut and
+// joined anew.
 struct PairingHeap {
     struct Item {
         u64 sum;
@@ -687,8 +694,8 @@ struct PairingHeap {
         items.clear();
         root = NIL;
     }
-    // Joins two trees, told by their roots; the later root becomes the first child of the other. Which is which is
-    // chosen without a branch, as no guess of it would be good.
+    // Joins two trees, told by their roots; the later root becomes the first child of the other. Which is
+    // which is chosen without a branch, as no guess of it would be good.
     INLINE u32 join(u32 one, u32 other) {
         const u32 swap = (one ^ other) & -u32(before(items[other], items[one]));
         const u32 top = one ^ swap, below = other ^ swap;
@@ -1163,7 +1170,8 @@ static u64 nanoseconds() {
     return u64(time.tv_sec) * 1000000000u + u64(time.tv_nsec);
 }
 
-// The walks of a scenario as `bench/contest` reads them, each with its nanoseconds and its taken states behind it.
+// The walks of a scenario as `bench/contest` reads them, each with its nanoseconds and its taken states
+// behind it.
 static int timed(Solver &solver, const std::vector<Entry> &entries, u64 began) {
     Output out;
     Answer answer;
@@ -1226,7 +1234,8 @@ struct Problem {
     u32 straight, diagonal;
 };
 
-// Draws a start, then a goal in a square around it whose size is drawn first, so that there are short and long ones.
+// Draws a start, then a goal in a square around it whose size is drawn first, so that there are short and
+// long ones.
 static bool draw_problem(Generator &generator, const Map &map, Problem &it) {
     auto is_land = [&](int x, int y) { return map.has(x, y) && map.at(x, y) == LAND; };
     int tries = 0;

@@ -1,9 +1,11 @@
-// Searches as a reader of the published papers writes them, for the rule `none`. Part of reference.cpp: `by=textbook`.
+// Searches as a reader of the published papers writes them, for the rule `none`. Part of reference.cpp:
+// `by=textbook`.
 //
-// engine=jps, block, plus: jump point search cell by cell (Harabor and Grastien 2011, 2012), by words of 64 bits, and by
-// tables (both 2014), the latter with the stop at the goal's row or column whether the goal is in sight from there or not
-// (Rabin 2015). One node for each cell of the map, costs as sums of doubles, a binary heap of cells that knows their
-// places, and of equal sums the greater cost first. It is there to be compared with, and nothing of it is tuned.
+// engine=jps, block, plus: jump point search cell by cell (Harabor and Grastien 2011, 2012), by words of 64
+// bits, and by tables (both 2014), the latter with the stop at the goal's row or column whether the goal is
+// in sight from there or not (Rabin 2015). One node for each cell of the map, costs as sums of doubles, a
+// binary heap of cells that knows their places, and of equal sums the greater cost first. It is there to be
+// compared with, and nothing of it is tuned.
 //
 // engine=plain: A* with buckets in place of a heap (Dial 1969), which is what is fastest for it.
 #pragma once
@@ -68,7 +70,8 @@ static int goal_ahead(int x, int y, int d, Goal goal) {
     return sign(columns) == DX[d] && sign(rows) == DY[d] ? std::max(std::abs(columns), std::abs(rows)) : 0;
 }
 
-// `jump` of these three: how many moves lead from a cell in direction d to the next jump point, 0 where none is.
+// `jump` of these three: how many moves lead from a cell in direction d to the next jump point, 0 where none
+// is.
 struct ByCell {
     const Grid &grid;
     explicit ByCell(const Grid &on) : grid(on) {}
@@ -218,9 +221,9 @@ template <class Jumps> struct Search : Layer {
     }
 };
 
-// A* by buckets. A sum is a number of fixed point, whose order is right for walks below 2^17 moves; a bucket has the sums
-// of an eighth, in no order. So a cell may be taken before its cost is least, and is then taken again; and when the goal
-// is taken, what is less in its bucket is taken before the search ends.
+// A* by buckets. A sum is a number of fixed point, whose order is right for walks below 2^17 moves; a bucket
+// has the sums of an eighth, in no order. So a cell may be taken before its cost is least, and is then taken
+// again; and when the goal is taken, what is less in its bucket is taken before the search ends.
 struct BucketSearch : Layer {
     static constexpr u64 ONE = 1ull << 32, ROOT = 6074001000ull;   // 1 and the square root of 2
     static constexpr int FINE = 29;

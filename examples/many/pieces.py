@@ -7,8 +7,8 @@
 `cut` takes each X.map of FOLDER that has a scenario beside it, X.map.scen or X.scen, and makes the folder
 WORK: the program, the maps, pieces of at most N entries' lines (1000), and `list`, one line for each piece,
 its map and its name. Each piece is a scenario of its own. `./piece` answers one, in WORK, and leaves
-rows/NAME there, whose last line is jps's status. What has no partner, a map or a scenario, is told on standard
-error and left out. Names with a tab or an end of line, and names that are no UTF-8, are refused.
+rows/NAME there, whose last line is jps's status. What has no partner, a map or a scenario, is told on
+standard error and left out. Names with a tab or an end of line, and names that are no UTF-8, are refused.
 
 `join` writes joined/X.rows, the bytes that `jps scen` would print for the whole scenario, and prints the sum
 of each and of all. Its status is that of the whole: the one that a single process would end with, the first

@@ -3,8 +3,8 @@
 
     page.py PROGRAM MAP SX SY GX GY [rule=RULE] >page.html
 
-The page is HTML with the pictures in it, for any browser; it needs no other file. Each picture is what
-`jps draw .. show=trace` prints. Its caption has the number of states from the line of `jps query .. show=trace`.
+The page is HTML with the pictures in it, for any browser; it needs no other file. Each picture is what `jps
+draw .. show=trace` prints. Its caption has the number of states from the line of `jps query .. show=trace`.
 """
 
 import html

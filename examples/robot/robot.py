@@ -5,13 +5,13 @@
 
 X Y are start and goal in metres in the frame of the map, R the robot's radius in metres (0): a cell is free
 where the map says so and no cell that is not free lies R or nearer to it, from centre to centre; what lies
-outside the picture is not free. MAP.yaml names a picture in PGM (P5), whose first row is the uppermost, that of
-the greatest y. PROGRAM is `jps-path` where that is on the PATH (not `jps`, which a JDK has too), else the `jps`
-of this checkout.
+outside the picture is not free. MAP.yaml names a picture in PGM (P5), whose first row is the uppermost, that
+of the greatest y. PROGRAM is `jps-path` where that is on the PATH (not `jps`, which a JDK has too), else the
+`jps` of this checkout.
 
-Prints the least cost in metres and the points of the walk in metres, with --draw also the map with the walk as
-`*`. The picture has the map, the walk in red, and cells too near to a wall in yellow; where there is no walk it
-is written too, with both ends in red.
+Prints the least cost in metres and the points of the walk in metres, with --draw also the map with the walk
+as `*`. The picture has the map, the walk in red, and cells too near to a wall in yellow; where there is no
+walk it is written too, with both ends in red.
 """
 
 import argparse
@@ -70,8 +70,8 @@ def free_rows(told, grey):
 def with_room(free, radius):
     """The cells round which no cell that is not free lies at the radius, in cells, or nearer.
 
-    Of such cells those beside a free one suffice: on the way from any other to a free cell, step by step along
-    columns and rows, one of them comes before it and lies nearer.
+    Of such cells those beside a free one suffice: on the way from any other to a free cell, step by step
+    along columns and rows, one of them comes before it and lies nearer.
     """
     width, height = len(free[0]), len(free)
     if 2 * radius > min(width, height) + 1:
