@@ -16,6 +16,7 @@ from itertools import product
 
 MANY = 1000
 ROUNDS = 40
+ROUNDS_OF_GIVING_UP = 5
 STRANGERS = 200
 SECONDS_OF_DRIPPING = 8
 SECONDS_OF_CHANGING = 5
@@ -143,7 +144,7 @@ def words(place):
         yield f"{name} {value}", place.post("query", {**asked, name: value}), 400
     for command in ("live", "drill", "--help", "../jps", None):
         yield f"the command {command}", place.post("run", {**asked, "command": command}), 400
-    for edits in ("x", [["rm", 1, 1]], [["free", 1]], [["free", "1", 1]], [["free", 1, 1, 1, 1]], [["free", 1, 1]] * 20001):
+    for edits in ("x", [["rm", 1, 1]], [["free", 1]], [["free", "1", 1]], [["free", 1, 1, 1, 1]], [["free", 1, 1, 256]], [["free", 1, 1]] * 20001):
         yield f"edits {str(edits)[:30]}", place.post("edit", {**asked, "edits": edits}), 400
     yield "another page", place.post("query", {**asked, "page": "x"}), 410
     yield "a page that is a list", place.post("query", {**asked, "page": [1]}), 410
@@ -191,6 +192,28 @@ def gone(place):
         yield "a program goes on though nobody waits for it"
 
 
+def given_up(place):
+    """Whoever asks what another one asks at the moment is answered, though that one goes away and its program ends."""
+    page = place.open()
+    place.post("make", {"page": page, "seed": 3, "w": 999, "h": 999, "p": 15})
+    cells = place.get(f"{place.home}cells?page={page}").partition(b"\r\n\r\n")[2]
+    first, last = cells.find(b"."), cells.rfind(b".")
+    ends = {"sx": first % 999, "sy": first // 999, "gx": last % 999, "gy": last // 999}
+    body = json.dumps({"page": page, "engine": "plain", "rule": "none", **ends}).encode()
+    told = []
+    for _ in range(ROUNDS_OF_GIVING_UP):
+        with socket.create_connection(("127.0.0.1", place.port)) as connection:
+            head = f"POST {place.home}query HTTP/1.1\r\nHost: {place.host}\r\nContent-Length: {len(body)}\r\n\r\n"
+            connection.sendall(head.encode() + body)
+            time.sleep(0.02)
+            after = threading.Thread(target=lambda: told.append(status(place.post("query", body))))
+            after.start()
+            time.sleep(0.01)
+        after.join()
+    if set(told) != {200}:
+        yield f"queries behind one that was given up: { {it: told.count(it) for it in set(told)} }"
+
+
 def together(place):
     """Two engines that edit at once: behind it all know one map, the one that is saved."""
     page = place.open()
@@ -210,6 +233,23 @@ def together(place):
             if said != wanted:
                 yield f"round {number} of two edits at once: {engine} says {said!r} in place of {wanted!r}"
                 return
+
+
+def names(place):
+    """A map, a scenario and walks may have the names of what the page makes: none takes the place of another."""
+    page = place.open()
+    map_file, ends = (place.top / "maps/pillar.map").read_bytes(), {"sx": 0, "sy": 0, "gx": 2, "gy": 2}
+    asked = {"page": page, "rule": "none", **ends}
+    for name in ("walk.cert", "edited.map"):
+        place.post(f"take?page={page}&kind=map&name={name}", map_file)
+        place.post(f"take?page={page}&kind=scen&name={name}", b"version 1\n0 m 3 3 0 0 2 2 4\n")
+        place.post("edit", {**asked, "engine": "plain", "edits": [["block", 2, 0]]})
+        yield f"a certificate of a map {name}", place.post("run", {**asked, "command": "prove"}, more="Connection: close\r\n"), 200
+        for engine in ("jps", "plus"):
+            yield f"a query on a map {name} by {engine}", place.post("query", {**asked, "engine": engine}), 200
+        said = place.get(f"{place.home}scen?page={page}").partition(b"\r\n\r\n")[2]
+        if not said.startswith(b"version 1"):
+            yield f"a scenario {name}", said, 200
 
 
 def changing(place):
@@ -291,9 +331,9 @@ def is_closed(connection):
 def try_one_map(program, top, room):
     place = Place(program, top, room)
     try:
-        for part in (strangers, words, heads):
+        for part in (strangers, words, names, heads):
             yield from wrong(part(place))
-        for part in (many, gone, together, changing, dripping):
+        for part in (many, gone, given_up, together, changing, dripping):
             yield from part(place)
         if os.path.exists("/tmp/x"):
             yield "a shell was called"

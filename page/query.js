@@ -2,7 +2,7 @@
 
 import * as api from "./api.js";
 import {
-  ENGINE_NAMES, RULE_NAMES, byId, commandLine, copy, during, element, faultWords, hideBanner, mapWord, on, saveAs, settings,
+  ENGINE_NAMES, RULE_NAMES, byId, canAsk, commandLine, copy, during, element, faultWords, hideBanner, mapWord, on, saveAs, settings,
   showBanner, state, tell, withMade,
 } from "./app.js";
 import { isSmall, packed, unpacked } from "./grid.js";
@@ -40,7 +40,7 @@ const asker = new api.LastAsked(async ({ keep }, signal) => {
 
 /** Asks the program; while an end is dragged the answer is not kept in the script. */
 export function ask(keep = true) {
-  if (!hasEnds() || state.compare) return;
+  if (!canAsk() || state.compare) return;
   asker.ask({ keep });
 }
 
@@ -210,6 +210,8 @@ export function beginQuery() {
   addEventListener("pagehide", () => addressClock && showAddress());
   on("answer", showAnswer);
   on("stop", () => asker.stop());
+  on("leave", () => asker.drop());
+  on("changed", () => ask());
   on("map", () => {
     byId("states-choice").hidden = byId("states-words").hidden = !state.hasStates;
     showChoices();

@@ -94,6 +94,8 @@ class Request:
                 raise Refused(400, "an edit has another form")
             if any(type(part) is not int or not 0 <= part <= MOST_NUMBER for part in it[1:]):
                 raise Refused(400, "an edit has no numbers")
+            if len(it) == 4 and it[3] > 255:
+                raise Refused(400, "an edit's byte is none")
             edits.append((it[0], it[1], it[2], it[3] if len(it) == 4 else None))
         return edits
 

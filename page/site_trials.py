@@ -134,6 +134,25 @@ def drops(tried):
     both_forms(tried, work)
 
 
+def replaced(tried):
+    """A map that takes the place of another one in the midst of a query: the query is given up without a word."""
+    browser = tried.browser
+    path = tried.folder / "replaced.map"
+    path.write_text(tried.jps("make", 9, 2048, 2048, 25))
+    ends = tried.jps("problems", path, 9, 40).splitlines()[-1].split("\t")[4:8]
+    for form, begin in (("server", tried.serve), ("site", tried.site)):
+        begin(path, hash_words="#" + ",".join([*ends, "plain", "none"]))
+        tried.shown()
+        is_asking = browser.run(
+            "import('./query.js').then(({isAsking}) => { const it = document.querySelector('#banner'); window.faults = [];"
+            " new MutationObserver(() => it.hidden || faults.push(it.innerText)).observe(it, {attributes: true}); return isAsking(); })"
+        )
+        expect(f"{form}: a query is under way", is_asking)
+        tried.drop(TOP / GAME)
+        browser.wait("document.title.startsWith('game49.map') && document.querySelector('#verdict').textContent.includes('√2')", SECONDS)
+        equal(f"{form}: what was said of a query on a map that was replaced", browser.run("faults"), [])
+
+
 def links(tried):
     """Walls that were drawn stand in the link, which leads to them again."""
     browser = tried.browser
@@ -270,4 +289,4 @@ def by_keys(tried):
     tried.printed(tried.jps("query", GAME, 5, 5, 26, 22, "show=trace", "engine=jps").rstrip("\n"), "behind an edit by keys")
 
 
-PARTS = [site_files, site_queries, dragged, drops, links, figures, sizes, by_keys]
+PARTS = [site_files, site_queries, dragged, drops, replaced, links, figures, sizes, by_keys]
