@@ -66,7 +66,7 @@ def site_queries(tried):
 
 # Keeps how long each answer took, and how long there was between two frames.
 WATCH = (
-    "import('./app.js').then(({on, state}) => { window.answers = []; window.gaps = []; let before = performance.now();"
+    "import('./app.js').then(({on, state}) => { window.shown = state; window.answers = []; window.gaps = []; let before = performance.now();"
     " on('answer', () => state.answer && answers.push(state.answer.seconds * 1000));"
     " const frame = (now) => { gaps.push(now - before); before = now; requestAnimationFrame(frame); }; requestAnimationFrame(frame); })"
 )
@@ -86,7 +86,13 @@ def dragged(tried):
             browser.wait(f"document.querySelector('#printed').textContent.startsWith('{wanted[:40]}')", SECONDS)
             browser.run(WATCH)
             browser.drag([tried.cell(x - k % 9, y - k // 9) for k in range(40)])
-            time.sleep(1)
+            there = browser.run("document.querySelector('#goal').value").split(",")
+            show = ["show=trace"] if side == 512 else []
+            words = tried.jps("query", path, *ends[:2], *there, "engine=block", *show).rstrip("\n")
+            # What rests behind the drag is the query as it was chosen.
+            browser.wait(f"shown.answer && shown.answer.bytes.length === {len(words)}", SECONDS)
+            equal(f"{form}, {side} x {side}: the answer behind a drag", browser.run("new TextDecoder().decode(shown.answer.bytes)"), words)
+            equal(f"{form}, {side} x {side}: the command", "states=" in browser.text("#command"), False)
             told = f"{form}, {side} x {side}, an end is dragged:"
             for what in ("answers", "gaps"):
                 times = sorted(browser.run(what))
