@@ -192,15 +192,19 @@ def gone(place):
         yield "a program goes on though nobody waits for it"
 
 
-def given_up(place):
-    """Whoever asks what another one asks at the moment is answered, though that one goes away and its program ends."""
+def long_query(place, side):
+    """The words of a query across a map of this side."""
     page = place.open()
-    place.post("make", {"page": page, "seed": 3, "w": 999, "h": 999, "p": 15})
+    place.post("make", {"page": page, "seed": 3, "w": side, "h": side, "p": 15})
     cells = place.get(f"{place.home}cells?page={page}").partition(b"\r\n\r\n")[2]
     first, last = cells.find(b"."), cells.rfind(b".")
-    ends = {"sx": first % 999, "sy": first // 999, "gx": last % 999, "gy": last // 999}
-    body = json.dumps({"page": page, "engine": "plain", "rule": "none", **ends}).encode()
-    told = []
+    ends = {"sx": first % side, "sy": first // side, "gx": last % side, "gy": last // side}
+    return json.dumps({"page": page, "engine": "plain", "rule": "none", **ends}).encode()
+
+
+def given_up(place):
+    """Whoever asks what another one asks at the moment is answered, though that one goes away and its program ends."""
+    body, told = long_query(place, 999), []
     for _ in range(ROUNDS_OF_GIVING_UP):
         with socket.create_connection(("127.0.0.1", place.port)) as connection:
             head = f"POST {place.home}query HTTP/1.1\r\nHost: {place.host}\r\nContent-Length: {len(body)}\r\n\r\n"
@@ -352,6 +356,19 @@ def try_signals(program, top, room):
         yield from place.end(again=[seconds] * 3)
 
 
+def try_end(program, top, room):
+    """Whoever waits for an answer when the server ends is told of no program that failed."""
+    place, told = Place(program, top, room), []
+    body = long_query(place, 1999)
+    waiting = threading.Thread(target=lambda: told.append(place.post("query", body)))
+    waiting.start()
+    time.sleep(0.2)
+    yield from place.end()
+    waiting.join()
+    if told != [b""]:
+        yield f"what is told when the server ends: {told[0][:200]!r}"
+
+
 def try_no_map(program, top, room):
     pathlib.Path(f"{room}/said.map").write_text("type octile\nheight 2\nwidth 3\nmap\n...\n.x.\n", encoding="ascii")
     place = Place(program, top, room, f"{room}/said.map")
@@ -414,6 +431,6 @@ def wrong(answers):
 
 def try_all(program, top):
     """Each fault in words."""
-    for part in (try_one_map, try_signals, try_no_map, try_pipe, try_site):
+    for part in (try_one_map, try_signals, try_end, try_no_map, try_pipe, try_site):
         with tempfile.TemporaryDirectory() as room:
             yield from part(program, top, room)

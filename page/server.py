@@ -205,7 +205,10 @@ class Handler(http.server.BaseHTTPRequestHandler):
             self.close_connection = True
             self.tell({"refused": refused.words}, refused.status)
         except Fault as fault:
-            self.tell({"fault": fault.line, "status": fault.status}, 422)
+            if self.server.ending.is_set():  # it has ended its programs
+                self.close_connection = True
+            else:
+                self.tell({"fault": fault.line, "status": fault.status}, 422)
         except TooMuch:
             self.tell({"fault": "", "much": True}, 422)
         except (Gone, OSError):
