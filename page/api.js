@@ -31,6 +31,7 @@ export class LastAsked {
       while (this.next) {
         const { what } = this.next;
         this.next = null;
+        this.isDropped = false;
         this.control = new AbortController();
         this.begun = performance.now();
         await this.work(what, this.control.signal);
@@ -47,9 +48,15 @@ export class LastAsked {
     this.control?.abort();
   }
 
-  /** Whether something else was asked meanwhile. */
+  /** Gives up what is under way, as nobody wants to know any more: nothing is said of it. */
+  drop() {
+    this.isDropped = true;
+    this.stop();
+  }
+
+  /** Whether something else was asked meanwhile, or nothing is to be said. */
   get isPast() {
-    return this.next !== null;
+    return this.next !== null || this.isDropped;
   }
 
   get isBusy() {

@@ -19,6 +19,7 @@ export const state = {
   answer: null,
   edits: 0, // that the program has taken, those that were taken back among them
   changes: 0, // those of them that stand
+  isRefused: false, // whether the program refuses the map, so that nothing can be asked of it
   isNamed: true, // whether the map is one that can be opened by its name; else a link has its walls
   program: "jps",
   scen: null, // the paths of the files that were named
@@ -113,6 +114,25 @@ export async function during(words, work, signal) {
     showBusy();
   }
 }
+
+// While the page is given another map nothing is asked of the one before.
+
+let changes = 0;
+
+/** Works until another map is there; what was asked of the one before is given up, and the query asked anew. */
+export async function changeMap(work) {
+  changes += 1;
+  tell("leave");
+  try {
+    await work();
+  } finally {
+    changes -= 1;
+  }
+  tell("changed");
+}
+
+/** Whether a query can be asked. */
+export const canAsk = () => Boolean(state.map && state.start && state.goal) && !state.isRefused && changes === 0;
 
 export function stopAll() {
   tell("stop"); // what would be asked next is not

@@ -16,6 +16,7 @@ from itertools import product
 
 MANY = 1000
 ROUNDS = 40
+ROUNDS_OF_GIVING_UP = 5
 STRANGERS = 200
 SECONDS_OF_DRIPPING = 8
 SECONDS_OF_CHANGING = 5
@@ -143,7 +144,7 @@ def words(place):
         yield f"{name} {value}", place.post("query", {**asked, name: value}), 400
     for command in ("live", "drill", "--help", "../jps", None):
         yield f"the command {command}", place.post("run", {**asked, "command": command}), 400
-    for edits in ("x", [["rm", 1, 1]], [["free", 1]], [["free", "1", 1]], [["free", 1, 1, 1, 1]], [["free", 1, 1]] * 20001):
+    for edits in ("x", [["rm", 1, 1]], [["free", 1]], [["free", "1", 1]], [["free", 1, 1, 1, 1]], [["free", 1, 1, 256]], [["free", 1, 1]] * 20001):
         yield f"edits {str(edits)[:30]}", place.post("edit", {**asked, "edits": edits}), 400
     yield "another page", place.post("query", {**asked, "page": "x"}), 410
     yield "a page that is a list", place.post("query", {**asked, "page": [1]}), 410
@@ -191,6 +192,32 @@ def gone(place):
         yield "a program goes on though nobody waits for it"
 
 
+def long_query(place, side):
+    """The words of a query across a map of this side."""
+    page = place.open()
+    place.post("make", {"page": page, "seed": 3, "w": side, "h": side, "p": 15})
+    cells = place.get(f"{place.home}cells?page={page}").partition(b"\r\n\r\n")[2]
+    first, last = cells.find(b"."), cells.rfind(b".")
+    ends = {"sx": first % side, "sy": first // side, "gx": last % side, "gy": last // side}
+    return json.dumps({"page": page, "engine": "plain", "rule": "none", **ends}).encode()
+
+
+def given_up(place):
+    """Whoever asks what another one asks at the moment is answered, though that one goes away and its program ends."""
+    body, told = long_query(place, 999), []
+    for _ in range(ROUNDS_OF_GIVING_UP):
+        with socket.create_connection(("127.0.0.1", place.port)) as connection:
+            head = f"POST {place.home}query HTTP/1.1\r\nHost: {place.host}\r\nContent-Length: {len(body)}\r\n\r\n"
+            connection.sendall(head.encode() + body)
+            time.sleep(0.02)
+            after = threading.Thread(target=lambda: told.append(status(place.post("query", body))))
+            after.start()
+            time.sleep(0.01)
+        after.join()
+    if set(told) != {200}:
+        yield f"queries behind one that was given up: { {it: told.count(it) for it in set(told)} }"
+
+
 def together(place):
     """Two engines that edit at once: behind it all know one map, the one that is saved."""
     page = place.open()
@@ -210,6 +237,23 @@ def together(place):
             if said != wanted:
                 yield f"round {number} of two edits at once: {engine} says {said!r} in place of {wanted!r}"
                 return
+
+
+def names(place):
+    """A map, a scenario and walks may have the names of what the page makes: none takes the place of another."""
+    page = place.open()
+    map_file, ends = (place.top / "maps/pillar.map").read_bytes(), {"sx": 0, "sy": 0, "gx": 2, "gy": 2}
+    asked = {"page": page, "rule": "none", **ends}
+    for name in ("walk.cert", "edited.map"):
+        place.post(f"take?page={page}&kind=map&name={name}", map_file)
+        place.post(f"take?page={page}&kind=scen&name={name}", b"version 1\n0 m 3 3 0 0 2 2 4\n")
+        place.post("edit", {**asked, "engine": "plain", "edits": [["block", 2, 0]]})
+        yield f"a certificate of a map {name}", place.post("run", {**asked, "command": "prove"}, more="Connection: close\r\n"), 200
+        for engine in ("jps", "plus"):
+            yield f"a query on a map {name} by {engine}", place.post("query", {**asked, "engine": engine}), 200
+        said = place.get(f"{place.home}scen?page={page}").partition(b"\r\n\r\n")[2]
+        if not said.startswith(b"version 1"):
+            yield f"a scenario {name}", said, 200
 
 
 def changing(place):
@@ -291,9 +335,9 @@ def is_closed(connection):
 def try_one_map(program, top, room):
     place = Place(program, top, room)
     try:
-        for part in (strangers, words, heads):
+        for part in (strangers, words, names, heads):
             yield from wrong(part(place))
-        for part in (many, gone, together, changing, dripping):
+        for part in (many, gone, given_up, together, changing, dripping):
             yield from part(place)
         if os.path.exists("/tmp/x"):
             yield "a shell was called"
@@ -310,6 +354,19 @@ def try_signals(program, top, room):
         for engine in ("plain", "jps", "block", "plus"):
             place.post("query", {"page": page, "engine": engine, "rule": "none", **ends})
         yield from place.end(again=[seconds] * 3)
+
+
+def try_end(program, top, room):
+    """Whoever waits for an answer when the server ends is told of no program that failed."""
+    place, told = Place(program, top, room), []
+    body = long_query(place, 1999)
+    waiting = threading.Thread(target=lambda: told.append(place.post("query", body)))
+    waiting.start()
+    time.sleep(0.2)
+    yield from place.end()
+    waiting.join()
+    if told != [b""]:
+        yield f"what is told when the server ends: {told[0][:200]!r}"
 
 
 def try_no_map(program, top, room):
@@ -374,6 +431,6 @@ def wrong(answers):
 
 def try_all(program, top):
     """Each fault in words."""
-    for part in (try_one_map, try_signals, try_no_map, try_pipe, try_site):
+    for part in (try_one_map, try_signals, try_end, try_no_map, try_pipe, try_site):
         with tempfile.TemporaryDirectory() as room:
             yield from part(program, top, room)

@@ -11,10 +11,19 @@ import tempfile
 import time
 
 KEYS = {"Enter": 13, "Tab": 9, "Escape": 27, "ArrowLeft": 37, "ArrowUp": 38, "ArrowRight": 39, "ArrowDown": 40, "End": 35}
+# Before the page's own scripts: what a request that failed was answered is written to the console.
+TELL_FAILED = """(() => {
+  const ask = window.fetch;
+  window.fetch = async (...words) => {
+    const told = await ask(...words);
+    if (!told.ok) told.clone().text().then((text) => console.error(`${told.status} ${words[0]}: ${text}`));
+    return told;
+  };
+})()"""
 
 
 class Browser:
-    """One tab. Whatever the page writes to its console as an error is kept in `errors`."""
+    """One tab. Whatever the page writes to its console as an error is kept in `errors`, with the part that was tried."""
 
     def __init__(self, width=1280, height=800):
         self.folder = tempfile.mkdtemp(prefix="jps-chromium-")
@@ -23,12 +32,14 @@ class Browser:
         self.number = 0
         self.rest = b""
         self.errors = []
+        self.part = ""
         self.dialogs = []
         self.start()
         target = self.call("Target.createTarget", url="about:blank", browser=True)["targetId"]
         self.session = self.call("Target.attachToTarget", targetId=target, flatten=True, browser=True)["sessionId"]
         for domain in ("Page", "Runtime", "Log"):
             self.call(domain + ".enable")
+        self.call("Page.addScriptToEvaluateOnNewDocument", source=TELL_FAILED)
         self.call("Browser.setDownloadBehavior", behavior="allow", downloadPath=str(self.downloads), browser=True)
         self.size(width, height)
 
@@ -83,9 +94,14 @@ class Browser:
             os.write(self.ours_out, json.dumps({**answer, "sessionId": self.session}).encode() + b"\0")
         if told.get("method") == "Runtime.exceptionThrown":
             details = parameters["exceptionDetails"]
-            self.errors.append(details.get("exception", {}).get("description") or details["text"])
+            self.keep_error(details.get("exception", {}).get("description") or details["text"])
+        if told.get("method") == "Runtime.consoleAPICalled" and parameters["type"] == "error":
+            self.keep_error(" ".join(str(it.get("value")) for it in parameters["args"]))
         if told.get("method") == "Log.entryAdded" and parameters["entry"]["level"] == "error":
-            self.errors.append(parameters["entry"]["text"] + " " + parameters["entry"].get("url", ""))
+            self.keep_error(parameters["entry"]["text"] + " " + parameters["entry"].get("url", ""))
+
+    def keep_error(self, words):
+        self.errors.append(f"{self.part}: {words}")
 
     def call(self, method, browser=False, seconds=120, **parameters):
         self.number += 1

@@ -1,7 +1,7 @@
 // Files that are dropped or picked, the maps of a site, and what asks before edits are lost.
 
 import * as api from "./api.js";
-import { byId, during, element, faultWords, showBanner, state, tell } from "./app.js";
+import { byId, changeMap, during, element, faultWords, showBanner, state, tell } from "./app.js";
 import { isSmall } from "./grid.js";
 
 const text = new TextDecoder();
@@ -28,9 +28,10 @@ async function takeFiles(files) {
   byId("files-dialog").close();
   try {
     for (const { kind, name, bytes } of read) {
-      const told = await during(`Reading ${name}`, () => api.take(kind, name, bytes));
-      if (kind === "map") await takeMap({ ...told, isDropped: true });
+      const take = () => during(`Reading ${name}`, () => api.take(kind, name, bytes));
+      if (kind === "map") await changeMap(async () => takeMap({ ...(await take()), isDropped: true }));
       else {
+        const told = await take();
         Object.assign(state, { scen: told.scen, walks: told.walks, madeScen: told.madeScen });
         tell("files", kind);
       }

@@ -28,6 +28,7 @@ def take(handler, words):
     if len(data) < int(length):
         raise ConnectionError
     name = re.sub(r"[^\w.+-]", "_", name, flags=re.ASCII)[-80:].lstrip(".") or kind
+    name = f"{kind}/{name}"  # what is handed over has no name of what the page makes
     with session.made(name) as file:
         file.write(data)
     path = session.file(name)

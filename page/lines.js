@@ -4,6 +4,10 @@
 export const DIRECTIONS = ["N", "NE", "E", "SE", "S", "SW", "W", "NW"];
 const text = new TextDecoder();
 const SPACE = 32, COMMA = 44, COLON = 58, LETTER_T = 116;
+const NO_ARRIVAL = 8;
+// The arrivals by the codes of their letters.
+const ARRIVALS = new Uint8Array(1 << 14).fill(NO_ARRIVAL);
+DIRECTIONS.forEach((name, at) => (ARRIVALS[[...name].reduce((code, it) => code * 128 + it.charCodeAt(0), 0)] = at));
 
 /** The decimal of A + B·√2, to be looked at: what is exact is A and B. */
 export function decimal(straight, diagonal) {
@@ -31,13 +35,10 @@ function readStates(bytes, from) {
     else if (byte === COLON) {
       states.y[index] = number;
       number = 0;
-      let end = at + 1;
-      while (end < bytes.length && bytes[end] !== SPACE) end += 1;
-      const way = end - at === 2 ? String.fromCharCode(bytes[at + 1]) : String.fromCharCode(bytes[at + 1], bytes[at + 2]);
-      const found = DIRECTIONS.indexOf(way);
-      states.arrival[index] = found < 0 ? 8 : found;
+      let way = 0;
+      for (at += 1; at < bytes.length && bytes[at] !== SPACE; at += 1) way = way * 128 + bytes[at];
+      states.arrival[index] = ARRIVALS[way] ?? NO_ARRIVAL;
       index += 1;
-      at = end;
     }
     at += 1;
   }

@@ -1,7 +1,7 @@
 // Begins the page: loads the map, and has what belongs to no part alone: tabs, theme, keys, dialogs.
 
 import * as api from "./api.js";
-import { byId, element, faultWords, showBanner, state, stopAll, tell, hideBanner, during } from "./app.js";
+import { byId, changeMap, element, faultWords, showBanner, state, stopAll, tell, hideBanner, during } from "./app.js";
 import { beginCertificate } from "./certificate.js";
 import { beginEdit, redo, undo } from "./edit.js";
 import { beginFiles, lostWords, showMaps } from "./files.js";
@@ -67,7 +67,7 @@ export async function takeMap(told, isFirst = false) {
   byId("about").textContent = `${told.version}. All that is shown was printed by this program.`;
   const name = told.map.split("/").pop();
   document.title = `${name} – jps: paths on grid maps`;
-  document.querySelector("main").inert = told.fault !== undefined; // without a map there is nothing to ask
+  state.isRefused = document.querySelector("main").inert = told.fault !== undefined;
   if (told.fault !== undefined) {
     byId("loading").hidden = true;
     byId("map-name").textContent = name;
@@ -98,7 +98,7 @@ export async function takeMap(told, isFirst = false) {
 async function makeMap(form) {
   const words = Object.fromEntries(["seed", "w", "h", "p"].map((it) => [it, Number(form.elements[it].value)]));
   try {
-    await takeMap(await during("Making a map", (signal) => api.make(words, signal)));
+    await changeMap(async () => takeMap(await during("Making a map", (signal) => api.make(words, signal))));
   } catch (fault) {
     showBanner(...faultWords(fault));
   }
@@ -122,7 +122,7 @@ function beginDialogs() {
 function keys(event) {
   const isTyping = event.target.matches("input:not([type=radio]):not([type=checkbox]):not([type=range]), textarea");
   if (event.key === "Escape") stopAll();
-  if (isTyping || document.querySelector("dialog[open]") || (!state.map && event.key !== "?")) return;
+  if (isTyping || document.querySelector("dialog[open]") || ((!state.map || state.isRefused) && event.key !== "?")) return;
   const isHeld = event.ctrlKey || event.metaKey, letter = event.key.toLowerCase();
   if (isHeld && (letter === "y" || (letter === "z" && event.shiftKey))) redo();
   else if (isHeld && letter === "z") undo();

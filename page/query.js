@@ -2,7 +2,7 @@
 
 import * as api from "./api.js";
 import {
-  ENGINE_NAMES, RULE_NAMES, byId, commandLine, copy, during, element, faultWords, hideBanner, mapWord, on, saveAs, settings,
+  ENGINE_NAMES, RULE_NAMES, byId, canAsk, commandLine, copy, during, element, faultWords, hideBanner, mapWord, on, saveAs, settings,
   showBanner, state, tell, withMade,
 } from "./app.js";
 import { isSmall, packed, unpacked } from "./grid.js";
@@ -21,14 +21,31 @@ export function queryWords(engine, show, keep = false) {
 export const hasEnds = () => state.map && state.start && state.goal;
 export const endWords = () => [state.start.x, state.start.y, state.goal.x, state.goal.y];
 
-const asker = new api.LastAsked(async ({ keep }, signal) => {
-  const show = state.showStates ? "trace" : undefined;
-  const words = queryWords(state.engine, show, keep);
+/** The words of the query that is shown, for the command line too. */
+const wholeWords = (keep) => queryWords(state.engine, state.showStates ? "trace" : undefined, keep);
+
+// Where an answer takes longer than this, the queries of a drag are short ones: the walk without states, and with one
+// state for each cell, which costs the same and is quicker among scattered walls. All is asked where the end rests.
+const SLOW_SECONDS = 0.012;
+const REST = 150;
+let isShort = false;
+let restClock = null;
+
+function shortWords() {
+  const words = queryWords(state.engine);
+  if (state.hasStates && state.engine !== "plain") words.states = "cell";
+  return words;
+}
+
+const asker = new api.LastAsked(async ({ keep, isShort: isThisShort }, signal) => {
+  const words = isThisShort ? shortWords() : wholeWords(keep);
   try {
     const told = await during("The program is searching", (stop) => api.query(words, stop), signal);
-    state.answer = { ...readAnswer(told.bytes), seconds: told.seconds, words };
+    state.answer = { ...readAnswer(told.bytes), seconds: told.seconds, words, isShort: isThisShort };
     hideBanner();
     tell("answer");
+    clearTimeout(restClock);
+    if (isThisShort && state.showStates) restClock = setTimeout(() => canAsk() && asker.ask({ keep: false, isShort: false }), REST);
   } catch (fault) {
     if (fault.name === "AbortError" && asker.isPast) return;
     state.answer = null;
@@ -40,8 +57,10 @@ const asker = new api.LastAsked(async ({ keep }, signal) => {
 
 /** Asks the program; while an end is dragged the answer is not kept in the script. */
 export function ask(keep = true) {
-  if (!hasEnds() || state.compare) return;
-  asker.ask({ keep });
+  clearTimeout(restClock);
+  isShort = !keep && (isShort || state.answer?.seconds > SLOW_SECONDS);
+  if (!canAsk() || state.compare) return;
+  asker.ask({ keep, isShort });
 }
 
 export const isAsking = () => asker.isBusy;
@@ -87,7 +106,7 @@ function showAnswer() {
 
 function showCommand() {
   if (!hasEnds()) return;
-  const words = queryWords(state.engine, state.showStates ? "trace" : undefined);
+  const words = state.answer?.isShort ? state.answer.words : wholeWords();
   byId("command").textContent = withMade(commandLine(["query", mapWord(), ...endWords()], words));
   byId("draw-note").textContent = commandLine(["draw", mapWord(), ...endWords()], words) + " > walk.svg";
   byId("live-note").textContent = commandLine(["live", mapWord()], settings()) + `\nquery ${endWords().join(" ")}`;
@@ -138,7 +157,7 @@ export function readAddress() {
 }
 
 async function draw() {
-  const words = { ...queryWords(state.engine, state.showStates ? "trace" : undefined), command: "draw" };
+  const words = { ...wholeWords(), command: "draw" };
   try {
     const { output } = await during("The program is drawing", (signal) => api.run(words, signal));
     saveAs(`walk-${endWords().join("-")}.svg`, output, "image/svg+xml");
@@ -210,6 +229,8 @@ export function beginQuery() {
   addEventListener("pagehide", () => addressClock && showAddress());
   on("answer", showAnswer);
   on("stop", () => asker.stop());
+  on("leave", () => asker.drop());
+  on("changed", () => ask());
   on("map", () => {
     byId("states-choice").hidden = byId("states-words").hidden = !state.hasStates;
     showChoices();

@@ -2,7 +2,7 @@
 // and the jumps between them, with what they looked at.
 
 import * as api from "./api.js";
-import { byId, during, element, faultWords, on, showBanner, state, tell } from "./app.js";
+import { byId, canAsk, during, element, faultWords, on, showBanner, state, tell } from "./app.js";
 import { Replay, Rules } from "./jumps.js";
 import { readAnswer } from "./lines.js";
 import { ask, hasEnds, queryWords } from "./query.js";
@@ -182,8 +182,9 @@ function setCompare(names) {
   document.body.classList.toggle("comparing", state.compare);
   showViews(names.map((it) => WAYS[it]));
   if (!hasEnds()) return;
-  if (state.compare) comparer.ask();
-  else {
+  if (state.compare) {
+    if (canAsk()) comparer.ask();
+  } else {
     tell("answer");
     ask();
   }
@@ -223,12 +224,13 @@ export function beginSearch() {
     isToPlay &&= !state.answer;
   });
   on("stop", () => comparer.stop());
-  for (const name of ["ends", "settings", "edited"]) on(name, () => state.compare && hasEnds() && comparer.ask());
+  on("leave", () => comparer.drop());
+  for (const name of ["ends", "settings", "edited", "changed"]) on(name, () => state.compare && canAsk() && comparer.ask());
   on("map", () => {
     byId("show-states").checked = state.showStates;
     for (const view of views) show(view, null);
     showAll();
-    if (state.compare && hasEnds()) comparer.ask();
+    if (state.compare && canAsk()) comparer.ask();
   });
   on("theme", () => {
     for (const view of views) show(view, view.answer);

@@ -94,6 +94,8 @@ class Request:
                 raise Refused(400, "an edit has another form")
             if any(type(part) is not int or not 0 <= part <= MOST_NUMBER for part in it[1:]):
                 raise Refused(400, "an edit has no numbers")
+            if len(it) == 4 and it[3] > 255:
+                raise Refused(400, "an edit's byte is none")
             edits.append((it[0], it[1], it[2], it[3] if len(it) == 4 else None))
         return edits
 
@@ -203,7 +205,10 @@ class Handler(http.server.BaseHTTPRequestHandler):
             self.close_connection = True
             self.tell({"refused": refused.words}, refused.status)
         except Fault as fault:
-            self.tell({"fault": fault.line, "status": fault.status}, 422)
+            if self.server.ending.is_set():  # it has ended its programs
+                self.close_connection = True
+            else:
+                self.tell({"fault": fault.line, "status": fault.status}, 422)
         except TooMuch:
             self.tell({"fault": "", "much": True}, 422)
         except (Gone, OSError):

@@ -8,7 +8,7 @@ import threading
 import time
 
 import maps
-from programs import Fault, Live
+from programs import Fault, Gone, Live
 
 # A page that is closed is known by its stream; one that never opened the stream, or lost it, is given this long.
 SECONDS_WITHOUT_STREAM = 15
@@ -36,6 +36,7 @@ class Session:
         self.map_words = self.scen_words = None  # the words of the program that made them, where they were made
         self.lock = threading.Lock()
         self.editing = threading.Lock()  # who changes the map, by edits or by another map; never taken within `lock`
+        self.is_over = False  # no program is started any more
         self.streams = 0
         self.seen = time.monotonic()
         self.lives = {}
@@ -72,6 +73,8 @@ class Session:
         """A file to be written, which takes this name as a whole. (None is made while the folder is taken away.)"""
         path = self.file(f"{name}.{threading.get_ident()}")
         with self.lock:
+            if not self.is_over:
+                os.makedirs(os.path.dirname(path), exist_ok=True)
             file = open(path, "wb")
         with file:
             yield file
@@ -102,13 +105,32 @@ class Session:
     @contextlib.contextmanager
     def live(self, settings):
         """A process for these settings, the one that is there or a new one; nobody else asks it meanwhile."""
-        live = self.taken(tuple(settings))
-        try:
-            with live.lock:
-                yield live
-        finally:
-            with self.lock:
-                live.users -= 1
+        asked = self.map
+        while True:
+            live = self.taken(tuple(settings))
+            try:
+                with live.lock:
+                    # Whoever had it before may have gone away in the midst of an answer, and the process with him.
+                    if live.is_usable():
+                        yield live
+                        return
+            except Fault:
+                self.look_at_map(asked)  # a process ends with its map
+                raise
+            finally:
+                self.let_go(live)
+            self.look_at_map(asked)
+
+    def look_at_map(self, asked):
+        if self.map is not asked:
+            raise Fault(0, "the page has another map now") from None
+
+    def let_go(self, live):
+        with self.lock:
+            live.users -= 1
+            is_left = live.users == 0 and live not in self.lives.values()
+        if is_left:
+            live.end()
 
     def taken(self, key):
         with self.lock:
@@ -118,19 +140,22 @@ class Session:
                 self.lives[key] = live  # the last one in the order is the one that was used last
                 live.users += 1
                 return live
-        if live:
+            is_left = live and live.users == 0  # else who asks it ends it
+        if is_left:
             live.end()
         path, known, read = self.edited()
         live = Live(self.program, [path, *key])
         live.edits = known
         with self.lock:
             # Another request may have been quicker, or have brought another map.
-            there = self.lives.setdefault(key, live) if self.map is read else None
+            there = self.lives.setdefault(key, live) if self.map is read and not self.is_over else None
             if there:
                 there.users += 1
             self.end_idle(len(self.lives) - most_lives(len(read.cells)))
         if there is not live:
             live.end()
+        if self.is_over:
+            raise Gone
         if there is None:
             raise Fault(0, "the page has another map now")
         return there
@@ -214,6 +239,8 @@ class Session:
         return self.streams == 0 and time.monotonic() - self.seen > SECONDS_WITHOUT_STREAM
 
     def end(self):
+        with self.lock:
+            self.is_over = True
         self.end_lives()
         with self.lock:
             shutil.rmtree(self.folder, ignore_errors=True)

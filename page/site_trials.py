@@ -66,7 +66,7 @@ def site_queries(tried):
 
 # Keeps how long each answer took, and how long there was between two frames.
 WATCH = (
-    "import('./app.js').then(({on, state}) => { window.answers = []; window.gaps = []; let before = performance.now();"
+    "import('./app.js').then(({on, state}) => { window.shown = state; window.answers = []; window.gaps = []; let before = performance.now();"
     " on('answer', () => state.answer && answers.push(state.answer.seconds * 1000));"
     " const frame = (now) => { gaps.push(now - before); before = now; requestAnimationFrame(frame); }; requestAnimationFrame(frame); })"
 )
@@ -86,7 +86,13 @@ def dragged(tried):
             browser.wait(f"document.querySelector('#printed').textContent.startsWith('{wanted[:40]}')", SECONDS)
             browser.run(WATCH)
             browser.drag([tried.cell(x - k % 9, y - k // 9) for k in range(40)])
-            time.sleep(1)
+            there = browser.run("document.querySelector('#goal').value").split(",")
+            show = ["show=trace"] if side == 512 else []
+            words = tried.jps("query", path, *ends[:2], *there, "engine=block", *show).rstrip("\n")
+            # What rests behind the drag is the query as it was chosen.
+            browser.wait(f"shown.answer && shown.answer.bytes.length === {len(words)}", SECONDS)
+            equal(f"{form}, {side} x {side}: the answer behind a drag", browser.run("new TextDecoder().decode(shown.answer.bytes)"), words)
+            equal(f"{form}, {side} x {side}: the command", "states=" in browser.text("#command"), False)
             told = f"{form}, {side} x {side}, an end is dragged:"
             for what in ("answers", "gaps"):
                 times = sorted(browser.run(what))
@@ -132,6 +138,25 @@ def drops(tried):
         expect(f"{form}: the fault of a dropped map", browser.text("#banner").startswith("jps: map M5 line 6 column 2"))
 
     both_forms(tried, work)
+
+
+def replaced(tried):
+    """A map that takes the place of another one in the midst of a query: the query is given up without a word."""
+    browser = tried.browser
+    path = tried.folder / "replaced.map"
+    path.write_text(tried.jps("make", 9, 2048, 2048, 25))
+    ends = tried.jps("problems", path, 9, 40).splitlines()[-1].split("\t")[4:8]
+    for form, begin in (("server", tried.serve), ("site", tried.site)):
+        begin(path, hash_words="#" + ",".join([*ends, "plain", "none"]))
+        tried.shown()
+        is_asking = browser.run(
+            "import('./query.js').then(({isAsking}) => { const it = document.querySelector('#banner'); window.faults = [];"
+            " new MutationObserver(() => it.hidden || faults.push(it.innerText)).observe(it, {attributes: true}); return isAsking(); })"
+        )
+        expect(f"{form}: a query is under way", is_asking)
+        tried.drop(TOP / GAME)
+        browser.wait("document.title.startsWith('game49.map') && document.querySelector('#verdict').textContent.includes('√2')", SECONDS)
+        equal(f"{form}: what was said of a query on a map that was replaced", browser.run("faults"), [])
 
 
 def links(tried):
@@ -270,4 +295,4 @@ def by_keys(tried):
     tried.printed(tried.jps("query", GAME, 5, 5, 26, 22, "show=trace", "engine=jps").rstrip("\n"), "behind an edit by keys")
 
 
-PARTS = [site_files, site_queries, dragged, drops, links, figures, sizes, by_keys]
+PARTS = [site_files, site_queries, dragged, drops, replaced, links, figures, sizes, by_keys]

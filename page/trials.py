@@ -1,7 +1,6 @@
 """What is tried of the served page, each part on a page of its own: for page/test."""
 
 import json
-import os
 import pathlib
 import subprocess
 import time
@@ -392,7 +391,7 @@ def left(tried):
     tried.serve(GAME, hash_words="#5,5,15,15,plain,none")
     browser.wait("document.querySelector('#printed').textContent", SECONDS)
     (child,) = tried.children()
-    os.kill(child, 9)
+    tried.kill(child)
     browser.press("#swap")
     tried.printed(tried.jps("query", GAME, 15, 15, 5, 5, "show=trace").rstrip("\n"), "behind a killed program")
     expect("a program runs for the page", len(tried.children()) == 1)

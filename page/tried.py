@@ -3,7 +3,9 @@
 import functools
 import http.server
 import json
+import os
 import pathlib
+import signal
 import subprocess
 import threading
 import time
@@ -103,6 +105,14 @@ class Tried:
         """How many milliseconds after it was asked for the map was on the screen."""
         self.browser.wait("document.body.dataset.shown", SECONDS)
         return int(self.browser.run("document.body.dataset.shown"))
+
+    def kill(self, child):
+        """Kills a program of the server, and waits until it is gone."""
+        os.kill(child, signal.SIGKILL)
+        begun = time.monotonic()
+        stat = pathlib.Path(f"/proc/{child}/stat")
+        while stat.exists() and ") Z " not in stat.read_text() and time.monotonic() - begun < SECONDS:
+            time.sleep(0.01)
 
     def children(self):
         """The programs that the server has running."""

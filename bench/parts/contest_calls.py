@@ -1,22 +1,20 @@
 """One call of a contest: a program answers a scenario, in one of three forms, and each walk is judged."""
 
-import itertools
-import os
+import contextlib
 import pathlib
 import re
-import resource
 import shutil
-import signal
 import subprocess
 import tempfile
-import threading
 import time
 
 import contest_inputs
+from contest_processes import MOST_BYTES, Done, Watch, end, how_it_ended, peak_of, reap, start
 
-POINT = re.compile(r"\d{1,4},\d{1,4}")
-PREPARED = re.compile(r"prepared (\d+)(?: (\d+))?\s*$")
-MOST_BYTES = 1 << 30                     # of what a program prints
+# So many points at once, as a line may have millions.
+POINTS = re.compile(r"(?:[0-9]{1,4},[0-9]{1,4}(?:[ \t]+|$)){1,1000}")
+NUMBER = re.compile(r"[0-9]{1,18}")
+PREPARED = re.compile(r"prepared ([0-9]{1,18})(?: ([0-9]{1,18}))?\s*$")
 
 
 class Told:
@@ -29,90 +27,23 @@ class Told:
 
     def add(self, line, numbers):
         """Takes a line: a walk, with so many numbers behind it at most."""
-        fields = line.split()
-        if fields[:1] == ["walk"]:       # what our own program puts before the points
-            fields = fields[3:]
-        behind = []
-        while len(fields) > 1 and fields[-1].isdigit() and len(behind) < numbers:
-            behind.insert(0, int(fields.pop()))
-        walk = " ".join(fields)
-        is_walk = walk == "none" or (fields and all(map(POINT.fullmatch, fields)))
+        walk, behind = line.strip(), []
+        if walk.startswith("walk "):     # what our own program puts before the points
+            walk = (walk.split(None, 3) + [""] * 3)[3]
+        while len(behind) < numbers and len(parts := walk.rsplit(None, 1)) == 2 and NUMBER.fullmatch(parts[1]):
+            walk = parts[0]
+            behind.insert(0, int(parts[1]))
         if walk in ("outside", "blocked"):
-            walk, is_walk = "none", True
+            walk = "none"
+        is_walk = walk == "none" or are_points(walk)
         self.lines.append((walk if is_walk else None, *behind, *[None] * (2 - len(behind))))
 
 
-# ---------------------------------------------------------------- processes
-
-def end(child):
-    """Ends a process and what it started."""
-    try:
-        os.killpg(child.pid, signal.SIGKILL)
-    except ProcessLookupError:
-        pass
-
-
-def peak_of(pid):
-    """The most bytes of memory that a process has had so far, where the system tells it."""
-    try:
-        found = re.search(r"VmHWM:\s*(\d+) kB", pathlib.Path(f"/proc/{pid}/status").read_text())
-    except OSError:
-        return None
-    return int(found[1]) * 1024 if found else None
-
-
-def how_it_ended(status, errors):
-    """A line on a process that failed: its status or signal, and its last line on standard error."""
-    if status == 0:
-        return ""
-    last = (errors.strip().splitlines() or [""])[-1][:120]
-    told = f"ended by signal {-status}" if status < 0 else f"ended with status {status}"
-    return f"{told}: {last}" if last else told
-
-
-class Done:
-    """A process that was run to its end: so many lines of output, processor seconds, memory, and how it failed."""
-
-    def __init__(self, words, limit, most=0):
-        self.lines, self.seconds, self.peak, self.fault = [], None, None, ""
-        with tempfile.TemporaryFile() as out, tempfile.TemporaryFile() as errors:
-            try:
-                ways = {"stdin": subprocess.DEVNULL, "stdout": out, "stderr": errors}
-                child = subprocess.Popen(words, start_new_session=True, **ways)
-            except OSError as fault:
-                self.fault = f"cannot be started: {fault.strerror}"
-                return
-            try:
-                self.wait(child, limit, out)
-            finally:
-                end(child)
-            out.seek(0)
-            errors.seek(0)
-            lines = (it.decode(errors="replace") for it in out if it.strip())
-            self.lines = list(itertools.islice(lines, most))
-            self.fault = self.fault or how_it_ended(self.status, errors.read(1 << 16).decode(errors="replace"))
-
-    def wait(self, child, limit, out):
-        stop, pause, samples = time.monotonic() + limit, 0.001, 0
-        while True:
-            samples += 1
-            self.peak = max(peak_of(child.pid) or 0, self.peak or 0)
-            pid, status, usage = os.wait4(child.pid, os.WNOHANG)
-            if pid:
-                break
-            if time.monotonic() > stop or os.fstat(out.fileno()).st_size > MOST_BYTES:
-                self.fault = f"no end in {limit:g} s" if time.monotonic() > stop else "prints more than 2^30 bytes"
-                end(child)
-                limit, stop = 60, time.monotonic() + 60
-            time.sleep(pause)
-            pause = min(2 * pause, 0.05)
-        child.returncode = self.status = os.waitstatus_to_exitcode(status)
-        self.seconds = usage.ru_utime + usage.ru_stime
-        most = usage.ru_maxrss * 1024    # it counts who started the process too, and is right above that
-        if most > 1024 * resource.getrusage(resource.RUSAGE_SELF).ru_maxrss:
-            self.peak = most
-        elif samples < 5:                # too short to be looked at
-            self.peak = None
+def are_points(walk):
+    at = 0
+    while found := POINTS.match(walk, at):
+        at = found.end()
+    return 0 < at == len(walk)
 
 
 # ---------------------------------------------------------------- the three forms
@@ -150,28 +81,26 @@ def asked(told, files, words, limit):
     begun = time.perf_counter()
     with tempfile.TemporaryFile() as errors:
         pipes = {"stdin": subprocess.PIPE, "stdout": subprocess.PIPE, "stderr": errors}
-        try:
-            child = subprocess.Popen(files.filled(words), start_new_session=True, **pipes)
-        except OSError as fault:
-            told.fault = f"cannot be started: {fault.strerror}"
+        child, told.fault = start(files.filled(words), **pipes)
+        if not child:
             return
-        hung = threading.Event()
-        watch = threading.Timer(limit, lambda: (hung.set(), end(child)))
-        watch.start()
+        watch = Watch(child, limit, errors)
         try:
-            ask_all(told, child, files.contest.entries, begun)
+            fault = ask_all(told, child, files.contest.entries, begun)
             told.peak = peak_of(child.pid)
             finish(child)
         finally:
-            watch.cancel()
+            watch.finish()
             end(child)
-        errors.seek(0)
-        status = how_it_ended(child.returncode, errors.read(1 << 16).decode(errors="replace"))
-        told.fault = f"no end in {limit:g} s" if hung.is_set() else status
+            child.wait()
+            child.stdout.close()
+            reap()
+        told.fault = watch.fault or fault or how_it_ended(child.returncode, errors)
 
 
 def ask_all(told, child, entries, begun):
-    """The first entry is asked once before, by which the map is read and made ready."""
+    """The first entry is asked once before, by which the map is read and made ready. Returns how it failed."""
+    room = MOST_BYTES
     for place, entry in enumerate([entries[0], *entries]):
         line = contest_inputs.question(entry).encode()
         before = time.perf_counter_ns()
@@ -179,26 +108,28 @@ def ask_all(told, child, entries, begun):
             child.stdin.write(line)
             child.stdin.flush()
         except OSError:
-            return
-        answer = child.stdout.readline(MOST_BYTES)
+            return ""
+        answer = child.stdout.readline(room)
         spent = time.perf_counter_ns() - before
+        room -= len(answer)
+        if room <= 0:
+            end(child)
+            return "prints more than 2^30 bytes"
         if not answer.endswith(b"\n"):
-            return
+            return ""
         if place == 0:
             told.ready = time.perf_counter() - begun
             continue
         told.add(answer.decode(errors="replace"), 0)
         told.lines[-1] = (told.lines[-1][0], spent, None)
+    return ""
 
 
 def finish(child):
     """The end of its input ends a program that is asked."""
-    try:
+    with contextlib.suppress(OSError):
         child.stdin.close()
-    except OSError:
-        pass
     child.wait()
-    child.stdout.close()
 
 
 FORMS = {"walks": walks, "timed": timed, "asked": asked}
@@ -215,8 +146,8 @@ class Files:
         self.first = {"scen": f"{folder}/first.scen", "script": f"{folder}/first.script"}
         self.all = {"scen": f"{folder}/all.scen", "script": f"{folder}/all.script"}
         for paths, count in ((self.all, None), (self.first, 1)):
-            pathlib.Path(paths["scen"]).write_text(contest.text(count))
-            pathlib.Path(paths["script"]).write_text(contest.script(count))
+            pathlib.Path(paths["scen"]).write_text(contest.text(count), encoding="utf-8")
+            pathlib.Path(paths["script"]).write_text(contest.script(count), encoding="utf-8")
 
     def filled(self, words, first=False):
         values = {**self.words, **(self.first if first else self.all)}
@@ -244,7 +175,7 @@ def taken(told, program, files, limit):
     for place, line in enumerate(done.lines):
         last = (line.split() or [""])[-1]
         walk, spent, _ = told.lines[place]
-        told.lines[place] = (walk, spent, int(last) if last.isdigit() else None)
+        told.lines[place] = (walk, spent, int(last) if NUMBER.fullmatch(last) else None)
 
 
 def call(program, contest, known, limit):
@@ -268,7 +199,7 @@ def call(program, contest, known, limit):
 
 # ---------------------------------------------------------------- the judge
 
-def verdicts(jps, contest, rule, told):
+def verdicts(jps, contest, rule, told, limit):
     """A row for each entry, of what `judge` says; `absent` and `unread` are those without a walk to judge."""
     lines = told.lines[: len(contest.entries)]
     walks_of = [it[0] or "none" for it in lines] + ["none"] * (len(contest.entries) - len(lines))
@@ -276,7 +207,10 @@ def verdicts(jps, contest, rule, told):
         file.write("\n".join(walks_of) + "\n")
         file.flush()
         words = [jps, "judge", str(contest.map_path), str(contest.scenario_path), file.name, f"rule={rule}"]
-        done = subprocess.run(words, stdout=subprocess.PIPE, stderr=subprocess.PIPE, text=True, check=False)
+        try:
+            done = subprocess.run(words, stdout=subprocess.PIPE, stderr=subprocess.PIPE, text=True, check=False, timeout=limit)
+        except subprocess.TimeoutExpired:
+            raise contest_inputs.Wrong(f"`judge` comes to no end in {limit:g} s, as the walks are long") from None
     if done.returncode > 1:
         raise contest_inputs.Wrong(f"`judge` refuses it: {done.stderr.strip()}")
     rows = [line.split()[2:] for line in done.stdout.splitlines() if line.startswith("row ")]

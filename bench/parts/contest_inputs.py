@@ -1,6 +1,7 @@
 """What a contest is given: the programs of a text file, and maps with their scenarios."""
 
 import hashlib
+import os
 import pathlib
 import re
 import shlex
@@ -35,6 +36,8 @@ def read_programs(path):
             raise Wrong(f"{path} line {number}: {fault}") from fault
         if name is None:
             continue
+        if not (name and name.isprintable()):
+            raise Wrong(f"{path} line {number}: a name has letters that are printed")
         if not words or form not in FORMS + MORE:
             raise Wrong(f"{path} line {number}: a line is NAME FORM COMMAND, and FORM one of {', '.join(FORMS + MORE)}")
         if (form in FORMS) == (name in found):
@@ -106,7 +109,11 @@ def files_of(given, ending):
             found += sorted(path.rglob(f"*{ending}"))
         elif path.name.endswith(ending):
             found.append(path)
-    return list(dict.fromkeys(found))
+    return [it for it in dict.fromkeys(found) if it.is_file()]
+
+
+def is_there(path):
+    return path.is_file() or path.is_dir()
 
 
 def beside(path):
@@ -118,7 +125,7 @@ def beside(path):
 def read_contests(given):
     """The maps with scenarios among what is given, and a line for whatever has no partner or no right form."""
     maps, scenarios, faults = files_of(given, ".map"), files_of(given, ".scen"), []
-    faults += [(str(it), "is not there") for it in given if not pathlib.Path(it).exists()]
+    faults += [(str(it), "is no file or folder that is there") for it in given if not is_there(pathlib.Path(it))]
     named = {it.name: it for it in scenarios}
     pairs = [(it, named.get(f"{it.name}.scen") or named.get(f"{it.stem}.scen") or beside(it)) for it in maps]
     used = {scenario for _, scenario in pairs}
@@ -154,6 +161,6 @@ def key_of(*parts):
     sums = []
     for word in (word for part in parts if isinstance(part, list) for word in part):
         path = word if re.search("/", word) else shutil.which(word) or word
-        if pathlib.Path(path).is_file():
+        if os.path.isfile(path):
             sums.append(sum_of(path))
     return hashlib.sha256(repr((parts, sums)).encode()).hexdigest()[:20]

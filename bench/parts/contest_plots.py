@@ -6,8 +6,13 @@ import contest_tables
 import numbers_of as told
 import plots
 
-# More colours that people who see few colours tell apart, for programs that are not named as an engine is.
-OTHERS = ("#333333", "#e69f00", "#56b4e9", "#8a6d3b", "#6a5acd", "#999999")
+# More colours that people who see few colours tell apart, for programs that are not named as an engine is; and those on
+# a dark page.
+DARK = {
+    "#333333": "#eceae5", "#b87b00": "#e69f00", "#2b8fc9": "#56b4e9",
+    "#8a6d3b": "#c9a86a", "#6a5acd": "#a99cf0", "#767676": "#a0a0a0",
+}
+OTHERS = tuple(DARK)
 DASHES = ("", "6 3", "2 3", "9 3 2 3")   # of programs of one colour
 RANKS = 200                              # points of a curve
 
@@ -36,21 +41,23 @@ def legend(panel, results, shown, left):
         panel.text(left + 26, y, results.programs[number].name)
 
 
-def drawn(results, curves, across, labels, log, title):
-    """A picture of curves, by program; `labels` are the places of the axis to the right, with their words."""
+def drawn(results, curves, across, labels, log, title, below):
+    """A picture of curves, by program; `labels` are the places of the axis to the right, with their words, and `below`
+    says what it tells."""
     values = [seconds for points in curves.values() for _, seconds in points]
     ticks = plots.powers(min(values), max(values))
-    panel = plots.Panel(70, 40, 480, 320, across, (ticks[0], ticks[-1]), (log, True))
-    for tick in ticks:
-        panel.line_across(tick, told.tick(tick))
+    panel = plots.Panel(90, 44, 460, 320, across, (ticks[0], ticks[-1]), (log, True))
+    for value in ticks:
+        panel.line_across(value, plots.tick(value))
     for place, words in labels:
         panel.line_down(place, words)
     kinds = colours(results)
     for number, points in curves.items():
         panel.curve(points, *kinds[number])
-    panel.text(70, 24, title)
+    panel.axis_across(below)
+    panel.axis_down("time of a query", 64)
     legend(panel, results, curves, 570)
-    return plots.svg(810, max(390, 60 + 17 * len(curves)), panel.parts)
+    return plots.svg(810, max(410, 60 + 17 * len(curves)), title, panel.parts, DARK)
 
 
 def length_picture(results):
@@ -64,8 +71,8 @@ def length_picture(results):
     if not places:
         return None
     labels = [(place, f"{place / 1.5:.0f}") for place in places]
-    title = "mean time of a query, by its listed length (from this number to twice it)"
-    return drawn(results, curves, (places[0] * 0.8, places[-1] * 1.25), labels, True, title)
+    below = "listed length of the query, from this number to twice it"
+    return drawn(results, curves, (places[0] * 0.8, places[-1] * 1.25), labels, True, "Mean time of a query, by its length", below)
 
 
 def rank_picture(results):
@@ -78,7 +85,8 @@ def rank_picture(results):
     if not curves:
         return None
     labels = [(share, f"{share} %") for share in (0, 25, 50, 75, 100)]
-    return drawn(results, curves, (0, 100), labels, False, "within what time which share of all queries is answered")
+    title = "Within what time which share of the queries is answered"
+    return drawn(results, curves, (0, 100), labels, False, title, "share of all queries, the quickest first")
 
 
 def write(results, folder):

@@ -224,7 +224,7 @@ TABLES = {
 
 
 def write_csv(path, head, lines):
-    with path.open("w", newline="", encoding="utf-8") as file:
+    with path.open("w", newline="", encoding="utf-8", errors="backslashreplace") as file:
         writer = csv.writer(file, lineterminator="\n")
         writer.writerow(head)
         writer.writerows(lines)
@@ -241,4 +241,4 @@ def write(results, folder):
             parts += [f"## {title}", *([words] if words else []), told.table(head, lines)]
             if name == "times":
                 parts += ["![time by length](length.svg)", "![times by rank](rank.svg)"]
-    (folder / "tables.md").write_text("\n\n".join(parts) + "\n", encoding="utf-8")
+    (folder / "tables.md").write_text("\n\n".join(parts) + "\n", encoding="utf-8", errors="backslashreplace")

@@ -70,7 +70,12 @@ def times_as_long(value):
     return f"{value:.0f}" if value >= 9.95 else f"{value:.1f}"
 
 
+def cell(value):
+    """What stands in a cell of a table: a bar would end it, and some letters the line."""
+    return "".join(it if it.isprintable() else "?" for it in str(value)).replace("|", "\\|")
+
+
 def table(head, rows):
     """A table of Markdown."""
-    lines = ["| " + " | ".join(head) + " |", "|" + "---|" * len(head)]
-    return "\n".join([*lines, *("| " + " | ".join(map(str, row)) + " |" for row in rows)])
+    lines = ["| " + " | ".join(map(cell, head)) + " |", "|" + "---|" * len(head)]
+    return "\n".join([*lines, *("| " + " | ".join(map(cell, row)) + " |" for row in rows)])

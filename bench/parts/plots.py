@@ -1,18 +1,35 @@
-"""Pictures of the results as SVG, written with the standard library alone."""
+"""Pictures of the results as SVG, written with the standard library alone.
+
+A picture has the colours of a light page as attributes, and a style that has those of a dark one instead.
+"""
 
 import html
 import math
+import pathlib
+import re
 
 import inputs
 import numbers_of as told
 import programs
 
-# The colours of the page (page/style.css), which people who see few colours tell apart (after Okabe and Ito).
-COLOURS = dict(zip(programs.ENGINES, ("#d55e00", "#0072b2", "#007a5a", "#b3508c"), strict=True))
-INK, PALE = "#333", "#ddd"
+STYLE = pathlib.Path(__file__).resolve().parents[2] / "page/style.css"
 
+
+def palette(theme):
+    """The page's colours in a theme, by name."""
+    block = re.search(rf'data-theme="{theme}"\] \{{(.*?)\}}', STYLE.read_text(encoding="utf-8"), re.DOTALL)
+    return dict(re.findall(r"--([\w-]+): (#\w+);", block[1]))
+
+
+LIGHT, DARKER = palette("light"), palette("dark")
+# People who see few colours tell them apart (after Okabe and Ito).
+COLOURS = {engine: LIGHT[engine] for engine in programs.ENGINES}
+INK, PALE, PAPER = LIGHT["ink"], LIGHT["line"], "#ffffff"
 # In the picture of taken states one state for each cell has a colour of its own: its dots are too small to be rings.
-TAKEN_COLOURS = {("plain", "arrival"): "#d55e00", ("block", "arrival"): "#007a5a", ("block", "cell"): "#56b4e9"}
+SKY = "#2b8fc9"
+TAKEN_COLOURS = {("plain", "arrival"): COLOURS["plain"], ("block", "arrival"): COLOURS["block"], ("block", "cell"): SKY}
+# The colour on a dark page in place of each one.
+DARK = {LIGHT[name]: DARKER[name] for name in (*programs.ENGINES, "ink", "line")} | {PAPER: DARKER["back"], SKY: "#56b4e9"}
 MOST_DOTS = 150
 
 
@@ -47,6 +64,16 @@ class Panel:
     def text(self, x, y, words, anchor="start"):
         self.parts.append(f'<text x="{x}" y="{y}" text-anchor="{anchor}">{html.escape(words)}</text>')
 
+    def axis_across(self, words):
+        left, top, width, height = self.box
+        self.text(left + width / 2, top + height + 34, words, "middle")
+
+    def axis_down(self, words, room):
+        """What goes upwards, so many pixels left of the box."""
+        left, top, _, height = self.box
+        turned = f'transform="translate({left - room} {top + height / 2}) rotate(-90)"'
+        self.parts.append(f'<text {turned} text-anchor="middle">{html.escape(words)}</text>')
+
     def dot(self, across, down, colour, size=4, hollow=False):
         x, y = self.place(across, 0), self.place(down, 1)
         fill = "none" if hollow else colour
@@ -74,11 +101,28 @@ def powers(low, high):
     return [10.0**power for power in range(first, max(last, first + 1) + 1)]
 
 
-def svg(width, height, parts):
-    head = f'<svg xmlns="http://www.w3.org/2000/svg" viewBox="0 0 {width} {height}" width="{width}" height="{height}"'
+def tick(power):
+    """A power of ten seconds, as an axis tells it."""
+    return told.tick(power).replace(" us", " µs")
+
+
+def dark_style(parts, dark):
+    """The style that holds on a dark page, for the colours that stand in these parts."""
+    lines = [f'[{name}="{light}"]{{{name}:{colour}}}'
+             for light, colour in dark.items() for name in ("fill", "stroke") if any(f'{name}="{light}"' in it for it in parts)]
+    return f"<style>@media (prefers-color-scheme:dark){{{''.join(lines)}}}</style>"
+
+
+def svg(width, height, title, parts, dark=None):
+    """A picture below its title, which is read out too."""
+    size = f'viewBox="0 0 {width} {height}" width="{width}" height="{height}"'
+    head = f'<svg xmlns="http://www.w3.org/2000/svg" {size} role="img"'
     font = f'font-family="sans-serif" font-size="12" fill="{INK}"'
-    paper = '<rect width="100%" height="100%" fill="white"/>'
-    return "\n".join([f"{head} {font}>", paper, *parts, "</svg>\n"])
+    paper = f'<rect width="100%" height="100%" fill="{PAPER}"/>'
+    above = f'<text x="20" y="24" font-size="14" font-weight="bold">{html.escape(title)}</text>'
+    named = f"<title>{html.escape(title)}</title>"
+    style = dark_style([font, paper, *parts], {**DARK, **(dark or {})})
+    return "\n".join([f"{head} {font}>", named, style, paper, above, *parts, "</svg>\n"])
 
 
 def legend(panel, rows, x, y, marks="dot"):
@@ -103,17 +147,18 @@ def times_picture(results):
     values = [told.median(row["per_query"]) for row in rows]
     ticks = powers(min(values), max(values))
     height = 34 * len(names)
-    panel = Panel(300, 40, 480, height, (ticks[0], ticks[-1]), (0, len(names)), (True, False))
-    for tick in ticks:
-        panel.line_down(tick, told.tick(tick))
+    panel = Panel(300, 66, 480, height, (ticks[0], ticks[-1]), (0, len(names)), (True, False))
+    for value in ticks:
+        panel.line_down(value, tick(value))
     for place, name in enumerate(names):
         panel.line_across(len(names) - place - 0.5, short_name(name))
         for row in rows:
             if row["map"] == name:
                 value, hollow = told.median(row["per_query"]), row["states"] == "cell"
                 panel.dot(value, len(names) - place - 0.5, COLOURS[row["engine"]], 5, hollow)
-    legend(panel, rows, 40, 22)
-    return svg(810, height + 75, panel.parts)
+    legend(panel, rows, 30, 48)
+    panel.axis_across("mean processor time of a query")
+    return svg(810, height + 110, "Time of a query, by map and engine", panel.parts)
 
 
 def growth_picture(results):
@@ -122,9 +167,9 @@ def growth_picture(results):
     sides = sorted({inputs.GROWTH[row["map"]] for row in rows})
     values = [told.median(row["per_query"]) for row in rows]
     ticks = powers(min(values), max(values))
-    panel = Panel(70, 40, 560, 320, (sides[0] * 0.9, sides[-1] * 1.1), (ticks[0], ticks[-1]), (True, True))
-    for tick in ticks:
-        panel.line_across(tick, told.tick(tick))
+    panel = Panel(90, 66, 690, 320, (sides[0] * 0.9, sides[-1] * 1.1), (ticks[0], ticks[-1]), (True, True))
+    for value in ticks:
+        panel.line_across(value, tick(value))
     for side in sides:
         panel.line_down(side, f"{side} x {side}")
     for engine, states in dict.fromkeys((row["engine"], row["states"]) for row in rows):
@@ -133,8 +178,10 @@ def growth_picture(results):
         panel.curve(points, COLOURS[engine], "5 3" if states == "cell" else "")
         for point in points:
             panel.dot(*point, COLOURS[engine], 3, states == "cell")
-    legend(panel, rows, 30, 22, "line")
-    return svg(810, 390, panel.parts)
+    legend(panel, rows, 30, 48, "line")
+    panel.axis_across("cells of the map")
+    panel.axis_down("mean processor time of a query", 64)
+    return svg(810, 432, "Time of a query on cities of five sizes", panel.parts)
 
 
 def short_number(value):
@@ -151,8 +198,8 @@ def taken_panel(name, rows, left, top):
     ticks = powers(1, max(count for _, count in points))
     longest = max(length for length, _ in points) or 1
     panel = Panel(left, top, 200, 140, (0, longest), (1, ticks[-1]))
-    for tick in ticks:
-        panel.line_across(tick, short_number(tick))
+    for value in ticks:
+        panel.line_across(value, short_number(value))
     for share in (0, 0.5, 1):
         panel.line_down(longest * share, f"{longest * share:,.0f}")
     panel.text(left, top - 6, short_name(name))
@@ -167,18 +214,21 @@ def taken_picture(results):
     rows = [row for row in results["taken"] if any(count > 0 for _, count in row["points"])]
     names, columns, parts = list(dict.fromkeys(row["map"] for row in rows)), 3, []
     for place, name in enumerate(names):
-        left, top = 45 + place % columns * 262, 65 + place // columns * 205
+        left, top = 62 + place % columns * 258, 82 + place // columns * 205
         parts += taken_panel(name, [row for row in rows if row["map"] == name], left, top)
     key = Panel(0, 0, 0, 0, (0, 1), (0, 1), (False, False))
     key.parts = []
-    x = 20
+    x = 26
     for engine, states in dict.fromkeys((row["engine"], row["states"]) for row in rows):
         words = f"{engine}, a state a cell" if states == "cell" else engine
-        key.parts.append(f'<circle cx="{x}" cy="20" r="4" fill="{TAKEN_COLOURS[engine, states]}"/>')
-        key.text(x + 12, 24, words)
+        key.parts.append(f'<circle cx="{x}" cy="44" r="4" fill="{TAKEN_COLOURS[engine, states]}"/>')
+        key.text(x + 12, 48, words)
         x += 32 + 7 * len(words)
-    key.text(x + 20, 24, "upwards: taken states; to the right: length of the walk")
-    return svg(810, 65 + 205 * -(-len(names) // columns), [*key.parts, *parts])
+    bottom = 82 + 205 * -(-len(names) // columns)
+    key.text(405, bottom - 14, "length of the walk", "middle")
+    turned = f'transform="translate(16 {bottom / 2}) rotate(-90)" text-anchor="middle"'
+    key.parts.append(f"<text {turned}>taken states of a query</text>")
+    return svg(810, bottom, "Taken states against the length of the walk, by map", [*key.parts, *parts])
 
 
 PICTURES = {
@@ -193,6 +243,6 @@ def write_pictures(results, folder):
     written = {}
     for part, (name, draw) in PICTURES.items():
         if results.get(part):
-            (folder / name).write_text(draw(results))
+            (folder / name).write_text(draw(results), encoding="utf-8")
             written[part] = name
     return written
