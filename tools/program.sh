@@ -248,7 +248,7 @@ why_not_handed() {
 tell_proved() {
     local kit
     read -r _ _ kit <"$made"
-    echo "proved and built from these sources: $(realpath -- "$program")"
+    echo "proved and built from these sources: $(readlink -f -- "$program")"
     if ! read_manifest; then
         echo "there is no program in dist/"
     elif [ "${told[sources]-}" != "$sources" ]; then
@@ -290,7 +290,8 @@ find_program() {
         1,--version) answer_from version_text ;;
     esac
     [ "$(uname -sm)" = "Linux x86_64" ] ||
-        fail "no program in dist/ is for $(uname -sm) and these sources, and Rattle's kit needs Linux on x86-64"
+        fail "no program in dist/ is for $(uname -sm) and these sources (edge/README.md says what runs where), and" \
+            "Rattle's kit needs Linux on x86-64"
     take_lock
     if ! look; then
         build
@@ -311,7 +312,7 @@ main() {
     find_program "$@"
     trap - EXIT
     if [ "$#,${1-}" = 1,--program ]; then
-        realpath -- "$program"
+        readlink -f -- "$program"
         exit 0
     fi
     if [ "$is_silent" ]; then exec 2>&-; fi
