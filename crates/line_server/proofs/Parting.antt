@@ -38,18 +38,17 @@ use Rattle.line_server.specs.Answers.{near_line, nearest_by}
 use Rattle.line_server.specs.Joined.{KnowsJoined}
 
 -- the grid of a query, by whether it starts in water
-pub in-water : (ls : Layers) (s : Cell) (b : Bool) → b ≡ is_free ls.water s → b ≡ true → query_grid ls s ≡ ls.water
-in-water ls s b is here = cond-true (is_free ls.water s) ls.water ls.land (sym is ∙ here)
+pub water-grid : (ls : Layers) (s : Cell) (water : GridData) (b : Bool) → water ≡ ls.water → b ≡ is_free water s
+    → b ≡ true → query_grid ls s ≡ water
+water-grid ls s water b are is here =
+    cond-true (is_free ls.water s) ls.water ls.land
+    (ap (λ (g : GridData). is_free g s) (sym are) ∙ sym is ∙ here) ∙ sym are
 
-pub on-land : (ls : Layers) (s : Cell) (b : Bool) → b ≡ is_free ls.water s → b ≡ false → query_grid ls s ≡ ls.land
-on-land ls s b is here = cond-false (is_free ls.water s) ls.water ls.land (sym is ∙ here)
-
--- fresh labels tell whether cells are joined on that grid
-pub joined-there : (g k : GridData) (p : KeptLabels) → Tells k p → p.fresh ≡ true → g ≡ k → (s t : Cell) (b : Bool)
-    → b ≡ are_joined p.labels s t → IsTrue b ↔ IsJoined g s t
-joined-there g k p tells fresh same s t b is =
-    subst (λ (h : GridData). IsTrue b ↔ IsJoined h s t) (sym same)
-    (subst (λ (c : Bool). IsTrue c ↔ IsJoined k s t) (sym is) ((tells.joined fresh).joined s t))
+pub land-grid : (ls : Layers) (s : Cell) (land water : GridData) (b : Bool) → land ≡ ls.land → water ≡ ls.water
+    → b ≡ is_free water s → b ≡ false → query_grid ls s ≡ land
+land-grid ls s land water b on are is off =
+    cond-false (is_free ls.water s) ls.water ls.land
+    (ap (λ (g : GridData). is_free g s) (sym are) ∙ sym is ∙ off) ∙ sym on
 
 -- the reply of an engine is a walk exactly where one leads
 module _ (engine : Engine) (ls : Layers) (are : AreLayers ls) (s : Cell) where
