@@ -110,7 +110,7 @@ impl JoinedSession {
         ensures edited { AddsEdit self.old.layers (edit_at x y to) self.new.layers }
         ensures engine { self.new.engine ≡ self.old.engine }
     {
-        let Some(c) = self.session.cell_at(x, y) else {
+        let Some(c) = self.session.layers().cell_at(x, y) else {
             return self.session.edit(x, y, to, steps);
         };
         match self.session.edit(x, y, to, steps) {
