@@ -223,7 +223,7 @@ serving-begun first old text piece before at h = record {
   served = subst (λ (t : List ℕ). HasServed first old t before at) (sym (append-nil text)) h;
 }
 
-with_feed : LineServer → LineFeed → LineServer
+abbrev pub with_feed : LineServer → LineFeed → LineServer
 with_feed s feed = record { session = s.session; show = s.show; feed = feed }
 
 module _ (first old : LineServer) (text piece left : List ℕ) (before at : Outflow)
@@ -243,16 +243,19 @@ module _ (first old : LineServer) (text piece left : List ℕ) (before at : Outf
   module _ {T E : Type 0} (line : FedLine) (rest : List ℕ)
       (c : (t : List ℕ) → HasTaken old.feed t → CompletesLine t left feed line rest) (new : LineServer) (now : Outflow)
       (result : Result T E) (one : AnswersOne (with_feed old feed) new (asked_by line) at now result) where
-    its : CompletesLine (text ++ s.eaten) left feed line rest
+    abbrev its : CompletesLine (text ++ s.eaten) left feed line rest
     its = c (text ++ s.eaten) s.served.fed
 
-    eaten : List ℕ
-    eaten = s.eaten ++ its.head ++ 10 ∷ []
+    abbrev eaten : List ℕ
+    eaten = s.eaten ++ (its.head ++ 10 ∷ [])
+
+    moved : (text ++ s.eaten) ++ its.head ++ 10 ∷ [] ≡ text ++ eaten
+    moved = append_assoc (text ++ s.eaten) its.head (10 ∷ []) ∙ append_assoc text s.eaten (its.head ++ 10 ∷ [])
 
     lines-are : all_asked (whole_lines (text ++ eaten))
         ≡ all_asked (whole_lines (text ++ s.eaten)) ++ asked_by line ∷ []
     lines-are =
-        ap (λ (t : List ℕ). all_asked (whole_lines t)) (sym (append_assoc text s.eaten (its.head ++ 10 ∷ [])))
+        ap (λ (t : List ℕ). all_asked (whole_lines t)) (sym moved)
         ∙ asked-more (text ++ s.eaten) (whole_lines ((text ++ s.eaten) ++ its.head ++ 10 ∷ [])) line its.completed
 
     parts : piece ≡ eaten ++ rest
@@ -265,7 +268,7 @@ module _ (first old : LineServer) (text piece left : List ℕ) (before at : Outf
       parted = parts;
       served = record {
         fed = subst (λ (f : LineFeed). HasTaken f (text ++ eaten)) (sym same)
-            (subst (λ (t : List ℕ). HasTaken feed t) (append_assoc text s.eaten (its.head ++ 10 ∷ [])) its.taken);
+            (subst (λ (t : List ℕ). HasTaken feed t) moved its.taken);
         answered = subst (λ (l : List Asked). HaveAnswered first new l before now) (sym lines-are)
             (answered-more first (with_feed old feed) new (all_asked (whole_lines (text ++ s.eaten))) (asked_by line)
             before at now result stands one wrote);
