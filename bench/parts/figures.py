@@ -5,11 +5,11 @@ time, and nothing else of a page is touched. Parts that a run has not measured s
 """
 
 import re
+import tick_phases
 
 import inputs
 import numbers_of as told
 import plots
-import tick_phases
 
 ENGINES = ("plain", "jps", "block", "plus")
 JUMPS = ENGINES[1:]
@@ -750,14 +750,14 @@ def speed_blocks(results, pictures):
         blocks["pipe"] = pipe_text(results)
     if has("open_land"):
         blocks["open_land"] = open_land_text(results)
-    if has("ticks"):
-        blocks["ticks"] = ticks_text(results)
     if has("dearest"):
         blocks["dearest"] = dearest_text(results)
     if has("elsewhere") and results["elsewhere"]["rows"]:
         blocks["elsewhere"] = elsewhere_text(results)
     if has("growth"):
         blocks["growth"] = growth_text(pictures)
+    if has("ticks"):
+        blocks["ticks"] = ticks_text(results)
     if has("taken"):
         words = "How many states `plain` and `block` take, by the length of the walk; those of all queries together: "
         words += "[FIGURES](../bench/FIGURES.md#taken-states)."
