@@ -5,12 +5,12 @@ time, and nothing else of a page is touched. Parts that a run has not measured s
 """
 
 import re
+import tick_phases
 
 import inputs
 import numbers_of as told
 import plots
 import programs
-import tick_phases
 
 ENGINES, JUMPS = programs.ENGINES, programs.JUMPS
 MOST = 1.15                              # above this the part of the open list is told
@@ -729,6 +729,8 @@ def speed_blocks(results, pictures):
         blocks["elsewhere"] = elsewhere_text(results)
     if has("growth"):
         blocks["growth"] = growth_text(pictures)
+    if has("ticks"):
+        blocks["ticks"] = ticks_text(results)
     if has("taken"):
         words = "How many states `plain` and `block` take, by the length of the walk; those of all queries together: "
         words += "[FIGURES](../bench/FIGURES.md#taken-states)."

@@ -223,7 +223,7 @@ serving-begun first old text piece before at h = record {
   served = subst (λ (t : List ℕ). HasServed first old t before at) (sym (append-nil text)) h;
 }
 
-with_feed : LineServer → LineFeed → LineServer
+abbrev pub with_feed : LineServer → LineFeed → LineServer
 with_feed s feed = record { session = s.session; show = s.show; feed = feed }
 
 module _ (first old : LineServer) (text piece left : List ℕ) (before at : Outflow)
@@ -239,21 +239,25 @@ module _ (first old : LineServer) (text piece left : List ℕ) (before at : Outf
     later = s.served.answered.later;
   }
 
-  -- a line is whole
+  -- a line is whole, and what it asks is answered
   module _ {T E : Type 0} (line : FedLine) (rest : List ℕ)
-      (c : (t : List ℕ) → HasTaken old.feed t → CompletesLine t left feed line rest) (new : LineServer) (now : Outflow)
-      (result : Result T E) (one : AnswersOne (with_feed old feed) new (asked_by line) at now result) where
-    its : CompletesLine (text ++ s.eaten) left feed line rest
+      (c : (t : List ℕ) → HasTaken old.feed t → CompletesLine t left feed line rest) (a : Asked) (is : a ≡ asked_by line)
+      (new : LineServer) (now : Outflow) (result : Result T E)
+      (one : AnswersOne (with_feed old feed) new a at now result) where
+    abbrev its : CompletesLine (text ++ s.eaten) left feed line rest
     its = c (text ++ s.eaten) s.served.fed
 
-    eaten : List ℕ
-    eaten = s.eaten ++ its.head ++ 10 ∷ []
+    abbrev eaten : List ℕ
+    eaten = s.eaten ++ (its.head ++ 10 ∷ [])
 
-    lines-are : all_asked (whole_lines (text ++ eaten))
-        ≡ all_asked (whole_lines (text ++ s.eaten)) ++ asked_by line ∷ []
+    moved : (text ++ s.eaten) ++ its.head ++ 10 ∷ [] ≡ text ++ eaten
+    moved = append_assoc (text ++ s.eaten) its.head (10 ∷ []) ∙ append_assoc text s.eaten (its.head ++ 10 ∷ [])
+
+    lines-are : all_asked (whole_lines (text ++ eaten)) ≡ all_asked (whole_lines (text ++ s.eaten)) ++ a ∷ []
     lines-are =
-        ap (λ (t : List ℕ). all_asked (whole_lines t)) (sym (append_assoc text s.eaten (its.head ++ 10 ∷ [])))
+        ap (λ (t : List ℕ). all_asked (whole_lines t)) (sym moved)
         ∙ asked-more (text ++ s.eaten) (whole_lines ((text ++ s.eaten) ++ its.head ++ 10 ∷ [])) line its.completed
+        ∙ ap (λ (b : Asked). all_asked (whole_lines (text ++ s.eaten)) ++ b ∷ []) (sym is)
 
     parts : piece ≡ eaten ++ rest
     parts = s.parted ∙ ap (λ (l : List ℕ). s.eaten ++ l) (its.parted ∙ sym (append_assoc its.head (10 ∷ []) rest))
@@ -265,10 +269,10 @@ module _ (first old : LineServer) (text piece left : List ℕ) (before at : Outf
       parted = parts;
       served = record {
         fed = subst (λ (f : LineFeed). HasTaken f (text ++ eaten)) (sym same)
-            (subst (λ (t : List ℕ). HasTaken feed t) (append_assoc text s.eaten (its.head ++ 10 ∷ [])) its.taken);
+            (subst (λ (t : List ℕ). HasTaken feed t) moved its.taken);
         answered = subst (λ (l : List Asked). HaveAnswered first new l before now) (sym lines-are)
-            (answered-more first (with_feed old feed) new (all_asked (whole_lines (text ++ s.eaten))) (asked_by line)
-            before at now result stands one wrote);
+            (answered-more first (with_feed old feed) new (all_asked (whole_lines (text ++ s.eaten))) a before at now
+            result stands one wrote);
       };
     }
 
@@ -276,8 +280,8 @@ module _ (first old : LineServer) (text piece left : List ℕ) (before at : Outf
         → HaveStopped first (all_asked (whole_lines (text ++ piece))) before now
     serving-stopped wrote =
         let more = whole-grow (text ++ eaten) rest in
-        stopped-more first (with_feed old feed) new (all_asked (whole_lines (text ++ s.eaten))) (asked_by line)
-        before at now result stands one more.0 (all_asked (whole_lines (text ++ piece)))
+        stopped-more first (with_feed old feed) new (all_asked (whole_lines (text ++ s.eaten))) a before at now result
+        stands one more.0 (all_asked (whole_lines (text ++ piece)))
         (ap (λ (t : List ℕ). all_asked (whole_lines t))
         (ap (λ (p : List ℕ). text ++ p) parts ∙ sym (append_assoc text eaten rest))
         ∙ more.1 ∙ ap (λ (l : List Asked). l ++ more.0) lines-are) wrote
@@ -315,17 +319,21 @@ module _ (first old : LineServer) (text : List ℕ) (before at : Outflow) (h : H
   ended-none is = subst (λ (l : List FedLine). HaveAnswered first (with_feed old feed) (all_asked l) before at)
       (sym (is ∙ append-nil (whole_lines text))) ended
 
-  pub ended-one : {T E : Type 0} (line : FedLine) → (lines_of text ≡ whole_lines text ++ line ∷ [])
-      → (new : LineServer) (now : Outflow) (result : Result T E)
-      → AnswersOne (with_feed old feed) new (asked_by line) at now result
-      → MatchResult result (λ _. HaveAnswered first new (all_asked (lines_of text)) before now)
-      (λ _. HaveStopped first (all_asked (lines_of text)) before now)
-  ended-one line is new now (Ok done) one =
-      subst (λ (l : List Asked). HaveAnswered first new l before now) (sym (asked-more text (lines_of text) line is))
-      (answered-more first (with_feed old feed) new (all_asked (whole_lines text)) (asked_by line) before at now
-      (Ok done) ended one one.wrote)
-  ended-one line is new now (Err error) one =
-      stopped-more first (with_feed old feed) new (all_asked (whole_lines text)) (asked_by line) before at now
-      (Err error) ended one [] (all_asked (lines_of text))
-      (asked-more text (lines_of text) line is
-      ∙ sym (append-nil (all_asked (whole_lines text) ++ asked_by line ∷ []))) one.wrote
+  module _ (line : FedLine) (last : lines_of text ≡ whole_lines text ++ line ∷ []) (a : Asked) (is : a ≡ asked_by line)
+  where
+    lines-are : all_asked (lines_of text) ≡ all_asked (whole_lines text) ++ a ∷ []
+    lines-are = asked-more text (lines_of text) line last
+        ∙ ap (λ (b : Asked). all_asked (whole_lines text) ++ b ∷ []) (sym is)
+
+    pub ended-one : {T E : Type 0} (new : LineServer) (now : Outflow) (result : Result T E)
+        → AnswersOne (with_feed old feed) new a at now result
+        → MatchResult result (λ _. HaveAnswered first new (all_asked (lines_of text)) before now)
+        (λ _. HaveStopped first (all_asked (lines_of text)) before now)
+    ended-one new now (Ok done) one =
+        subst (λ (l : List Asked). HaveAnswered first new l before now) (sym lines-are)
+        (answered-more first (with_feed old feed) new (all_asked (whole_lines text)) a before at now (Ok done) ended
+        one one.wrote)
+    ended-one new now (Err error) one =
+        stopped-more first (with_feed old feed) new (all_asked (whole_lines text)) a before at now (Err error) ended
+        one [] (all_asked (lines_of text))
+        (lines-are ∙ sym (append-nil (all_asked (whole_lines text) ++ a ∷ []))) one.wrote

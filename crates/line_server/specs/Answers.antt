@@ -110,7 +110,8 @@ abbrev walks_left : Replies
 walks_left ls s t =
     if nat_lt t.x 2 then reply.Walk (s ∷ t ∷ []) (record { a = 1; b = 0 }) [] else reply.None []
 
-pub near_the_block : answer_to walks_left Points row_of_five (asked.Near 0 0 4 0) ≡ codes "walk 1 0 0,0 1,0\n"
+pub near_the_block : answer_to walks_left Points row_of_five (asked.Near 0 0 4 0)
+    ≡ query_line walks_left Points row_of_five (cell_at 0 0) (cell_at 1 0)
 unfolding nearest_of first_nearest
 near_the_block = refl
 

@@ -5,6 +5,7 @@ use Rattle.std.specs.Option.{option_map, option_map_or}
 use Rattle.std.specs.Str.{bytes_eq}
 use Rattle.grid_moves.specs.declared.Ground.TheVariants as ground
 use Rattle.text_line.specs.Fields.{fields_of}
+use Rattle.text_line.specs.Numbers.{number_of}
 use Rattle.line_feed.specs.declared.feed.FedLine.{FedLine}
 use Rattle.line_feed.specs.declared.feed.FedLine.TheVariants.{TooLong, Bytes}
 use Rattle.edit_replay.specs.Edited.{Edit, edit_at}
@@ -57,18 +58,23 @@ pub of_blanks : asked_in (fields_of (codes " \t")) ≡ asked.Nothing
 of_blanks = refl
 
 pub near_four : asked_in (fields_of (codes "near 1 02 3 4")) ≡ asked.Near 1 2 3 4
+unfolding number_of
 near_four = refl
 
 pub near_three : asked_in (fields_of (codes "near 1 2 3")) ≡ asked.Refused
+unfolding number_of
 near_three = refl
 
 pub a_field : asked_in (fields_of (codes "field 7 8")) ≡ asked.Field 7 8
+unfolding number_of
 a_field = refl
 
 pub flooded : asked_in (fields_of (codes "flood 7 8 ")) ≡ asked.Edit 7 8 ground.Water
+unfolding number_of
 flooded = refl
 
 pub no_sign : asked_in (fields_of (codes "query 0 0 -1 2")) ≡ asked.Refused
+unfolding number_of
 no_sign = refl
 
 pub a_note : asked_in (fields_of (codes "# note")) ≡ asked.Refused

@@ -1,6 +1,7 @@
 //! A session that knows which cells are joined.
 
 ghost use Rattle.std.specs.Prelude.{◌≡◌, ◌↔◌, IfOk, IsTrue, codes, true};
+ghost use Rattle.grid_moves.specs.Grid.{is_free, is_inside};
 ghost use Rattle.grid_moves.specs.Layers as spec;
 ghost use Rattle.joined_cells.specs.Joined.{IsJoined};
 ghost use Rattle.nearest_cell.specs.Nearest.{IsNearest};
@@ -53,13 +54,36 @@ fn freshen(labels: &mut Components, grid: &Grid)
     }
 }
 
+// Whether a walk leads from one cell to the other.
+fn joined_on(labels: &mut Components, grid: &Grid, s: Cell, t: Cell) -> bool
+    requires { Tells grid.now labels.old }
+    ensures tells { Tells grid.now labels.new }
+    ensures joined { IsTrue result ↔ IsJoined grid.now s t }
+{
+    freshen(labels, grid);
+    labels.joined(s, t)
+}
+
+// The nearest cell to a goal of the map to which a walk leads.
+fn nearest_on(labels: &mut Components, grid: &Grid, s: Cell, goal: Cell) -> Cell
+    requires tells { Tells grid.now labels.old }
+    requires free { is_free grid.now s ≡ true }
+    requires goal { is_inside grid.now goal ≡ true }
+    ensures tells { Tells grid.now labels.new }
+    ensures nearest { IsNearest grid.now s goal result }
+{
+    freshen(labels, grid);
+    nearest(labels, s, goal)
+}
+
 impl JoinedSession {
     /// All memory that is kept for the labels is taken here.
     pub(crate) fn new(alloc: Global, session: Session) -> Result<JoinedSession, NoMemory>
-        ensures { IfOk result (λ s. s ≡ session.now) }
+        ensures { IfOk result (λ s. s ≡ session) }
     {
-        let land = Components::of(alloc, session.layers().land())?;
-        let water = Components::of(alloc, session.layers().water())?;
+        let (land, water) = session.layers().both();
+        let land = Components::of(alloc, land)?;
+        let water = Components::of(alloc, water)?;
         Ok(JoinedSession {
             session,
             land,
@@ -86,7 +110,7 @@ impl JoinedSession {
         ensures edited { AddsEdit self.old.layers (edit_at x y to) self.new.layers }
         ensures engine { self.new.engine ≡ self.old.engine }
     {
-        let Some(c) = self.session.cell_at(x, y) else {
+        let Some(c) = self.session.layers().cell_at(x, y) else {
             return self.session.edit(x, y, to, steps);
         };
         match self.session.edit(x, y, to, steps) {
@@ -105,13 +129,11 @@ impl JoinedSession {
         ensures joined { IsTrue result ↔ IsJoined (spec.query_grid self.old.layers s) s t }
         ensures unchanged { self.new ≡ self.old }
     {
-        let layers = self.session.layers();
-        if layers.water().free(s) {
-            freshen(&mut self.water, layers.water());
-            self.water.joined(s, t)
+        let (land, water) = self.session.layers().both();
+        if water.free(s) {
+            joined_on(&mut self.water, water, s, t)
         } else {
-            freshen(&mut self.land, layers.land());
-            self.land.joined(s, t)
+            joined_on(&mut self.land, land, s, t)
         }
     }
 
@@ -122,13 +144,11 @@ impl JoinedSession {
         ensures nearest { IsNearest (spec.query_grid self.old.layers s) s goal result }
         ensures unchanged { self.new ≡ self.old }
     {
-        let layers = self.session.layers();
-        if layers.water().free(s) {
-            freshen(&mut self.water, layers.water());
-            nearest(&self.water, s, goal)
+        let (land, water) = self.session.layers().both();
+        if water.free(s) {
+            nearest_on(&mut self.water, water, s, goal)
         } else {
-            freshen(&mut self.land, layers.land());
-            nearest(&self.land, s, goal)
+            nearest_on(&mut self.land, land, s, goal)
         }
     }
 

@@ -48,7 +48,7 @@ fn write_made<O: Sink>(out: &mut O, text: Result<Vec<u8>, NoMemory>) -> Result<(
 impl LineServer {
     /// A server to which nothing came, with all memory that it keeps.
     pub fn new(alloc: Global, session: Session, show: Show) -> Result<LineServer, NoMemory>
-        ensures session { IfOk result (λ s. s.session ≡ session.now) }
+        ensures session { IfOk result (λ s. s.session ≡ session) }
         ensures show { IfOk result (λ s. s.show ≡ show) }
         ensures begun { IfOk result (λ s. (out : _) → HasServed s s [] out out) }
     {

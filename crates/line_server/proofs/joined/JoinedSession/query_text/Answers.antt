@@ -4,5 +4,5 @@ use Rattle.line_server.proofs.joined.JoinedSession.query_text.Goals as goal
 
 pub put_reply-requires-clause-unfolds : goal.put_reply-requires-clause-unfolds
 put_reply-requires-clause-unfolds g c =
-    reply-unfolds c.args.self.now.engine c.args.self.now.layers (cell_at c.args.sx c.args.sy)
+    reply-unfolds c.self.inside.session.engine c.self.inside.session.layers (cell_at c.args.sx c.args.sy)
     (cell_at c.args.gx c.args.gy) c.in_ok-reply.reply c.in_ok-reply.ensures.function

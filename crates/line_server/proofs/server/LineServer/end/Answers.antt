@@ -1,0 +1,10 @@
+use Rattle.std.proofs.Common.{List, ℕ}
+use Rattle.io_edge.specs.Known.{Outflow}
+use Rattle.line_server.proofs.Serving.{ended-one}
+use Rattle.line_server.proofs.server.LineServer.end.Goals as goal
+
+pub returns-in-Some : goal.returns-in-Some
+returns-in-Some g c = λ first text before h.
+    ended-one first c.args.self.now text before (g.O.Sink.outflow c.args.out.now) h c.end.new.self c.in-Some.line
+    (c.in-Some.ensures.last text h.fed) c.by.result c.by.ensures c.answer.new.self
+    (g.O.Sink.outflow c.answer.new.out) c.answer.result c.answer.ensures.answered
