@@ -465,3 +465,21 @@ def quick_engines(has_states):
     """Those that answer at once where much land is open: not `jps`, which looks at each cell."""
     every = engines(has_states)
     return {family: [words for words in group if words[0] != "engine=jps"] for family, group in every.items()}
+
+
+def judge_entries(runner, it, rule, ends, scen):
+    """The walks that an engine prints of a scenario's entries, and none told of each."""
+    script, walks = it.path.with_suffix(f".{rule}.ends"), it.path.with_suffix(f".{rule}.walks")
+    script.write_bytes(b"".join(b"query " + line + b"\n" for line in ends))
+    words, number = ["judge", it.path, scen, walks, f"rule={rule}"], len(ends)
+    for engine in ["plain", "block"]:
+        text = runner.start("solve", it.path, script, f"engine={engine}", f"rule={rule}").result()
+        walks.write_bytes(walks_of(text))
+        rows = runner.start(*words).result().splitlines()
+        wanted = [b"row %d accepted " % k + line[5:] for k, line in enumerate(bare(text)[:-1], 1)]
+        wanted.append(b"sum %d accepted %d refused 0 other 0" % (number, number))
+        runner.need(rows == wanted, f"the walks that {engine} prints, and the sum {rows[-1:]}", words)
+    walks.write_bytes(b"none\n" * number)
+    rows = runner.start(*words, status=1).result().splitlines()
+    is_so = rows[-1] == b"sum %d accepted 0 refused %d other 0" % (number, number)
+    runner.need(is_so, f"none told of each, and the sum {rows[-1:]}", words)
