@@ -45,7 +45,7 @@ const asker = new api.LastAsked(async ({ keep, isShort: isThisShort }, signal) =
     hideBanner();
     tell("answer");
     clearTimeout(restClock);
-    if (isThisShort && state.showStates) restClock = setTimeout(() => canAsk() && asker.ask({ keep: false, isShort: false }), REST);
+    if (isThisShort && state.showStates) restClock = setTimeout(askWhole, REST);
   } catch (fault) {
     if (fault.name === "AbortError" && asker.isPast) return;
     state.answer = null;
@@ -54,6 +54,10 @@ const asker = new api.LastAsked(async ({ keep, isShort: isThisShort }, signal) =
     else showBanner(...faultWords(fault));
   }
 });
+
+function askWhole() {
+  if (canAsk() && !state.compare) asker.ask({ keep: false, isShort: false });
+}
 
 /** Asks the program; while an end is dragged the answer is not kept in the script. */
 export function ask(keep = true) {
@@ -228,7 +232,10 @@ export function beginQuery() {
   });
   addEventListener("pagehide", () => addressClock && showAddress());
   on("answer", showAnswer);
-  on("stop", () => asker.stop());
+  on("stop", () => {
+    clearTimeout(restClock);
+    asker.stop();
+  });
   on("leave", () => asker.drop());
   on("changed", () => ask());
   on("map", () => {

@@ -10,8 +10,9 @@ import time
 import maps
 from programs import Fault, Gone, Live
 
-# A page that is closed is known by its stream; one that never opened the stream, or lost it, is given this long.
-SECONDS_WITHOUT_STREAM = 15
+# A page that is closed is known by its stream; one that never opened the stream, or lost it, is given this long: a busy
+# browser takes its time.
+SECONDS_WITHOUT_STREAM = 60
 MOST_EDITS = 4_000_000
 MOST_CERTIFICATE = 1 << 28
 # Tables of `plus` are mended at each edit; behind this many a process that makes them anew is quicker.

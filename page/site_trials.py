@@ -144,8 +144,9 @@ def replaced(tried):
     """A map that takes the place of another one in the midst of a query: the query is given up without a word."""
     browser = tried.browser
     path = tried.folder / "replaced.map"
-    path.write_text(tried.jps("make", 9, 2048, 2048, 25))
-    ends = tried.jps("problems", path, 9, 40).splitlines()[-1].split("\t")[4:8]
+    path.write_text(tried.jps("make", 9, 2048, 2048, 15))
+    cells = path.read_text().split("\n", 4)[4].replace("\n", "")
+    ends = [str(part) for at in (cells.find("."), cells.rfind(".")) for part in (at % 2048, at // 2048)]
     for form, begin in (("server", tried.serve), ("site", tried.site)):
         begin(path, hash_words="#" + ",".join([*ends, "plain", "none"]))
         tried.shown()

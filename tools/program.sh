@@ -93,7 +93,8 @@ is_handed() {
         [ "$(sum_of "$handed" 2>/dev/null)" = "${sums[$name]}" ] ||
             fail "dist/$name is damaged, as its sum is not that of dist/MANIFEST, and was not run:" \
                 "'git checkout dist' gets it back, './jps --prove' makes it again"
-        if said=$("$handed" --version 2>&1) && [ "$said" = "jps ${told[version]-}" ]; then return; fi
+        if said=$("$handed" --version 2>/dev/null) && [ "$said" = "jps ${told[version]-}" ]; then return; fi
+        said=$("$handed" --version 2>&1) || true
     done
     [ -z "$said" ] || fail "${handed#"$top"/} does not run here: it needs a processor with ${told[processor]-} (on ARM" \
         "any of 64 bits), and said: $(echo "${said#*: line * }" | head -n 1)"
@@ -102,10 +103,13 @@ is_handed() {
 
 # Begins a look that can be kept: its time is that of the file $began, which is "" where none can be made.
 begin_look() {
+    local it
     began=""
+    # shellcheck disable=SC2064
+    for it in HUP INT TERM; do trap "end_look; kill -s $it $$" "$it"; done
     mkdir -p "$out" 2>/dev/null || return 0
     find "$out" -maxdepth 1 -name 'look.??????*' -mmin +1 -delete 2>/dev/null || true
-    began=$(mktemp "$out/look.XXXXXX" 2>/dev/null) || return 0
+    began=$(trap '' HUP INT TERM && mktemp "$out/look.XXXXXX" 2>/dev/null) || return 0
     # (What is changed from now on has a later time than that file, if the clock ticks once.)
     sleep 0.02
 }
@@ -133,6 +137,7 @@ keep_look() {
 end_look() {
     if [ "${began-}" ]; then rm -f "$began" "$began.kept" 2>/dev/null || true; fi
     began=""
+    trap - HUP INT TERM
 }
 
 # Finds the program that is as the sources stand. Returns whether there is one.
