@@ -110,6 +110,10 @@ module _ {T E : Type 0} (first old new : LineServer) (lines : List Asked) (a : A
     );
   }
 
+-- a server with a session that may be another
+abbrev pub with_session : LineServer → SessionData → LineServer
+with_session s session = record { session = session; show = s.show; feed = s.feed }
+
 -- a text that was made, or memory was refused
 answer-made : {E : Type 0} (replies : Replies) (show : Show) (ls : Layers) (a : Asked) (r : Result (Vec ℕ) E)
     → may_want a ≡ true → IfOk r (λ t. t.items ≡ answer_to replies show ls a)
@@ -319,10 +323,10 @@ module _ (first old : LineServer) (text : List ℕ) (before at : Outflow) (h : H
   ended-none is = subst (λ (l : List FedLine). HaveAnswered first (with_feed old feed) (all_asked l) before at)
       (sym (is ∙ append-nil (whole_lines text))) ended
 
-  module _ (line : FedLine) (last : lines_of text ≡ whole_lines text ++ line ∷ []) (a : Asked) (is : a ≡ asked_by line)
-  where
-    lines-are : all_asked (lines_of text) ≡ all_asked (whole_lines text) ++ a ∷ []
-    lines-are = asked-more text (lines_of text) line last
+  module _ (line : FedLine) (last : lines_of text ≡ whole_lines text ++ line ∷ []) (a : Asked)
+      (is : a ≡ asked_by line) where
+    all-are : all_asked (lines_of text) ≡ all_asked (whole_lines text) ++ a ∷ []
+    all-are = asked-more text (lines_of text) line last
         ∙ ap (λ (b : Asked). all_asked (whole_lines text) ++ b ∷ []) (sym is)
 
     pub ended-one : {T E : Type 0} (new : LineServer) (now : Outflow) (result : Result T E)
@@ -330,10 +334,10 @@ module _ (first old : LineServer) (text : List ℕ) (before at : Outflow) (h : H
         → MatchResult result (λ _. HaveAnswered first new (all_asked (lines_of text)) before now)
         (λ _. HaveStopped first (all_asked (lines_of text)) before now)
     ended-one new now (Ok done) one =
-        subst (λ (l : List Asked). HaveAnswered first new l before now) (sym lines-are)
+        subst (λ (l : List Asked). HaveAnswered first new l before now) (sym all-are)
         (answered-more first (with_feed old feed) new (all_asked (whole_lines text)) a before at now (Ok done) ended
         one one.wrote)
     ended-one new now (Err error) one =
         stopped-more first (with_feed old feed) new (all_asked (whole_lines text)) a before at now (Err error) ended
         one [] (all_asked (lines_of text))
-        (lines-are ∙ sym (append-nil (all_asked (whole_lines text) ++ a ∷ []))) one.wrote
+        (all-are ∙ sym (append-nil (all_asked (whole_lines text) ++ a ∷ []))) one.wrote
