@@ -1,11 +1,11 @@
-use Rattle.std.proofs.Common.{◌≡◌, ◌∙◌, ap, inl, refl, subst, List, ℕ}
-use Rattle.std.specs.Prelude.{IfOk, [], codes}
+use Rattle.std.proofs.Common.{◌≡◌, ◌∙◌, ap, refl, subst}
+use Rattle.std.specs.Prelude.{IfOk}
 use Rattle.grid_moves.specs.Layers.{Layers}
 use Rattle.reply_lines.specs.Lines.{edit_line}
 use Rattle.grid_answers.specs.Framed.{framed_costs, framed_field}
 use Rattle.line_server.specs.declared.asked.Asked.TheVariants as asked
 use Rattle.line_server.specs.Answers.{cell_at}
-use Rattle.line_server.proofs.Serving.{answered-edit, answered-made, answered-so, with_session}
+use Rattle.line_server.proofs.Serving.{answered-edit, answered-made, with_session}
 use Rattle.line_server.proofs.server.LineServer.answer.Goals as goal
 
 pub returns-in-Edit-clause-answered : goal.returns-in-Edit-clause-answered

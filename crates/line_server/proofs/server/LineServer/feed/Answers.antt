@@ -25,4 +25,4 @@ lines-preserved g c = λ first text before h.
 pub returns : goal.returns
 returns g c = λ first text before h.
     serving-done first c.lines.self text c.args.piece.now c.lines.left.now before (g.O.Sink.outflow c.lines.out)
-    (c.lines.invariant first text before h) c.take.new.self c.in-None.ensures.taken
+    (c.lines.invariant first text before h) c.take.new.self c.in_default.ensures.taken
