@@ -189,7 +189,7 @@ fn check_failing<L: Ledger>(alloc: Global, rt: &impl Abort, blank: Blank) -> Res
     let mut server = server_on(alloc, rt, talk, Engine::Plain)?;
     let mut out = MemSink::new(alloc, 100, 3, vec![in alloc; 4]?)?;
     assert!(rt; server.feed(alloc, talk.text, &mut out, &mut steps).is_err());
-    assert_eq!(rt; out.bytes(), b"ok\nok\nwal");
+    assert_eq!(rt; out.bytes(), b"ok\nok\nwal".as_slice());
     Ok(())
 }
 
