@@ -1,6 +1,6 @@
 -- How a server goes on, line by line.
 use Rattle.std.proofs.Common.{◌≡◌, refl, sym, ap, ◌∙◌, subst, List, [], ◌∷◌, ◌++◌, append_assoc, ℕ, ◌≤◌, arith}
-use Rattle.std.proofs.Common.{Bool, true, false, map, inl, inr}
+use Rattle.std.proofs.Common.{true, map, inl, inr}
 use Rattle.std.specs.Prelude.{Result, Ok, Err, IfOk, MatchResult}
 use Rattle.std.specs.List.{concat}
 use Rattle.std.specs.Global.{Vec}

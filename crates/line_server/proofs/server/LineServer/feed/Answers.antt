@@ -1,4 +1,3 @@
-use Rattle.std.proofs.Common.{List, ℕ}
 use Rattle.std.proofs.lemmas.Result.{err_from_is_err_and}
 use Rattle.line_server.proofs.Serving.{serving-begun, serving-done, serving-more, serving-stopped}
 use Rattle.line_server.proofs.server.LineServer.feed.Goals as goal
