@@ -544,7 +544,7 @@ def tick_words(results):
     times = [told.median(row["per_piece"]) for row in mine]
     walled = find(rows, kind="`near` to a closed tower", engine="block")
     least, most, closed = (in_unit(it, "ms") for it in (min(times), max(times), told.median(walled["per_piece"])))
-    return f"a tick of {results['ticks']['units']} units: {least} to {most} ms; round a closed tower {closed}"
+    return f"[a tick](docs/SPEED.md#a-tick-of-a-game): {least} to {most} ms, closed tower {closed}"
 
 
 def dear_time(row):
