@@ -186,7 +186,7 @@ grown text byte = elim (cases_Bool (is_line_feed byte)) [
   | inr e ↦ ([], ap (λ (c : Cut). c.lines) (cut-more text byte) ∙ rw e (sym (append-nil (cut text).lines)))
 ]
 
-lines-grow : (text bytes : List ℕ)
+pub lines-grow : (text bytes : List ℕ)
     → (more : List (List ℕ)) × ((cut (text ++ bytes)).lines ≡ (cut text).lines ++ more)
 lines-grow text [] = ([], ap (λ (t : List ℕ). (cut t).lines) (append-nil text) ∙ sym (append-nil (cut text).lines))
 lines-grow text (byte ∷ bytes) =

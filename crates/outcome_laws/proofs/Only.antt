@@ -29,9 +29,8 @@ use Rattle.call_files.specs.declared.kind.Extent.TheVariants as extent
 use Rattle.call_files.specs.declared.kind.TextKind.TheVariants as kind
 use Rattle.jps_run.specs.Calls.{call_with, files_of, output_of, reads_input, task}
 use Rattle.jps_run.specs.Heard.{IsInput}
-use Rattle.jps_run.specs.Live.{answers_on}
-use Rattle.jps_run.specs.Outcome.{IsOutcome, Outcome, Spell, bad_text, bad_word, done, outcome_hearing}
-use Rattle.jps_run.specs.Outcome.{outcome_of, outcome_with}
+use Rattle.jps_run.specs.Outcome.{IsOutcome, Outcome, Spell, bad_text, bad_word, done}
+use Rattle.jps_run.specs.Outcome.{outcome_of, outcome_on, outcome_with}
 use Rattle.jps_run.specs.Parts.{Output, on_map}
 use Rattle.jps_run.specs.Manner.{Manner, by_of, picked_by, engine_for, layout_for, manner_of, session_by}
 use Rattle.jps_run.specs.Replies.{By, by_session}
