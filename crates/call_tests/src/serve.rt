@@ -42,7 +42,7 @@ trace | serve m show=trace engine=each rule=any | ... => 2 jps: word 3
 states | serve m engine=plain states=cell rule=any | ... => 2 jps: word 4
 states | serve m states=arrival engine=plain rule=any | ... => 2 jps: word 4
 tables | serve m tables=t engine=other rule=any | ... | | % => 2 jps: word 4
-tables | serve m tables=t rule=any | ... | | % => 2 jps: word 4
+tables | serve m tables=t rule=any | ... | | % => 2 jps: word 5
 ";
 
 #[test]
