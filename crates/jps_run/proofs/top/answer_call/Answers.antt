@@ -66,11 +66,12 @@ returns-in-Listener-clause-input_stays g c = λ not. absurd
     (g.F.Files.disk c.args.files.now).holds o)
     c.in-Listener.is c.in_ok-opened.ensures.opened)))
 
-pub serve_lines-requires-clause-fresh : goal.serve_lines-requires-clause-fresh
-serve_lines-requires-clause-fresh g c =
-    (subst (λ (o : Opened). IsOpenedAs (called c.args.request c.args.settings)
-    (g.F.Files.disk c.args.files.now).holds o)
-    c.in-Server.is c.in_ok-opened.ensures.opened).on.such.begun
+pub serve_lines-requires : goal.serve_lines-requires
+serve_lines-requires g c = record {
+  fresh = (subst (λ (o : Opened). IsOpenedAs (called c.args.request c.args.settings)
+      (g.F.Files.disk c.args.files.now).holds o)
+      c.in-Server.is c.in_ok-opened.ensures.opened).on.such.begun;
+}
 
 pub returns-in-Server-clause-ended : goal.returns-in-Server-clause-ended
 returns-in-Server-clause-ended g c =
