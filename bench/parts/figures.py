@@ -5,7 +5,6 @@ time, and nothing else of a page is touched. Parts that a run has not measured s
 """
 
 import re
-import tick_phases
 
 import inputs
 import numbers_of as told
@@ -480,17 +479,18 @@ def tick_time(row):
 def ticks_text(results):
     part = results["ticks"]
     lines = []
-    for name, (words, _) in tick_phases.MAPS.items():
-        for engine in tick_phases.ENGINES:
-            found = [find(part["rows"], map=name, kind=kind, engine=engine) for kind in tick_phases.KINDS]
+    for name, words in part["maps"].items():
+        for engine in part["engines"]:
+            found = [find(part["rows"], map=name, kind=kind, engine=engine) for kind in part["kinds"]]
             lines.append([words, f"`{engine}`", *map(tick_time, found)])
-    head = ["{0} x {0} cells".format(part["side"]), "Engine", *tick_phases.KINDS]
-    words = "Four edits and the lines of {} units (`near`): processor time of `serve` for a tick, the median of {} turns."
-    more = [row for row in part["rows"] if row["kind"] not in tick_phases.KINDS]
-    rows = [[f"200 units: {row['kind']}", tick_time(row), told.seconds(row["0.99"])] for row in more]
+    head = ["{0} x {0} cells".format(part["side"]), "Engine", *part["kinds"]]
+    words = "Four edits and a `near` of each of {} units: processor time of `serve` for a tick, the median of {} turns."
+    more = [row for row in part["rows"] if row["kind"] not in part["kinds"]]
+    rows = [[f"{part['units']} units: {row['kind']}", tick_time(row), told.seconds(row["0.99"])] for row in more]
     rows += [[row["what"], tick_time(row), ""] for row in part["lines"]]
     rows.append(["a million lines: the most memory behind the first 10,000, and behind all", memory_words(part), ""])
-    tables = [told.table(head, lines), told.table(["By `block`", "A tick or a line", "99 of 100 ticks by the clock"], rows)]
+    more_head = ["By `block`", "A tick or a line", "99 of 100 ticks by the clock"]
+    tables = [told.table(head, lines), told.table(more_head, rows)]
     return ["## A tick of a game", words.format(part["units"], part["turns"]), *tables, field_table(part)]
 
 
@@ -514,11 +514,12 @@ def tick_words(results):
     """README's words of a tick of a game, where it was measured."""
     if not results.get("ticks"):
         return "[units, edits, crowds](examples/serve)"
-    rows = results["ticks"]["rows"]
-    times = [told.median(row["per_piece"]) for row in rows if row["engine"] == "block" and row["kind"] in tick_phases.KINDS]
+    rows, kinds = results["ticks"]["rows"], results["ticks"]["kinds"]
+    mine = [row for row in rows if row["engine"] == "block" and row["kind"] in kinds]
+    times = [told.median(row["per_piece"]) for row in mine]
     walled = find(rows, kind="`near` to a closed tower", engine="block")
     least, most, closed = (in_unit(it, "ms") for it in (min(times), max(times), told.median(walled["per_piece"])))
-    return f"a tick of {results['ticks']['units']} units: {least} to {most} ms; round a closed tower {closed}"
+    return f"[a tick](docs/SPEED.md#a-tick-of-a-game): {least} to {most} ms, closed tower {closed}"
 
 
 def dear_time(row):

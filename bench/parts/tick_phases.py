@@ -170,6 +170,10 @@ class Case:
         self.row["per_piece"].append(self.processor())
         self.row["clock"] += piece_times(self.words, self.pieces, self.counts)[1:]
 
+    def result(self):
+        times = self.row.pop("clock")
+        return phases.shortened({**self.row, "times": times}) if times else self.row
+
 
 def piece_times(words, pieces, counts):
     """The seconds from each piece to its last answer; each answer is one line."""
@@ -293,6 +297,7 @@ def ticks(run):
     cases, lines = tick_cases(run, grounds), line_cases(run, grounds)
     turns = min(run.turns, TURNS)
     phases.take_turns(run, [it.call for it in [*cases, *lines, *fields]], turns)
-    rows = [phases.shortened({**it.row, "times": it.row.pop("clock")}) for it in cases]
-    told = {"side": SIDE, "units": UNITS, "turns": turns, "rows": rows, "memory": memory_of(grounds["towers"])}
-    run.results["ticks"] = {**told, "lines": [it.row for it in lines], "fields": [it.row for it in fields]}
+    told = {"side": SIDE, "units": UNITS, "turns": turns, "memory": memory_of(grounds["towers"])}
+    told |= {"maps": {name: words for name, (words, _) in MAPS.items()}, "kinds": KINDS, "engines": list(ENGINES)}
+    told |= {"rows": [it.result() for it in cases], "lines": [it.result() for it in lines]}
+    run.results["ticks"] = {**told, "fields": [it.row for it in fields]}

@@ -10,6 +10,7 @@ use crate::judged::{CHECKED, CLAIMED, PROVED, SCENARIOS};
 use crate::queries::{QUERIES, SCRIPTS};
 use crate::refused::REFUSED;
 use crate::scenarios::MADE;
+use crate::serve::SERVED;
 use crate::table::{
     PICKS, Trial, calls_of, check_rows, engines_of, has_name, is_shown, row_of, rules_of,
 };
@@ -19,8 +20,8 @@ use std::process::Abort;
 use std::test::Fail;
 use word_list::{Pick, SessionEngine, SmallEngine, States, command_name, read_words};
 
-const TABLES: [&str; 15] = [
-    QUERIES, SCRIPTS, SCENARIOS, CLAIMED, PROVED, CHECKED, CELLS, PICTURES, UNDRAWN, MADE, REFUSED,
+const TABLES: [&str; 16] = [
+    QUERIES, SCRIPTS, SERVED, SCENARIOS, CLAIMED, PROVED, CHECKED, CELLS, PICTURES, UNDRAWN, MADE, REFUSED,
     DRILLS, LONG, LONGEST, REASONS,
 ];
 
@@ -34,6 +35,8 @@ tables long | solve engine=loading rule=slipping => - the same
 tables long | solve engine=plus-by-cell rule=none => - the same
 tables long | live engine=loading rule=slipping => - the same
 tables long | live engine=plus-by-cell rule=none => - the same
+tables long | serve engine=loading rule=slipping => - the same
+tables long | serve engine=plus-by-cell rule=none => - the same
 tables long | scen engine=loading rule=slipping => - the same
 tables long | scen engine=plus-by-cell rule=none => - the same
 script long | live engine=any rule=any => - its input has no end: a test of its own, in ample.rt
@@ -52,6 +55,9 @@ solve m s | engine=each rule=any: walk, water, point, none, apart, outside, bloc
     | engine=loading rule=any: table faults, water tables | engine=plain rule=any: states
 live m | engine=each rule=any: walk, water, point, none, apart, outside, blocked, ok, same, empty, cells, \
     trace, tables, map faults, script faults, absent, streams \
+    | engine=loading rule=any: table faults, water tables | engine=plain rule=any: states
+serve m | engine=each rule=any: walk, water, point, none, apart, outside, blocked, ok, same, empty, cells, \
+    trace, near, field, costs, refused, tables, map faults, absent, streams \
     | engine=loading rule=any: table faults, water tables | engine=plain rule=any: states
 scen m s | engine=any rule=any: agree, near, off, scale, outside, blocked, none, apart, point, water, empty, \
     taken, done, tables, map faults, scen faults, absent, streams \
@@ -353,7 +359,8 @@ fn each_command_takes_its_engines_and_its_rules(rt: HostRuntime) -> Result<(), F
 #[test]
 fn each_read_and_write_of_a_script_fails_in_turn(rt: HostRuntime) -> Result<(), Fail> {
     check_rows(rt.alloc(), &rt, QUERIES, Trial::Failing)?;
-    check_rows(rt.alloc(), &rt, SCRIPTS, Trial::Failing)
+    check_rows(rt.alloc(), &rt, SCRIPTS, Trial::Failing)?;
+    check_rows(rt.alloc(), &rt, SERVED, Trial::Failing)
 }
 
 #[test]

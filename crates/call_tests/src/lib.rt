@@ -30,6 +30,8 @@ mod refused;
 #[cfg(test)]
 mod scenarios;
 #[cfg(test)]
+mod serve;
+#[cfg(test)]
 mod sessions;
 #[cfg(test)]
 mod small;

@@ -30,7 +30,7 @@ fn live(words: &str) -> Call<'_> {
 
 // A script that comes in by these words in pieces of so many bytes, the read of this number failing, has this
 // status, this output and this line.
-fn check_pieces(
+pub(crate) fn check_pieces(
     alloc: Global,
     rt: &impl Abort,
     given: (&str, &[u8]),
@@ -129,7 +129,7 @@ impl<'a> Sink for Noted<'a> {
 
 // A script that comes in pieces of 7 bytes has this status and line, these numbers of reads before its
 // writes, and so many reads in all.
-fn check_order(
+pub(crate) fn check_order(
     alloc: Global,
     rt: &impl Abort,
     words: &str,

@@ -100,7 +100,8 @@ fn queries_are_answered_by_each_engine_under_each_rule(rt: HostRuntime) -> Resul
     check_table(rt.alloc(), &rt, QUERIES)
 }
 
-// A script goes to `solve` as a file and to `live` as what comes in, with the same lines. On the water of
+// A script goes to `solve` as a file and to `live` and `serve` as what comes in, with the same lines; with its trace to
+// the first two alone. On the water of
 // `W.W/WWW` the land cell is flooded, the cell under it blocked, and a corner made land:
 //
 // ```text
@@ -129,26 +130,26 @@ cells | scripted show=cells engine=each rule=any | ... \
     => 0 walk 2 0 2,0 1,0 0,0/ok/none/ok/walk 0 0 1,0/none
 cells, water | scripted show=cells engine=each rule=none | W.W/WWW | query 0 0 2 0/flood 1 0/query 0 0 2 0 \
     => 0 walk 4 0 0,0 0,1 1,1 2,1 2,0/ok/walk 2 0 0,0 1,0 2,0
-trace | scripted show=trace engine=plain rule=any | ... \
+trace | traced show=trace engine=plain rule=any | ... \
     | query 0 0 2 0/block 1 0/query 0 0 2 0/flood 1 0/query 0 0 1 0/query 1 0 1 0/query 0 0 3 0/block 1 0\
     /query 1 0 1 0 \
     => 0 walk 2 0 0,0 2,0 taken 0,0:- 1,0:- 2,0:-/ok/none taken 0,0:-/ok/none taken/walk 0 0 1,0 taken 1,0:-\
     /outside/ok/blocked
-trace | scripted show=trace engine=jumping rule=any | ... \
+trace | traced show=trace engine=jumping rule=any | ... \
     | query 0 0 2 0/block 1 0/query 0 0 2 0/flood 1 0/query 0 0 1 0/query 1 0 1 0/query 0 0 3 0/block 1 0\
     /query 1 0 1 0 \
     => 0 walk 2 0 0,0 2,0 taken 0,0:- 2,0:E/ok/none taken 0,0:-/ok/none taken/walk 0 0 1,0 taken 1,0:-\
     /outside/ok/blocked
-trace, water | scripted show=trace engine=jumping rule=none | W.W/WWW \
+trace, water | traced show=trace engine=jumping rule=none | W.W/WWW \
     | query 0 0 2 0/flood 1 0/query 0 0 2 0 \
     => 0 walk 4 0 0,0 0,1 2,1 2,0 taken 0,0:- 0,1:S 2,1:E 2,0:N/ok/walk 2 0 0,0 2,0 taken 0,0:- 2,0:E
 empty | scripted engine=each rule=any | ... => 0
 empty | scripted engine=each rule=any | ... | ~128 => 0
-trace | scripted show=trace engine=by-arrival rule=none | ..../.@.@/.... \
+trace | traced show=trace engine=by-arrival rule=none | ..../.@.@/.... \
     | query 0 0 3 2/block 3 2/query 0 0 3 2/free 3 2/query 3 2 0 0 \
     => 0 walk 5 0 0,0 0,2 2,2 3,2 taken 0,0:- 2,0:E 0,2:S 2,2:E 2,2:S 3,2:E/ok/blocked/ok\
     /walk 5 0 3,2 2,2 2,0 0,0 taken 3,2:- 2,2:W 2,0:N 0,0:W
-trace | scripted show=trace engine=by-cell rule=none | ..../.@.@/.... \
+trace | traced show=trace engine=by-cell rule=none | ..../.@.@/.... \
     | query 0 0 3 2/block 3 2/query 0 0 3 2/free 3 2/query 3 2 0 0 \
     => 0 walk 5 0 0,0 2,0 2,2 3,2 taken 0,0:- 2,0:E 0,2:S 2,2:S 3,2:E/ok/blocked/ok\
     /walk 5 0 3,2 2,2 2,0 0,0 taken 3,2:- 2,2:W 2,0:N 0,0:W

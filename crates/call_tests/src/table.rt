@@ -10,7 +10,7 @@
 //! A row stands for a call by each engine and under each rule of the sets that its words name, and all of
 //! them have the same outcome. An engine that jumps counts twice, with one state for each direction of arrival
 //! at a cell, and with one for each cell (`states=cell`). The first file is `m`: rows of cells, or a whole text
-//! where it begins with `type`. The second is `s`, and what comes in to `live`; the third is `t`. A line `~N` is
+//! where it begins with `type`. The second is `s`, and what comes in to `live` and `serve`; the third is `t`. A line `~N` is
 //! N blanks. `%` is the table file of three cells under the row's rule, `%water` that of `.WW`; `%P=B`
 //! has the byte B at place P, `%cut` lacks the last byte. A line `jps: ..` goes to standard error, all others are the output.
 
@@ -169,14 +169,17 @@ pub(crate) fn rules_of(words: &str) -> &'static [&'static str] {
     &[""]
 }
 
-// The commands with a script, and those with a table file; each takes the engines and the rules of its own
-// set.
-const SCRIPTED: [&str; 2] = ["solve m s", "live m"];
+// The commands that answer commands, those that do with their trace, and those with a table file; each takes the
+// engines and the rules of its own set.
+const SCRIPTED: [&str; 3] = ["solve m s", "live m", "serve m"];
 
-const TABLED: [&str; 4] = [
+const TRACED: [&str; 2] = ["solve m s", "live m"];
+
+const TABLED: [&str; 5] = [
     "query m 0 0 2 0 tables=t engine=loading rule=any",
     "solve m s engine=loading tables=t rule=any",
     "live m rule=any engine=loading tables=t",
+    "serve m tables=t engine=loading rule=any",
     "scen m s engine=loading tables=t rule=any",
 ];
 
@@ -209,7 +212,7 @@ fn each_with(alloc: Global, commands: &[&str], settings: &str) -> Result<Vec<Str
     Ok(calls)
 }
 
-// The words of the calls of the row: those of a group, those of both commands with a script, or its own.
+// The words of the calls of the row: those of a group, those of the commands that answer commands, or its own.
 pub(crate) fn calls_of(alloc: Global, row: Row<'_>) -> Result<Vec<String>, AllocError> {
     match row.words {
         "mapped" => return calls_showing(alloc, "map faults"),
@@ -219,8 +222,11 @@ pub(crate) fn calls_of(alloc: Global, row: Row<'_>) -> Result<Vec<String>, Alloc
         "endless" => return mapped_as(alloc, "x"),
         _ => (),
     }
-    match row.words.strip_prefix("scripted") {
-        Some(settings) => each_with(alloc, &SCRIPTED, settings),
+    if let Some(settings) = row.words.strip_prefix("scripted") {
+        return each_with(alloc, &SCRIPTED, settings);
+    }
+    match row.words.strip_prefix("traced") {
+        Some(settings) => each_with(alloc, &TRACED, settings),
         None => each_with(alloc, &[row.words], ""),
     }
 }

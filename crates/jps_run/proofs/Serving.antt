@@ -4,10 +4,10 @@ use Rattle.std.proofs.Common.{length-append, take, min, map, arith, Bool}
 use Rattle.std.specs.Prelude.{Option, Some, None, Result, MatchResult, IsErrAnd, ◌^◌}
 use Rattle.std.specs.List.{concat}
 use Rattle.std.specs.Io.KnownBytes.{Consumes, IsAtEnd, Keeps}
-use Rattle.std.proofs.lemmas.List.{append-nil, length-take}
+use Rattle.std.proofs.lemmas.List.{append-nil, length-take, map-append}
 use Rattle.std.proofs.lemmas.List.Folds.{concat-append}
 use Rattle.grid_moves.specs.Layers.{Layers}
-use Rattle.edit_replay.specs.Edited.{Edit}
+use Rattle.edit_replay.specs.Edited.{Edit, edited}
 use Rattle.edit_replay.specs.ReplyOf.{reply_of}
 use Rattle.io_edge.specs.Causes.{Rose}
 use Rattle.io_edge.specs.Known.{Inflow, Outflow}
@@ -19,7 +19,7 @@ use Rattle.line_feed.specs.Fed.{whole_lines}
 use Rattle.line_server.specs.declared.asked.Asked.{Asked}
 use Rattle.line_server.specs.declared.server.LineServer.{LineServer}
 use Rattle.line_server.specs.Asked.{edits_by, may_want}
-use Rattle.line_server.specs.Answers.{AreAnswers, all_asked, answers_to}
+use Rattle.line_server.specs.Answers.{AreAnswers, all_asked, answer_to, answers_to}
 use Rattle.line_server.specs.Served.{HasServed, HaveAnswered, HaveStopped}
 use Rattle.line_work.specs.Sending.{Wrote}
 use Rattle.line_work.proofs.Pieces.{nothing, part-more, rose-since}
@@ -29,11 +29,22 @@ use Rattle.jps_run.specs.Serving.{AreTaken, ServeEndless, ServeLines, ServeTaken
 use Rattle.jps_run.specs.Standing.{StandFor}
 use Rattle.jps_run.proofs.Listening.{consumes-both, consumes-none, input-all}
 
--- lines stand for themselves
-stand-same : (wants : List Bool) (lines : List (List ℕ)) → StandFor wants lines lines
+-- lines stand for themselves, and more of them for more
+pub stand-same : (wants : List Bool) (lines : List (List ℕ)) → StandFor wants lines lines
 stand-same [] lines = refl
 stand-same (wanted ∷ wants) [] = refl
 stand-same (wanted ∷ wants) (line ∷ lines) = (inl refl, stand-same wants lines)
+
+pub stand-more : (wants also : List Bool) (lines texts more : List (List ℕ)) → StandFor wants lines texts
+    → StandFor (wants ++ also) (lines ++ more) (texts ++ more)
+stand-more [] also lines texts more h =
+    subst (λ (t : List (List ℕ)). StandFor also (lines ++ more) (t ++ more)) (sym h) (stand-same also (lines ++ more))
+stand-more (wanted ∷ wants) also [] texts more h =
+    subst (λ (t : List (List ℕ)). StandFor (wanted ∷ (wants ++ also)) more (t ++ more)) (sym h)
+    (stand-same (wanted ∷ (wants ++ also)) more)
+stand-more (wanted ∷ wants) also (line ∷ lines) [] more h = absurd h
+stand-more (wanted ∷ wants) also (line ∷ lines) (text ∷ texts) more h =
+    (h.0, stand-more wants also lines texts more h.1)
 
 module _ (replies : Replies) (show : Show) (ls : Layers) where
   -- the texts that answer lines stand for the answers
@@ -46,16 +57,27 @@ module _ (replies : Replies) (show : Show) (ls : Layers) where
   answers-stand edits (a ∷ lines) (text ∷ texts) h =
       (h.0, answers-stand (edits ++ edits_by a) lines texts h.1)
 
-  -- where they answer the first lines, texts that begin with them do
-  first-stand : (edits : List Edit) (some others : List Asked) (texts : List (List ℕ))
-      → AreAnswers replies show ls edits some texts → (more : List (List ℕ))
-      × StandFor (map may_want (some ++ others)) (answers_to replies show ls edits (some ++ others)) (texts ++ more)
-  first-stand edits [] others [] h =
-      let all = answers_to replies show ls edits others in (all, stand-same (map may_want others) all)
-  first-stand edits [] others (text ∷ texts) h = absurd h
-  first-stand edits (a ∷ some) others [] h = absurd h
-  first-stand edits (a ∷ some) others (text ∷ texts) h =
-      let more = first-stand (edits ++ edits_by a) some others texts h.1 in (more.0, (h.0, more.1))
+  -- the answers to more lines begin with those to the first ones
+  answers-more : (edits : List Edit) (some others : List Asked) → (more : List (List ℕ))
+      × (answers_to replies show ls edits (some ++ others) ≡ answers_to replies show ls edits some ++ more)
+  answers-more edits [] others = (answers_to replies show ls edits others, refl)
+  answers-more edits (a ∷ some) others =
+      let more = answers-more (edits ++ edits_by a) some others in (
+        more.0,
+        ap (λ (l : List (List ℕ)). answer_to replies show (edited ls edits) a ∷ l) more.1,
+      )
+
+  -- so more texts stand for them
+  pub more-stand : (some others : List Asked) (texts : List (List ℕ))
+      → StandFor (map may_want some) (answers_to replies show ls [] some) texts → (more : List (List ℕ))
+      × StandFor (map may_want (some ++ others)) (answers_to replies show ls [] (some ++ others)) (texts ++ more)
+  more-stand some others texts h =
+      let more = answers-more [] some others in (
+        more.0,
+        rw (map-append may_want some others, more.1)
+            (stand-more (map may_want some) (map may_want others) (answers_to replies show ls [] some) texts more.0
+            h),
+      )
 
 module _ (first : LineServer) where
   -- what was written for lines stands for their answers
@@ -74,7 +96,9 @@ module _ (first : LineServer) where
       → Rose before.faults after.faults × WroteFirst (ServeLines (serving_by first) lines) before after
   served-part lines before after h =
       let replies = reply_of first.session.engine in
-      let s = first-stand replies first.show first.session.layers [] h.some h.others h.texts h.answers in (
+      let ls = first.session.layers in
+      let s = more-stand replies first.show ls h.some h.others h.texts
+      (answers-stand replies first.show ls [] h.some h.texts h.answers) in (
         h.wrote.0,
         record {
           lines = h.texts ++ s.0;

@@ -1,5 +1,5 @@
 -- What answers the lines that `serve` reads, and what was written of that at each stop.
-use Rattle.std.specs.Prelude.{◌≡◌, ℕ, ◌≤◌, ◌^◌, Bool, true, false, List, [], ◌∷◌, codes, length, map, Option, refl}
+use Rattle.std.specs.Prelude.{◌≡◌, ℕ, ◌+◌, ◌≤◌, ◌^◌, Bool, true, false, List, [], ◌∷◌, codes, length, map, Option, refl}
 use Rattle.std.specs.Io.KnownBytes.{Consumes, IsAtEnd}
 use Rattle.io_edge.specs.Known.{Held, Outflow}
 use Rattle.grid_moves.specs.declared.Corner.TheVariants.{Never}
@@ -10,6 +10,7 @@ use Rattle.word_list.specs.Request.{Call}
 use Rattle.word_list.specs.declared.request.Show.TheVariants.{Points}
 use Rattle.word_list.specs.declared.rows.Command.TheVariants.{Serve}
 use Rattle.call_files.specs.Layered.{grids_under}
+use Rattle.text_line.specs.Numbers.{number_of}
 use Rattle.line_feed.specs.declared.feed.FedLine.{FedLine}
 use Rattle.line_feed.specs.Lines.{lines_of}
 use Rattle.line_feed.specs.Fed.{whole_lines}
@@ -106,8 +107,9 @@ none_found = record {
 pub lines_in_turn : serving_on none_found (record { width = 2; height = 1; cells = codes ".." })
     (lines_of (codes "block 0 0\r\n\nblock 0\nblock 0 0\nquery 1 0 1 1"))
     ≡ codes "ok\n" ∷ [] ∷ codes "refused T1\n" ∷ codes "same\n" ∷ codes "none\n" ∷ []
-unfolding edited_layer
+unfolding edited_layer number_of
 lines_in_turn = refl
 
 pub query_wants : wants_of (lines_of (codes "block 0 0\nquery 1 0 1 1")) ≡ false ∷ true ∷ []
+unfolding number_of
 query_wants = refl

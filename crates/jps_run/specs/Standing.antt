@@ -18,8 +18,8 @@ StandFor (wanted ∷ more) (line ∷ lines) (text ∷ texts) = StandsFor wanted 
 -- worked rows: memory may be wanted for the second of three lines
 pub none_stands_in : StandFor (false ∷ true ∷ []) (codes "ok\n" ∷ codes "none\n" ∷ codes "same\n" ∷ [])
     (codes "ok\n" ∷ codes "none\n" ∷ codes "same\n" ∷ [])
-none_stands_in = (inl refl, inl refl, refl)
+none_stands_in = (inl refl, (inl refl, refl))
 
 pub memory_stands_in : StandFor (false ∷ true ∷ []) (codes "ok\n" ∷ codes "none\n" ∷ codes "same\n" ∷ [])
     (codes "ok\n" ∷ codes "memory\n" ∷ codes "same\n" ∷ [])
-memory_stands_in = (inl refl, inr (refl, refl), refl)
+memory_stands_in = (inl refl, (inr (refl, refl), refl))

@@ -134,7 +134,7 @@ pub fn run<F: Files, I: Source, O: Sink, E: Sink, L: Ledger>(
     ensures statuses { result ≤ 6 }
     // The headline: the status, the output and the line are those of the outcome, where each query is
     // replied to rightly, on the grid as the edits before it leave it. So it is with what is written where
-    // the call stops.
+    // the call stops. By `serve` alone `memory` may stand for an answer for which memory was wanting.
     ensures right { EndsRight (map string_bytes words.now) (F.disk files.old) (F.disk files.new)
         (I.inflow input.old) (I.inflow input.new) (O.outflow out.old) (O.outflow out.new) (E.outflow err.old)
         (E.outflow err.new) result }
@@ -143,14 +143,16 @@ pub fn run<F: Files, I: Source, O: Sink, E: Sink, L: Ledger>(
         (I.inflow input.old).left (O.outflow out.old) (O.outflow out.new) (E.outflow err.old) (E.outflow err.new) result }
     // A read fault has its cause: the count of a file rose that the words name and that there was
     // reason to read, as the files before it were accepted, and nothing was written; or that of an
-    // input that the words ask for, and exactly the lines of its whole commands so far were.
+    // input that the words ask for, and exactly the lines of its whole commands so far were, or by `serve` the
+    // answers to its whole lines.
     ensures read { result ≡ 4 → HasFailed replies_by (map string_bytes words.now) (F.disk files.old) (F.disk files.new)
         (I.inflow input.old) (I.inflow input.new) (O.outflow out.old) (O.outflow out.new) }
     // A write fault has its cause, and a first part of the whole output was written.
     ensures write { result ≡ 5 → Rose (O.outflow out.old).faults (O.outflow out.new).faults }
     ensures part { result ≡ 5 → HasPart replies_by (map string_bytes words.now) (F.disk files.old).holds
         (I.inflow input.old) (I.inflow input.new) (O.outflow out.old) (O.outflow out.new) }
-    // On want of memory the first lines of the output were written, not all, or nothing.
+    // On want of memory the first lines of the output were written, not all, or nothing; by `serve` nothing, unless
+    // more bytes came in than 64 bits count.
     ensures memory { result ≡ 6 → HasLines replies_by (map string_bytes words.now) (F.disk files.old).holds
         (I.inflow input.old) (I.inflow input.new) (O.outflow out.old) (O.outflow out.new) }
     ensures line { 4 ≤ result → Gets (E.outflow err.old) (E.outflow err.new) (ending_line result) }

@@ -1,6 +1,6 @@
 -- How a server goes on, line by line.
 use Rattle.std.proofs.Common.{◌≡◌, refl, sym, ap, ◌∙◌, subst, List, [], ◌∷◌, ◌++◌, append_assoc, ℕ, ◌≤◌, arith}
-use Rattle.std.proofs.Common.{Bool, true, false, map, inl, inr}
+use Rattle.std.proofs.Common.{true, map, inl, inr}
 use Rattle.std.specs.Prelude.{Result, Ok, Err, IfOk, MatchResult}
 use Rattle.std.specs.List.{concat}
 use Rattle.std.specs.Global.{Vec}
@@ -110,6 +110,10 @@ module _ {T E : Type 0} (first old new : LineServer) (lines : List Asked) (a : A
     );
   }
 
+-- a server with a session that may be another
+abbrev pub with_session : LineServer → SessionData → LineServer
+with_session s session = record { session = session; show = s.show; feed = s.feed }
+
 -- a text that was made, or memory was refused
 answer-made : {E : Type 0} (replies : Replies) (show : Show) (ls : Layers) (a : Asked) (r : Result (Vec ℕ) E)
     → may_want a ≡ true → IfOk r (λ t. t.items ≡ answer_to replies show ls a)
@@ -182,7 +186,7 @@ grown text byte = elim (cases_Bool (is_line_feed byte)) [
   | inr e ↦ ([], ap (λ (c : Cut). c.lines) (cut-more text byte) ∙ rw e (sym (append-nil (cut text).lines)))
 ]
 
-lines-grow : (text bytes : List ℕ)
+pub lines-grow : (text bytes : List ℕ)
     → (more : List (List ℕ)) × ((cut (text ++ bytes)).lines ≡ (cut text).lines ++ more)
 lines-grow text [] = ([], ap (λ (t : List ℕ). (cut t).lines) (append-nil text) ∙ sym (append-nil (cut text).lines))
 lines-grow text (byte ∷ bytes) =
@@ -319,10 +323,10 @@ module _ (first old : LineServer) (text : List ℕ) (before at : Outflow) (h : H
   ended-none is = subst (λ (l : List FedLine). HaveAnswered first (with_feed old feed) (all_asked l) before at)
       (sym (is ∙ append-nil (whole_lines text))) ended
 
-  module _ (line : FedLine) (last : lines_of text ≡ whole_lines text ++ line ∷ []) (a : Asked) (is : a ≡ asked_by line)
-  where
-    lines-are : all_asked (lines_of text) ≡ all_asked (whole_lines text) ++ a ∷ []
-    lines-are = asked-more text (lines_of text) line last
+  module _ (line : FedLine) (last : lines_of text ≡ whole_lines text ++ line ∷ []) (a : Asked)
+      (is : a ≡ asked_by line) where
+    all-are : all_asked (lines_of text) ≡ all_asked (whole_lines text) ++ a ∷ []
+    all-are = asked-more text (lines_of text) line last
         ∙ ap (λ (b : Asked). all_asked (whole_lines text) ++ b ∷ []) (sym is)
 
     pub ended-one : {T E : Type 0} (new : LineServer) (now : Outflow) (result : Result T E)
@@ -330,10 +334,10 @@ module _ (first old : LineServer) (text : List ℕ) (before at : Outflow) (h : H
         → MatchResult result (λ _. HaveAnswered first new (all_asked (lines_of text)) before now)
         (λ _. HaveStopped first (all_asked (lines_of text)) before now)
     ended-one new now (Ok done) one =
-        subst (λ (l : List Asked). HaveAnswered first new l before now) (sym lines-are)
+        subst (λ (l : List Asked). HaveAnswered first new l before now) (sym all-are)
         (answered-more first (with_feed old feed) new (all_asked (whole_lines text)) a before at now (Ok done) ended
         one one.wrote)
     ended-one new now (Err error) one =
         stopped-more first (with_feed old feed) new (all_asked (whole_lines text)) a before at now (Err error) ended
         one [] (all_asked (lines_of text))
-        (lines-are ∙ sym (append-nil (all_asked (whole_lines text) ++ a ∷ []))) one.wrote
+        (all-are ∙ sym (append-nil (all_asked (whole_lines text) ++ a ∷ []))) one.wrote

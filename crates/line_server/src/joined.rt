@@ -185,8 +185,8 @@ impl JoinedSession {
         gy: u32,
         steps: &mut Steps<L>,
     ) -> Result<Vec<u8>, NoMemory>
-        ensures line { IfOk result (λ text. text.items ≡ query_line (reply_of self.old.engine) show self.old.layers
-            (cell_at sx sy) (cell_at gx gy)) }
+        ensures line { IfOk result (λ text. text.items
+            ≡ query_line (reply_of self.old.engine) show self.old.layers (cell_at sx sy) (cell_at gx gy)) }
         ensures unchanged { self.new ≡ self.old }
     {
         if self.is_none(show, sx, sy, gx, gy) {
@@ -210,8 +210,8 @@ impl JoinedSession {
         gy: u32,
         steps: &mut Steps<L>,
     ) -> Result<Vec<u8>, NoMemory>
-        ensures line { IfOk result (λ text. text.items ≡ near_line (reply_of self.old.engine) show self.old.layers
-            (cell_at sx sy) (cell_at gx gy)) }
+        ensures line { IfOk result (λ text. text.items
+            ≡ near_line (reply_of self.old.engine) show self.old.layers (cell_at sx sy) (cell_at gx gy)) }
         ensures unchanged { self.new ≡ self.old }
     {
         let layers = self.session.layers();

@@ -62,8 +62,8 @@ impl LineServer {
 
     /// Takes a piece of the text, and writes the answers to the lines that it completes.
     ///
-    /// Where memory is wanting for an answer the line `memory` answers, and nothing changed. After a `WriteFault` a
-    /// first part of the answers is written.
+    /// Where memory is wanting for an answer the line `memory` answers, and nothing changed. After a
+    /// `WriteFault` a first part of the answers is written.
     pub fn feed<O: Sink, L: Ledger>(
         &mut self,
         alloc: Global,

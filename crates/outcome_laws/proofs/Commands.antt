@@ -163,6 +163,7 @@ module _ (holds : List ℕ → Held) where
   has_output set command.Make words tables manner texts p silent = (_, refl)
   has_output set command.Drill words tables manner texts p silent = (_, refl)
   has_output set command.Live words tables manner texts p silent = absurd (cc)
+  has_output set command.Serve words tables manner texts p silent = absurd (cc)
   has_output set command.Query words tables manner texts p silent =
       on_its _ (with_tables set (word_at words 0) tables texts p)
   has_output set command.Solve words tables manner texts p silent =
@@ -214,6 +215,7 @@ called command.Version words = refl
 called command.Query words = refl
 called command.Solve words = refl
 called command.Live words = refl
+called command.Serve words = refl
 called command.Scen words = refl
 called command.Judge words = refl
 called command.Lengths words = refl

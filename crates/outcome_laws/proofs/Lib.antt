@@ -9,6 +9,7 @@ pub mod Findings
 pub mod Forgetting
 pub mod Rows
 pub mod Taken
+pub mod ServedLines
 pub mod Commands
 pub mod Tasks
 pub mod SmallMaps

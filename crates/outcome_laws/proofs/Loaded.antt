@@ -16,11 +16,10 @@ use Rattle.call_files.specs.Files.{AreAccepted, File, HasRefused, file_of, fault
 use Rattle.call_files.specs.Kinds.{extent_for, kind_for}
 use Rattle.call_files.specs.declared.kind.TextKind.TheVariants as kind
 use Rattle.jps_run.specs.Calls.{call_with, files_of, output_of, reads_input, task}
-use Rattle.jps_run.specs.Live.{answers_on}
 use Rattle.jps_run.specs.Parts.{Output, on_map}
 use Rattle.jps_run.specs.Manner.{manner_of}
 use Rattle.jps_run.specs.Who.{replies_by}
-use Rattle.jps_run.specs.Outcome.{IsOutcome, Outcome, Spell, bad_text, done, outcome_hearing, outcome_of}
+use Rattle.jps_run.specs.Outcome.{IsOutcome, Outcome, Spell, bad_text, done, outcome_of, outcome_on}
 use Rattle.jps_run.specs.Outcome.{outcome_with}
 use Rattle.outcome_laws.specs.Loaded.{AreTablesOf, DifferInTables}
 use Rattle.outcome_laws.proofs.Files.{ComesToRefusal, accepted_not_refused, comes, refuses}
@@ -176,8 +175,7 @@ leads_so holds command same words others one other set e files output = record {
     λ script.
         let manner = manner_of replies_by set in
         let given : Command → Option Output → Option Outcome = λ c o. if reads_input c
-        then on_map texts (λ m behind. Some (outcome_hearing
-        (answers_on manner m) script)) else option_map outcome_with o in
+        then on_map texts (λ m behind. outcome_on c manner m script) else option_map outcome_with o in
         ap (λ (o : Option Output). given same o) (sym (output texts))
         ∙ ap (λ (c : Command). given c ((task command words).output manner texts)) (sym e),
   );
@@ -223,8 +221,7 @@ module _ (holds : List ℕ → Held) (command : Command) (words : List (List ℕ
     unfolding outcome_of output_of
     loaded_same text loaded more many script =
         ap (λ (o : Option Output). if reads_input command
-        then on_map (text ∷ more) (λ m behind. Some (outcome_hearing (answers_on
-        (manner_of replies_by set) m) script))
+        then on_map (text ∷ more) (λ m behind. outcome_on command (manner_of replies_by set) m script)
         else option_map outcome_with o) (t.output (manner_of replies_by set) text loaded more many)
 
     tables_off : Leads holds (asks (Some tables)) (asks None)

@@ -29,9 +29,8 @@ use Rattle.call_files.specs.declared.kind.Extent.TheVariants as extent
 use Rattle.call_files.specs.declared.kind.TextKind.TheVariants as kind
 use Rattle.jps_run.specs.Calls.{call_with, files_of, output_of, reads_input, task}
 use Rattle.jps_run.specs.Heard.{IsInput}
-use Rattle.jps_run.specs.Live.{answers_on}
-use Rattle.jps_run.specs.Outcome.{IsOutcome, Outcome, Spell, bad_text, bad_word, done, outcome_hearing}
-use Rattle.jps_run.specs.Outcome.{outcome_of, outcome_with}
+use Rattle.jps_run.specs.Outcome.{IsOutcome, Outcome, Spell, bad_text, bad_word, done}
+use Rattle.jps_run.specs.Outcome.{outcome_of, outcome_on, outcome_with}
 use Rattle.jps_run.specs.Parts.{Output, on_map}
 use Rattle.jps_run.specs.Manner.{Manner, by_of, picked_by, engine_for, layout_for, manner_of, session_by}
 use Rattle.jps_run.specs.Replies.{By, by_session}
@@ -49,7 +48,7 @@ use Rattle.outcome_laws.proofs.Tasks.{TakesNone, TakesTables, tables_taken}
 -- what a call comes to, where its words are not refused
 pub data CallComes (call : Call) (holds : List ℕ → Held) (input : Option (List ℕ)) : Outcome → Type 0 where
   refused : (line : List ℕ) → HasRefused holds (files_of call) line
-      → CallComes call holds input (record { status = 3; out = []; line = line })
+      → CallComes call holds input (record { status = 3; out = []; wants = []; line = line })
   finished : (texts : List (List ℕ)) (script : List ℕ) (outcome : Outcome)
       → AreAccepted holds [] (files_of call) texts → IsInput input script
       → outcome_of replies_by call texts script ≡ Some outcome → CallComes call holds input outcome
@@ -206,14 +205,14 @@ manner_same one other alike show rule =
       rule,
     ) refl
 
--- what a call comes to hangs on whether it reads what comes in, on how it is answered, and on its output
-outcome_as : Bool → Manner → List (List ℕ) → List ℕ → Option Output → Option Outcome
-outcome_as reads manner texts script out =
-    if reads then on_map texts (λ m behind. Some (outcome_hearing
-    (answers_on manner m) script)) else option_map outcome_with out
+-- what a call comes to hangs on its command, on how it is answered, and on its output
+outcome_as : Command → Manner → List (List ℕ) → List ℕ → Option Output → Option Outcome
+outcome_as command manner texts script out =
+    if reads_input command
+    then on_map texts (λ m behind. outcome_on command manner m script) else option_map outcome_with out
 
 outcome-is : (call : Call) (texts : List (List ℕ)) (script : List ℕ) → outcome_of replies_by call texts script
-    ≡ outcome_as (reads_input call.request.command) (manner_of replies_by call.settings) texts script
+    ≡ outcome_as call.request.command (manner_of replies_by call.settings) texts script
     ((task call.request.command call.request.words).output (manner_of replies_by call.settings) texts)
 unfolding outcome_as outcome_of output_of
 outcome-is call texts script = refl
@@ -255,7 +254,7 @@ module _ (holds : List ℕ → Held) (script : List ℕ) (call like : Call) (ali
   both_same : AreAlike holds (files_of call) (files_of like) → Same → (one other : Outcome)
       → CallComes call holds (Some script) one → CallComes like holds (Some script) other → one ≡ other
   both_same files same _ _ (refused a p) (refused b q) =
-      ap (λ (line : List ℕ). record { status = 3; out = []; line = line })
+      ap (λ (line : List ℕ). record { status = 3; out = []; wants = []; line = line })
       (one_line holds (files_of call) a b known p (files.refused b q))
   both_same files same _ _ (refused a p) (finished texts s o q comes e) =
       absurd (not_both holds (files_of call) texts a known (files.accepted texts q) p)
@@ -272,10 +271,10 @@ module _ (holds : List ℕ → Held) (script : List ℕ) (call like : Call) (ali
         let m = manner_of replies_by call.settings in
         let out = (task call.request.command call.request.words).output m texts in
         outcome-is call texts script
-        ∙ ap (λ (c : Command). outcome_as (reads_input c) m texts script out) alike.same.command
-        ∙ ap (λ (o : Option Output). outcome_as (reads_input like.request.command) m texts script o)
+        ∙ ap (λ (c : Command). outcome_as c m texts script out) alike.same.command
+        ∙ ap (λ (o : Option Output). outcome_as like.request.command m texts script o)
         (alike.same.output call.settings texts)
-        ∙ ap (λ (k : Manner). outcome_as (reads_input like.request.command) k texts script
+        ∙ ap (λ (k : Manner). outcome_as like.request.command k texts script
         ((task like.request.command like.request.words).output k texts)) manner
         ∙ sym (outcome-is like texts script)
 
@@ -292,15 +291,14 @@ module _ (holds : List ℕ → Held) (script : List ℕ) (call like : Call) (ali
         let m = manner_of replies_by call.settings in
         let n = manner_of replies_by like.settings in
         let silent = silent_for call.request.command call.settings.show costs in
+        let also : reads_input like.request.command ≡ false = sym (ap reads_input alike.same.command) ∙ silent in
         outcome-is call texts script
         ∙ rw silent refl
-        ∙ ap (λ (o : Option Output). outcome_as false n texts script o)
+        ∙ ap (λ (o : Option Output). option_map outcome_with o)
         (cost_output call.request.words call.request.command call.settings like.settings alike.show
         alike.rule costs
         texts ∙ alike.same.output like.settings texts)
-        ∙ ap (λ (b : Bool). outcome_as b n texts script
-        ((task like.request.command like.request.words).output n texts))
-        (sym (sym (ap reads_input alike.same.command) ∙ silent))
+        ∙ rw also refl
         ∙ sym (outcome-is like texts script)
 
     one_cost_outcome : (one other : Outcome)
@@ -352,7 +350,7 @@ itself call = record {
 record IsBadIn (words : List (List ℕ)) (outcome : Outcome) : Type 0 where
   number : ℕ
   bad : IsBadWord is_call words number
-  is : outcome ≡ record { status = 2; out = []; line = word_line number }
+  is : outcome ≡ record { status = 2; out = []; wants = []; line = word_line number }
 
 -- two outcomes of the same words
 words_or_call : (words : List (List ℕ)) (holds : List ℕ → Held) (script : List ℕ) (one : Outcome)
@@ -378,7 +376,7 @@ module _ (words : List (List ℕ)) (holds : List ℕ → Held) (script : List �
   by_words (inr (call, spelled)) _ = spelled_one call spelled
   by_words (inl _) (inr (call, spelled)) = spelled_one call spelled
   by_words (inl a) (inl b) =
-      a.is ∙ ap (λ (n : ℕ). record { status = 2; out = []; line = word_line n })
+      a.is ∙ ap (λ (n : ℕ). record { status = 2; out = []; wants = []; line = word_line n })
       (one_bad_word is_call words a.number b.number a.bad b.bad) ∙ sym b.is
 
 pub outcomes_one : (words : List (List ℕ)) (holds : List ℕ → Held) (script : List ℕ) (one other : Outcome)

@@ -27,6 +27,7 @@ use Rattle.jps_run.specs.Calls.{files_of, output_of}
 use Rattle.jps_run.specs.Ending.{EndsRight}
 use Rattle.reply_lines.specs.Lines.{reply_line, walk_text}
 use Rattle.jps_run.specs.Manner.{picked_by}
+use Rattle.jps_run.specs.Standing.{StandFor}
 use Rattle.jps_run.specs.Outcome.{Outcome, IsOutcome, bad_word, bad_text, done, outcome_of, outcome_with}
 use Rattle.jps_run.specs.Parts.{printed}
 use Rattle.jps_run.specs.Replies.{AreRight, By, Replies}
@@ -83,15 +84,18 @@ module _ {words : List (List ℕ)} {name : List ℕ} {s t : Cell} (asks : AskFor
 module _ (words : List (List ℕ)) (holds : List ℕ → Held) (before now : Outflow) (replies : By → Replies)
     (right : AreRight replies) where
   printed_by : (outcome : Outcome) (m : Map) (s t : Cell)
-      → Some outcome ≡ Some (outcome_with (printed (line_by replies m s t) 0))
-      → Wrote before now (concat outcome.out) → PrintsRight (layers_of Never m.width m.height m.cells) s t before now
-  printed_by outcome m s t is wrote =
+      → Some outcome ≡ Some (outcome_with (printed (line_by replies m s t) 0)) → (texts : List (List ℕ))
+      → StandFor outcome.wants outcome.out texts → Wrote before now (concat texts)
+      → PrintsRight (layers_of Never m.width m.height m.cells) s t before now
+  printed_by outcome m s t is texts stand wrote =
       let ls = layers_of Never m.width m.height m.cells in
       let r = replies (picked_by default_settings) ls s t in
       let same : outcome ≡ outcome_with (printed (line_by replies m s t) 0)
       = ap (λ (o : Option Outcome). unwrap_or o outcome) is in
-      let all : concat outcome.out ≡ line_of (answer_of r)
-      = ap (λ (o : Outcome). concat o.out) same ∙ append-nil (line_by replies m s t) ∙ line_is m.width r in
+      let lines : texts ≡ line_by replies m s t ∷ []
+      = subst (λ (o : Outcome). StandFor o.wants o.out texts) same stand in
+      let all : concat texts ≡ line_of (answer_of r)
+      = ap concat lines ∙ append-nil (line_by replies m s t) ∙ line_is m.width r in
       record {
         answer = answer_of r;
         right = right (picked_by default_settings) ls s t;
@@ -99,10 +103,11 @@ module _ (words : List (List ℕ)) (holds : List ℕ → Held) (before now : Out
       }
 
   by_outcome : (input : Option (List ℕ)) (outcome : Outcome) → IsOutcome replies words holds input outcome
-      → outcome.status ≡ 0 → Wrote before now (concat outcome.out) → PrintsQuery words holds before now
-  by_outcome input outcome (bad_word number is) zero wrote = absurd (cc)
-  by_outcome input outcome (bad_text call line is refused) zero wrote = absurd (cc)
-  by_outcome input outcome (done call texts script also is accepted comes so) zero wrote =
+      → outcome.status ≡ 0 → (lines : List (List ℕ)) → StandFor outcome.wants outcome.out lines
+      → Wrote before now (concat lines) → PrintsQuery words holds before now
+  by_outcome input outcome (bad_word number is) zero lines stand wrote = absurd (cc)
+  by_outcome input outcome (bad_text call line is refused) zero lines stand wrote = absurd (cc)
+  by_outcome input outcome (done call texts script also is accepted comes so) zero lines stand wrote =
       λ name text m s t asks held spells.
       let call_is : call ≡ its_call asks
       = ap (λ (o : Option Call). unwrap_or o call) (sym is ∙ spelled asks) in
@@ -111,7 +116,7 @@ module _ (words : List (List ℕ)) (holds : List ℕ → Held) (before now : Out
       let here : outcome_of replies call texts script ≡ outcome_of replies (its_call asks) (text ∷ []) script
       = rw (call_is, texts_are) refl in
       printed_by outcome m s t
-      (sym so ∙ here ∙ comes_to asks replies text script m ((map_read text).only m spells)) wrote
+      (sym so ∙ here ∙ comes_to asks replies text script m ((map_read text).only m spells)) lines stand wrote
 
 -- so it is where `run` ends rightly with the status 0
 pub prints_query : (words : List (List ℕ)) (disk disk_now : Disk) (input input_now : Inflow)
@@ -121,4 +126,4 @@ pub prints_query : (words : List (List ℕ)) (disk disk_now : Disk) (input input
 prints_query words disk disk_now input input_now out out_now err err_now status ends zero =
     let comes = ends.outcome (omega (arith, zero)) in
     by_outcome words disk.holds out out_now ends.replies ends.right input.left comes.outcome comes.is
-    (comes.same_status ∙ zero) comes.wrote
+    (comes.same_status ∙ zero) comes.texts comes.stand comes.wrote

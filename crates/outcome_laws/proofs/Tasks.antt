@@ -62,6 +62,12 @@ tables_taken command.Live words = inl (record {
   files = λ set tables. sym (append-nil (map_files set (word_at words 0) tables));
   output = λ manner text loaded more many. refl;
 })
+tables_taken command.Serve words = inl (record {
+  rest = [];
+  alone = tt;
+  files = λ set tables. sym (append-nil (map_files set (word_at words 0) tables));
+  output = λ manner text loaded more many. refl;
+})
 tables_taken command.Scen words = inl (record {
   rest = file_of kind.Scen (word_at words 1) ∷ [];
   alone = (λ one other text. refl, tt);

@@ -24,6 +24,7 @@ use Rattle.outcome_laws.specs.Files.{AreKnown}
 use Rattle.jps_run.specs.Calls.{files_of, task}
 use Rattle.jps_run.specs.Ending.{HasFailed, HasLines, HasPart}
 use Rattle.jps_run.specs.Outcome.{IsOutcome, Outcome, Spell}
+use Rattle.jps_run.specs.Standing.{StandFor}
 
 -- of each file that the words name it is known what stands under its name
 abbrev pub FilesAreKnown : List (List ℕ) → (List ℕ → Held) → Type 0
@@ -99,14 +100,21 @@ EnginesPrintTheSameCosts = (words others : List (List ℕ)) (call like : Call) (
 abbrev pub WroteLinesOf : List (List ℕ) → Outflow → Outflow → Type 0
 WroteLinesOf lines before now = (count : ℕ) × Wrote before now (concat (take count lines))
 
--- Where a call stops with no outcome, what it wrote is a first part of the output that its words come to: of
--- its bytes where a write failed; of its lines, each whole, where a read failed or for want of memory.
+-- of texts that stand for the lines of an outcome this holds; where memory is wanted for none, they are the lines
+pub record OfOutput (outcome : Outcome) (Such : List (List ℕ) → Type 0) : Type 0 where
+  pub texts : List (List ℕ)
+  pub stand : StandFor outcome.wants outcome.out texts
+  pub such : Such texts
+
+-- Where a call stops with no outcome, what it wrote is a first part of what stands for the output that its words
+-- come to: of its bytes where a write failed; of its lines, each whole, where a read failed or for want of memory.
 abbrev pub WrittenBeginsTheOutput : Type 0
 WrittenBeginsTheOutput = (words : List (List ℕ)) (disk disk_now : Disk) (input input_now : Inflow)
     (out out_now : Outflow) (script : List ℕ) (outcome : Outcome) → FilesAreKnown words disk.holds
     → input.left ≡ Some script → IsOutcome replies_by words disk.holds (Some script) outcome
     → (HasPart replies_by words disk.holds input input_now out out_now
-    → AppendsSome out.written out_now.written (concat outcome.out))
+    → OfOutput outcome (λ lines. AppendsSome out.written out_now.written (concat lines)))
     × (HasFailed replies_by words disk disk_now input input_now out out_now
     ⊎ HasLines replies_by words disk.holds input input_now out out_now
-    → AppendsSome out.written out_now.written (concat outcome.out) × WroteLinesOf outcome.out out out_now)
+    → OfOutput outcome (λ lines. AppendsSome out.written out_now.written (concat lines)
+    × WroteLinesOf lines out out_now))

@@ -6,6 +6,7 @@ use Rattle.io_edge.specs.Memory.{held_under}
 use Rattle.jps_run.specs.Ending.{memory_line, read_line}
 use Rattle.jps_run.specs.Outcome.{IsOutcome, Outcome}
 use Rattle.jps_run.specs.Replies.{AreRight, By, Replies}
+use Rattle.jps_run.specs.Standing.{StandFor}
 use Rattle.jps_run.specs.Who.{replies_by}
 use Rattle.page_calls.specs.declared.Printed.{Printed}
 
@@ -19,7 +20,9 @@ pub record ComeTo (replies : By → Replies) (words : List (List ℕ)) (texts : 
   pub outcome : Outcome
   pub is : IsOutcome replies words (held_under texts) (Some input) outcome
   pub same_status : outcome.status ≡ status
-  pub same_out : out ≡ concat outcome.out
+  pub texts : List (List ℕ)
+  pub stand : StandFor outcome.wants outcome.out texts
+  pub same_out : out ≡ concat texts
   pub same_err : err ≡ outcome.line
 
 -- so it is by replies of which each is right

@@ -28,7 +28,12 @@ struct Talk<'a> {
 }
 
 // A server on the map of the talk.
-fn server_on(alloc: Global, rt: &impl Abort, talk: Talk<'_>, engine: Engine) -> Result<LineServer, Fail> {
+fn server_on(
+    alloc: Global,
+    rt: &impl Abort,
+    talk: Talk<'_>,
+    engine: Engine,
+) -> Result<LineServer, Fail> {
     assert!(rt; talk.map.len() < 100);
     let map = read_map(alloc, talk.map)?;
     let session = Session::new(alloc, &map, engine, talk.corner)?;
@@ -72,23 +77,26 @@ fn check(alloc: Global, rt: &impl Abort, talk: Talk<'_>, answers: &[u8]) -> Resu
     Ok(())
 }
 
-// On the map `.@./.../.@.` the middle is blocked, freed and flooded: it parts the columns, and joins them. The goals of
-// `near` are reached, behind the block, on it, and in the other layer.
+// On the map `.@./.../.@.` the middle is blocked, freed and flooded: it parts the columns, and joins them.
+// The goals of `near` are reached, behind the block, on it, and in the other layer.
 #[test]
 fn what_edits_part_and_join(rt: HostRuntime) -> Result<(), Fail> {
     let map = b"type octile\nheight 3\nwidth 3\nmap\n.@.\n...\n.@.\n";
-    let text = b"query 0 1 2 1\nnear 0 1 2 1\nblock 1 1\nquery 0 1 2 1\nnear 0 0 2 0\nnear 0 0 2 1\n\
-near 0 0 1 1\nfree 1 1\nfree 1 1\nquery 0 1 2 1\nflood 1 1\nquery 0 1 1 1\nnear 0 1 1 1\nnear 1 1 0 0\n";
-    let answers = b"walk 2 0 0,1 1,1 2,1\nwalk 2 0 0,1 1,1 2,1\nok\nnone\nwalk 0 0 0,0\nwalk 1 0 0,0 0,1\n\
-walk 1 0 0,0 0,1\nok\nsame\nwalk 2 0 0,1 1,1 2,1\nok\nnone\nwalk 0 0 0,1\nwalk 0 0 1,1\n";
+    let text =
+        b"query 0 1 2 1\nnear 0 1 2 1\nblock 1 1\nquery 0 1 2 1\nnear 0 0 2 0\nnear 0 0 2 1\n\
+near 0 0 1 1\nfree 1 1\nfree 1 1\nquery 0 1 2 1\nflood 1 1\nquery 0 1 1 1\nnear 0 1 1 1\n\
+near 1 1 0 0\n";
+    let answers = b"walk 2 0 0,1 1,1 2,1\nwalk 2 0 0,1 1,1 2,1\nok\nnone\nwalk 0 0 0,0\n\
+walk 1 0 0,0 0,1\nwalk 1 0 0,0 0,1\nok\nsame\nwalk 2 0 0,1 1,1 2,1\nok\nnone\nwalk 0 0 0,1\n\
+walk 0 0 1,1\n";
     for corner in RULES {
         check(rt.alloc(), &rt, Talk { map, corner, text }, answers)?;
     }
     Ok(())
 }
 
-// On the map `../@.` a corner is cut or not, and where the upper right cell is blocked too, the ends of the diagonal are
-// joined under the third rule alone.
+// On the map `../@.` a corner is cut or not, and where the upper right cell is blocked too, the ends of the
+// diagonal are joined under the third rule alone.
 #[test]
 fn what_each_rule_joins(rt: HostRuntime) -> Result<(), Fail> {
     let map = b"type octile\nheight 2\nwidth 2\nmap\n..\n@.\n";
@@ -105,12 +113,14 @@ fn what_each_rule_joins(rt: HostRuntime) -> Result<(), Fail> {
     Ok(())
 }
 
-// On the map `.../.@.` the block is passed above, by its corner where that may be cut; then the middle column is blocked,
-// and flooded.
+// On the map `.../.@.` the block is passed above, by its corner where that may be cut; then the middle column
+// is blocked, and flooded.
 #[test]
 fn fields_and_costs_are_framed(rt: HostRuntime) -> Result<(), Fail> {
     let map = b"type octile\nheight 2\nwidth 3\nmap\n...\n.@.\n";
-    let text = b"field 0 0\ncosts 0 0\nblock 1 0\nfield 0 0\ncosts 2 1\nfield 1 0\ncosts 3 0\nflood 1 0\nfield 1 0\n";
+    let text =
+        b"field 0 0\ncosts 0 0\nblock 1 0\nfield 0 0\ncosts 2 1\nfield 1 0\ncosts 3 0\nflood 1 0\n\
+field 1 0\n";
     let answers: [&[u8]; 2] = [
         b"field 3 2\n*66\n0-0\ncosts 3 2\n0,0 1,0 2,0\n1,0 - 3,0\nok\nfield 3 2\n*--\n0--\n\
 costs 3 2\n- - 1,0\n- - 0,0\nblocked\noutside\nok\nfield 3 2\n-*-\n---\n",
@@ -127,11 +137,15 @@ costs 3 2\n- - 1,0\n- - 0,0\nblocked\noutside\nok\nfield 3 2\n-*-\n---\n",
 // Each refused line leaves the session as it was; a last line of a walk needs no line feed.
 #[test]
 fn refused_lines_change_nothing(rt: HostRuntime) -> Result<(), Fail> {
-    let text = b"query 0 0 0\nquery 0 0 0 0 0\nquery 0 0 0 -1\nquery 0 0 0 1234567890\nQUERY 0 0 0 0\n\
-near 0 0\nfield 0\ncosts 0 0 0\nblock\x000 0\n\xff\xfe 0 0\n\r\r\nquery 0 0 0 123456789\nnear 1 0 0 0\nnear 0 0 0 1\n\
-\n \t\n\r\nblock 1 0\nfree 0 0\r\nblock 0 0\nnear 0 0 0 0\nquery 0 0 0 0\nfree 0 0\nquery 0 0 0 0";
-    let answers = b"refused T1\nrefused T1\nrefused T1\nrefused T1\nrefused T1\nrefused T1\nrefused T1\nrefused T1\n\
-refused T1\nrefused T1\nrefused T1\noutside\noutside\noutside\noutside\nsame\nok\nblocked\nblocked\nok\nwalk 0 0 0,0\n";
+    let text =
+        b"query 0 0 0\nquery 0 0 0 0 0\nquery 0 0 0 -1\nquery 0 0 0 1234567890\nQUERY 0 0 0 0\n\
+near 0 0\nfield 0\ncosts 0 0 0\nblock\x000 0\n\xff\xfe 0 0\n\r\r\nquery 0 0 0 123456789\nnear 1 0 0 0\n\
+near 0 0 0 1\n\n \t\n\r\nblock 1 0\nfree 0 0\r\nblock 0 0\nnear 0 0 0 0\nquery 0 0 0 0\nfree 0 0\n\
+query 0 0 0 0";
+    let answers =
+        b"refused T1\nrefused T1\nrefused T1\nrefused T1\nrefused T1\nrefused T1\nrefused T1\n\
+refused T1\nrefused T1\nrefused T1\nrefused T1\noutside\noutside\noutside\noutside\nsame\nok\nblocked\n\
+blocked\nok\nwalk 0 0 0,0\n";
     let talk = Talk {
         map: ONE,
         corner: Corner::Never,
@@ -149,7 +163,8 @@ fn put_line(text: &mut Vec<u8>, line: &[u8], bytes: usize, end: &[u8]) -> Result
     text.extend_from_slice(end)
 }
 
-// Of 129 bytes, a carriage return counted, a line is too long, and is not obeyed; the last one needs no line feed.
+// Of 129 bytes, a carriage return counted, a line is too long, and is not obeyed; the last one needs no line
+// feed.
 #[test]
 fn long_lines_are_not_obeyed(rt: HostRuntime) -> Result<(), Fail> {
     let mut text = Vec::new(rt.alloc());
@@ -189,7 +204,7 @@ fn check_failing<L: Ledger>(alloc: Global, rt: &impl Abort, blank: Blank) -> Res
     let mut server = server_on(alloc, rt, talk, Engine::Plain)?;
     let mut out = MemSink::new(alloc, 100, 3, vec![in alloc; 4]?)?;
     assert!(rt; server.feed(alloc, talk.text, &mut out, &mut steps).is_err());
-    assert_eq!(rt; out.bytes(), b"ok\nok\nwal");
+    assert_eq!(rt; out.bytes(), b"ok\nok\nwal".as_slice());
     Ok(())
 }
 

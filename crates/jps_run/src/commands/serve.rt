@@ -25,13 +25,8 @@ pub(crate) fn serve<F: Files>(
         (F.disk files.old) (F.disk files.new) result }
     ensures unchanged { (F.disk files.new).holds ≡ (F.disk files.old).holds }
 {
-    let Answers { session, show } = open_answers(
-        alloc,
-        files,
-        request.name(0),
-        request.tables,
-        settings,
-    )?;
+    let job = open_answers(alloc, files, request.name(0), request.tables, settings)?;
+    let Answers { session, show } = job;
     let server = LineServer::new(alloc, session, show)?;
     Ok(server)
 }

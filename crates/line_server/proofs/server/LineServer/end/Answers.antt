@@ -1,5 +1,3 @@
-use Rattle.std.proofs.Common.{List, ℕ}
-use Rattle.io_edge.specs.Known.{Outflow}
 use Rattle.line_server.proofs.Serving.{ended-one}
 use Rattle.line_server.proofs.server.LineServer.end.Goals as goal
 
