@@ -21,8 +21,8 @@ use std::test::Fail;
 use word_list::{Pick, SessionEngine, SmallEngine, States, command_name, read_words};
 
 const TABLES: [&str; 16] = [
-    QUERIES, SCRIPTS, SERVED, SCENARIOS, CLAIMED, PROVED, CHECKED, CELLS, PICTURES, UNDRAWN, MADE, REFUSED,
-    DRILLS, LONG, LONGEST, REASONS,
+    QUERIES, SCRIPTS, SERVED, SCENARIOS, CLAIMED, PROVED, CHECKED, CELLS, PICTURES, UNDRAWN, MADE,
+    REFUSED, DRILLS, LONG, LONGEST, REASONS,
 ];
 
 // Why a kind of outcome has no row of its own.
