@@ -24,15 +24,15 @@ returns-in_err-serve_more g c =
     }
 
 -- no more comes, so the other holds
-no-more : {P Q : Type 0} (more : Bool) → more ≡ false → MatchBool more P Q → Q
-no-more true none h = absurd (cc)
-no-more false none h = h
+no-more : (P Q : Type 0) (more : Bool) → more ≡ false → MatchBool more P Q → Q
+no-more P Q true none h = absurd (cc)
+no-more P Q false none h = h
 
 pub returns-then-not-branch : goal.returns-then-not-branch
 returns-then-not-branch g c = record {
   served = (
     refl,
-    no-more c.in_ok-serve_more.field-0 c.if-not-branch.true
+    no-more _ _ c.in_ok-serve_more.field-0 c.if-not-branch.true
         (c.in_ok-serve_more.ensures.served c.args.server.now (g.I.Source.inflow c.args.input.now) c.turns.turn
         (g.O.Sink.outflow c.args.out.now) c.turns.invariant),
   );
