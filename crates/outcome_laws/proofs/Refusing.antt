@@ -7,7 +7,7 @@ use Rattle.io_edge.specs.Known.{Held, holding}
 use Rattle.io_edge.specs.Whole.{IsLonger, IsWhole}
 use Rattle.word_list.specs.Calls.{call_of, is_call}
 use Rattle.word_list.specs.Kinds.{is_of}
-use Rattle.word_list.specs.Request.{Asked, Call, Row, row_of}
+use Rattle.word_list.specs.Request.{Asked, Call, Row, engine_of, row_of}
 use Rattle.word_list.specs.Rule.{IsBadWord}
 use Rattle.word_list.specs.Settings.{is_complete, may_follow, settings_of, tables_of}
 use Rattle.word_list.specs.Steps.{AreOf, AreSettled, is_one_of, one_follows}
@@ -120,24 +120,26 @@ module _ (name : List ℕ) (words : List (List ℕ)) (refused : is_call (name �
   -- words that are all of their kinds, and settings behind them
   module _ (taken : ℕ) (are : AreOf row.takes words taken) (above : length row.takes ≤ taken) (more : ℕ)
       (settled : AreSettled row.allows [] (drop taken words) more) where
-    settings_bad : (more < length (drop taken words)) ⊎ (is_complete (drop taken words) ≡ false) → BadWord
+    settings_bad : (more < length (drop taken words)) ⊎ (is_complete (engine_of row.command) (drop taken words) ≡ false)
+        → BadWord
     settings_bad why = (
       taken + more + 2,
       names_setting name words row is_row taken are above (drop taken words) refl more settled why,
     )
 
-    all_bad : length (drop taken words) ≤ more → (b : Bool) → is_complete (drop taken words) ≡ b → BadWord
+    all_bad : length (drop taken words) ≤ more → (b : Bool)
+        → is_complete (engine_of row.command) (drop taken words) ≡ b → BadWord
     all_bad all false missing = settings_bad (inr missing)
     all_bad all true complete =
         let request : Asked =
         record { command = row.command; words = take taken words; tables = tables_of (drop taken words) } in
-        let settings : Settings = settings_of (drop taken words) in
+        let settings : Settings = settings_of (engine_of row.command) (drop taken words) in
         absurd (never_spells (name ∷ words) (call_with request settings) refused (calls name words row is_row
         taken are above (drop taken words) refl more settled all complete request settings refl refl))
 
     settled_bad : (more < length (drop taken words)) ⊎ (length (drop taken words) ≤ more) → BadWord
     settled_bad (inl below) = settings_bad (inl below)
-    settled_bad (inr all) = all_bad all (is_complete (drop taken words)) refl
+    settled_bad (inr all) = all_bad all (is_complete (engine_of row.command) (drop taken words)) refl
 
   kinds_bad : (taken : ℕ) → AreOf row.takes words taken
       → (taken < length row.takes) ⊎ (length row.takes ≤ taken) → BadWord

@@ -7,6 +7,8 @@ use Rattle.std.proofs.lemmas.Bool.{and_parts, or_parts}
 use Rattle.std.proofs.lemmas.Bool.Decides.{nat_tests}
 use Rattle.word_list.specs.declared.request.Pick.{Pick}
 use Rattle.word_list.specs.declared.request.Pick.TheVariants.{Small}
+use Rattle.word_list.specs.declared.request.SessionEngine.{SessionEngine}
+use Rattle.word_list.specs.declared.request.SessionEngine.TheVariants.{Plain}
 use Rattle.word_list.specs.declared.request.SmallEngine.TheVariants.{Boxes, Moves}
 use Rattle.word_list.specs.declared.request.Settings.{Settings}
 use Rattle.word_list.specs.declared.rows.WordKind.{WordKind}
@@ -15,11 +17,11 @@ use Rattle.word_list.specs.declared.settings.Setting.{Setting}
 use Rattle.word_list.specs.declared.settings.Setting.TheVariants as setting
 use Rattle.word_list.specs.Calls.{fits}
 use Rattle.word_list.specs.Kinds.{is_of}
-use Rattle.word_list.specs.Request.{Call, Named, Row, row_of, rows}
+use Rattle.word_list.specs.Request.{Call, Named, Row, engine_of, row_of, rows}
 use Rattle.outcome_laws.specs.Serving.{IsServed, SmallEnginesServeTwo, takes_small_maps}
 use Rattle.outcome_laws.proofs.Spelled.{row_called, spelled}
 use Rattle.word_list.specs.Settings.{setting_of, is_for_small_maps, is_allowed, may_follow, all_follow}
-use Rattle.word_list.specs.Settings.{are_settings, settings_with, default_settings}
+use Rattle.word_list.specs.Settings.{are_settings, settings_with, silent_on}
 
 -- families that allow no engine of small maps
 abbrev BarSmall : List Family → Type 0
@@ -48,13 +50,19 @@ module _ (allows : List Family) (bar : BarSmall allows) where
       (with_one set (setting_of word) (and_parts (is_allowed allows (setting_of word)) _ parts.0).0 large)
 
 -- behind the words that a command takes stand its settings
-settings_behind : (takes : List WordKind) (allows : List Family) (words : List (List ℕ))
-    → fits takes allows words ≡ true
-    → are_settings allows (drop (length takes) words) ≡ true
-settings_behind [] allows words fit = fit
-settings_behind (kind ∷ takes) allows [] fit = absurd (cc)
-settings_behind (kind ∷ takes) allows (word ∷ words) fit =
-    settings_behind takes allows words (and_parts (is_of kind word) (fits takes allows words) fit).1
+settings_behind : (engine : SessionEngine) (takes : List WordKind) (allows : List Family) (words : List (List ℕ))
+    → fits engine takes allows words ≡ true
+    → are_settings engine allows (drop (length takes) words) ≡ true
+settings_behind engine [] allows words fit = fit
+settings_behind engine (kind ∷ takes) allows [] fit = absurd (cc)
+settings_behind engine (kind ∷ takes) allows (word ∷ words) fit =
+    settings_behind engine takes allows words
+    (and_parts (is_of kind word) (fits engine takes allows words) fit).1
+
+-- a call begins with none of them
+begins_large : (engine : SessionEngine) → is_for_small_maps (silent_on engine).pick ≡ false
+begins_large Plain = refl
+begins_large engine = refl
 
 -- a row allows them only for a command that they may serve
 record IsServing (row : Row) : Type 0 where
@@ -93,6 +101,7 @@ served [] call e = absurd (cc)
 served (name ∷ words) call e = let is = spelled name words call e in
     subst (λ (k : Call). IsServed k.request.command k.settings) is.spells
     (λ no. with_all is.row.allows ((row_serves name is.row is.known).bar no) []
-    (drop (length is.row.takes) words) default_settings
+    (drop (length is.row.takes) words) (silent_on (engine_of is.row.command))
     (and_parts (all_follow is.row.allows [] (drop (length is.row.takes) words)) _
-    (settings_behind is.row.takes is.row.allows words is.fit)).0 refl)
+    (settings_behind (engine_of is.row.command) is.row.takes is.row.allows words is.fit)).0
+    (begins_large (engine_of is.row.command)))

@@ -6,21 +6,21 @@ use Rattle.std.proofs.lemmas.Slice.Eq.{bytes_eq-Decides}
 use Rattle.std.specs.List.{list_all}
 use Rattle.std.specs.Prelude.{Option, Some, None, unwrap_or, option_and_then, bytes_eq, if◌then◌else◌}
 use Rattle.word_list.specs.Calls.{call_of, fits}
-use Rattle.word_list.specs.Request.{Call, Named, Row, asked_by, row_in, row_of}
+use Rattle.word_list.specs.Request.{Call, Named, Row, asked_by, engine_of, row_in, row_of}
 use Rattle.word_list.specs.Settings.{settings_of}
 
 -- the call that the words behind a row's name make
 abbrev pub call_by : Row → List (List ℕ) → Call
 call_by row words = record {
   request = asked_by row words;
-  settings = settings_of (drop (length row.takes) words);
+  settings = settings_of (engine_of row.command) (drop (length row.takes) words);
 }
 
 -- a name and the words behind it spell a call
 pub record IsSpelled (name : List ℕ) (words : List (List ℕ)) (call : Call) : Type 0 where
   pub row : Row
   pub known : row_of name ≡ Some row
-  pub fit : fits row.takes row.allows words ≡ true
+  pub fit : fits (engine_of row.command) row.takes row.allows words ≡ true
   pub spells : call_by row words ≡ call
 
 same_call : (one other : Call) → Some one ≡ Some other → one ≡ other
@@ -30,7 +30,7 @@ pub spelled : (name : List ℕ) (words : List (List ℕ)) (call : Call) → call
     → IsSpelled name words call
 spelled name words call e = by_row (row_of name) refl e
   where
-    by_fit : (row : Row) → row_of name ≡ Some row → (b : Bool) → fits row.takes row.allows words ≡ b
+    by_fit : (row : Row) → row_of name ≡ Some row → (b : Bool) → fits (engine_of row.command) row.takes row.allows words ≡ b
         → (if b then Some (call_by row words) else None) ≡ Some call → IsSpelled name words call
     by_fit row is true fit e = record {
       row = row;
@@ -41,10 +41,10 @@ spelled name words call e = by_row (row_of name) refl e
     by_fit row is false fit e = absurd (cc)
 
     by_row : (o : Option Row) → row_of name ≡ o → option_and_then
-        (λ row. if fits row.takes row.allows words then Some (call_by row words) else None) o ≡ Some call
+        (λ row. if fits (engine_of row.command) row.takes row.allows words then Some (call_by row words) else None) o ≡ Some call
         → IsSpelled name words call
     by_row None is e = absurd (cc)
-    by_row (Some row) is e = by_fit row is (fits row.takes row.allows words) refl e
+    by_row (Some row) is e = by_fit row is (fits (engine_of row.command) row.takes row.allows words) refl e
 
 -- the row of a name is that of one with this name, which passes a test that all in the table pass
 pub record IsRowOf (test : Named → Bool) (name : List ℕ) (row : Row) : Type 0 where
