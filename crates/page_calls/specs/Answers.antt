@@ -20,9 +20,9 @@ pub record ComeTo (replies : By → Replies) (words : List (List ℕ)) (texts : 
   pub outcome : Outcome
   pub is : IsOutcome replies words (held_under texts) (Some input) outcome
   pub same_status : outcome.status ≡ status
-  pub texts : List (List ℕ)
-  pub stand : StandFor outcome.wants outcome.out texts
-  pub same_out : out ≡ concat texts
+  pub lines : List (List ℕ)
+  pub stand : StandFor outcome.wants outcome.out lines
+  pub same_out : out ≡ concat lines
   pub same_err : err ≡ outcome.line
 
 -- so it is by replies of which each is right
