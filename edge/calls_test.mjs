@@ -1,9 +1,11 @@
 // Calls the module again and again in one instance: its memory has to stay as large as one call of each kind made it.
 //
-//     node calls_test.mjs JPS.MJS CALLS SIDE     CALLS queries on SIDE by SIDE open cells, by the engines in turn
+//     node calls_test.mjs JPS.MJS CALLS SIDE [ENGINE..]     CALLS queries on SIDE by SIDE open cells, by these engines in
+//                                                           turn, or by those that a session has
 import { pathToFileURL } from "node:url";
 
-const [script, calls, side] = process.argv.slice(2).map((it, k) => (k ? Number(it) : it));
+const [script, calls, side, ...asked] = process.argv.slice(2);
+const engines = asked.length ? asked : ["plain", "block", "jps", "plus"];
 
 // What jps.mjs makes an instance by, which it keeps to itself.
 const made = [];
@@ -18,7 +20,6 @@ const { answer } = await import(pathToFileURL(script));
 const rows = `${".".repeat(side)}\n`.repeat(side);
 const map = new TextEncoder().encode(`type octile\nheight ${side}\nwidth ${side}\nmap\n${rows}`);
 const end = String(side - 1);
-const engines = ["plain", "block", "jps", "plus"];
 const mebibytes = () => made.map((it) => it.exports.memory.buffer.byteLength / 2 ** 20);
 
 let first;

@@ -1,6 +1,7 @@
 // Tries the heap of wasm.c on the machine at hand, with sanitizers: blocks keep their bytes, lie at multiples of 16 and
 // apart from each other, a refused growth changes nothing, and a call takes no more than the one before it.
-// gcc -g -fsanitize=address,undefined -Wno-attributes heap_test.c -o heap_test && ./heap_test
+// gcc -O2 -g -fsanitize=address,undefined -Wno-attributes heap_test.c -o heap_test && ./heap_test
+// Some minutes; with -DTURNS=10000, as in the gate, some seconds.
 #include <stdio.h>
 #include <stdlib.h>
 #include <string.h>
@@ -19,7 +20,10 @@ static unsigned long grow(unsigned long more) {
 #define __heap_base (*arena)
 #include "wasm.c"
 
-enum { BLOCKS = 200, TURNS = 300000 };
+#ifndef TURNS
+#define TURNS 300000
+#endif
+enum { BLOCKS = 200 };
 static struct {
     unsigned char *at;
     size_t size;
