@@ -4,11 +4,11 @@
 //     const { status, out, err } = await answer(["query", "m", "1", "1", "23", "23"], { m: map });
 //
 // The words are those of the command line, the files are all that there are, as bytes or text by their names, and the
-// input is what `live` reads. `out` and `err` are bytes: those that the program prints. As a command, `node jps.mjs`
-// and the same words, it prints what ./jps prints; by `live` it answers once its input has ended.
+// input is what `live` and `serve` read. `out` and `err` are bytes: those that the program prints. As a command,
+// `node jps.mjs` and the same words, it prints what ./jps prints; by these two it answers once its input has ended.
 
 // The sum of the jps.wasm that belongs to this file (SHA-256): tools/ship writes it.
-const SUM = "f8341ea3462266ff0e12545ff6d1600b1bcee86097ce0af57554851afc7f4c4f";
+const SUM = "5af8ca3401bb04d68964505ace2ab48be1d2701d6fca11bf43e91a20c5e6cc25";
 
 const IN_NODE = typeof process === "object" && Boolean(process.versions?.node);
 
@@ -131,7 +131,7 @@ function read(fs, name) {
 async function main(fs, words) {
   const files = Object.create(null);
   namesOf(words, (name) => (files[name] = read(fs, name)));
-  const input = words[0] === "live" ? read(fs, 0) : "";
+  const input = ["live", "serve"].includes(words[0]) ? read(fs, 0) : "";
   let { status, out, err } = await answer(words, files, input);
   if (status === 0 && input === undefined) [status, err] = [4, bytesOf("jps: read\n")];
   if (!write(fs, 1, out)) [status, err] = [5, bytesOf("jps: write\n")];
