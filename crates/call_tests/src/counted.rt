@@ -35,8 +35,7 @@ tables long | solve engine=loading rule=slipping => - the same
 tables long | solve engine=plus-by-cell rule=none => - the same
 tables long | live engine=loading rule=slipping => - the same
 tables long | live engine=plus-by-cell rule=none => - the same
-tables long | serve engine=loading rule=slipping => - the same
-tables long | serve engine=plus-by-cell rule=none => - the same
+tables long | serve engine=loading rule=any => - the same
 tables long | scen engine=loading rule=slipping => - the same
 tables long | scen engine=plus-by-cell rule=none => - the same
 script long | live engine=any rule=any => - its input has no end: a test of its own, in ample.rt
@@ -57,7 +56,7 @@ live m | engine=each rule=any: walk, water, point, none, apart, outside, blocked
     trace, tables, map faults, script faults, absent, streams \
     | engine=loading rule=any: table faults, water tables | engine=plain rule=any: states
 serve m | engine=each rule=any: walk, water, point, none, apart, outside, blocked, ok, same, empty, cells, \
-    trace, near, field, costs, refused, tables, map faults, absent, streams \
+    trace, nearest, field, costs, refused, tables, map faults, absent, streams \
     | engine=loading rule=any: table faults, water tables | engine=plain rule=any: states
 scen m s | engine=any rule=any: agree, near, off, scale, outside, blocked, none, apart, point, water, empty, \
     taken, done, tables, map faults, scen faults, absent, streams \

@@ -16,21 +16,21 @@ use std::test::Fail;
 // . . . . .
 // ```
 pub(crate) const SERVED: &str = "
-near, field, costs, refused, ok, same, none, streams | serve m engine=each rule=any | ..@. \
+nearest, field, costs, refused, ok, same, none, streams | serve m engine=each rule=any | ..@. \
     | near 0 0 3 0/field 1 0/costs 0 0/query 0 0 1/~129/~128/query 0 0 3 0/free 2 0/free 2 0/near 0 0 3 0 \
     => 0 walk 1 0 0,0 1,0/field 4 1/2*--/costs 4 1/0,0 1,0 - -/refused T1/refused T2/none/ok/same/walk 3 0 0,0 3,0
-near, blocked, outside, point | serve m engine=each rule=any | ..@. \
+nearest, blocked, outside, point | serve m engine=each rule=any | ..@. \
     | near 2 0 3 0/near 0 0 4 0/near 4 0 0 0/near 3 0 0 0/near 0 0 2 0/near 0 0 0 0 \
     => 0 blocked/outside/outside/walk 0 0 3,0/walk 1 0 0,0 1,0/walk 0 0 0,0
-near | serve m engine=each rule=none | ...../..@../..... | near 0 1 2 1/near 2 0 2 1 \
+nearest | serve m engine=each rule=none | ...../..@../..... | near 0 1 2 1/near 2 0 2 1 \
     => 0 walk 1 1 0,1 1,0 2,0/walk 0 0 2,0
-near, water | serve m engine=each rule=any | ..WW/..WW | near 0 0 3 1/near 3 1 0 1 \
+nearest, water | serve m engine=each rule=any | ..WW/..WW | near 0 0 3 1/near 3 1 0 1 \
     => 0 walk 0 1 0,0 1,1/walk 1 0 3,1 2,1
-near, cells | serve m show=cells engine=each rule=any | ... | near 0 0 2 0 => 0 walk 2 0 0,0 1,0 2,0
+nearest, cells | serve m show=cells engine=each rule=any | ... | near 0 0 2 0 => 0 walk 2 0 0,0 1,0 2,0
 field, blocked, outside | serve m engine=each rule=any | ..@. \
     | field 3 0/free 2 0/field 3 0/field 4 0/block 0 0/field 0 0/field 2 0 \
     => 0 field 4 1/---*/ok/field 4 1/222*/outside/ok/blocked/field 4 1/-2*6
-field, water | serve m engine=each rule=any | .WW/.WW | field 1 0 => 0 field 3 2/-*6/-06
+field, water | serve m engine=each rule=any | .WW/.WW | field 1 0 => 0 field 3 2/-*6/-07
 field | serve m engine=each rule=any | .../.../... | field 1 1/field 0 0 \
     => 0 field 3 3/345/2*6/107/field 3 3/*66/076/007
 costs, blocked, outside | serve m engine=each rule=strict | ..@/... | costs 0 0/costs 2 0/costs 0 2 \
