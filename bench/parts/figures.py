@@ -86,6 +86,20 @@ def origin(results):
     return "".join(words)
 
 
+def run_of(results):
+    """Of which run these results are: what --add keeps with a part."""
+    facts, load = results["facts"], results.get("load", {}).get("before", {}).get("load", "unknown")
+    kept = {name: facts[name] for name in ("program", "commit", "processor")}
+    return {"began": results["began"], "load": load, **kept}
+
+
+def run_words(results, part):
+    """The same in few words, of a part of the results."""
+    run = results[part].get("run") or run_of(results)
+    words = f"{run['program']} on commit {run['commit'][:8]}, {run['began']}, {run['processor']['name']}"
+    return f"{words}, load {run['load']}"
+
+
 def queries_table(results, states, engines):
     """Each map by each engine: the median time of a further query, and its ratio to the reference."""
     rows = results["queries"]
@@ -135,14 +149,16 @@ def arrival_line(results):
 
 def textbook_text(results):
     """Each map by each engine beside the searches as the papers have them."""
-    rows, lines = results["queries"], []
+    part, lines = results["textbook"], []
+    rows = part["rows"]
     for name in maps_of(rows):
         found = [ratio_of(rows, name, it, main_states(rows, it), other="textbook") for it in ENGINES]
         lines.append([name_of(name), *(told.ratio_text(it) if it else "" for it in found)])
     middle = medians(rows, other="textbook")
     lines.append(["median", *(f"{middle[it]:.2f}" if it in middle else "" for it in ENGINES)])
     words = "The time over that of searches as the papers have them, with one node for each cell; of `plain` over that of "
-    return [words + "A\\* by buckets.", told.table(["Map", *(f"`{it}`" for it in ENGINES)], lines)]
+    words += f"A\\* by buckets. The median of the ratios of {part['turns']} turns; {run_words(results, 'textbook')}."
+    return [words, told.table(["Map", *(f"`{it}`" for it in ENGINES)], lines)]
 
 
 def heap_table(results):
@@ -182,16 +198,17 @@ def queries_text(results):
     if has_cell(results):
         parts.append(arrival_line(results))
     for other in dict.fromkeys(row["program"] for row in results["queries"]):
-        if other in ("jps", "reference", "pairing"):
-            continue
-        words = f"[the textbook's searches]({TEXTBOOK})" if other == "textbook" else f"the build {other}"
-        parts.append(f"Beside {words}, the median of the ratios: {middle_words(results, other)}.")
+        if other not in ("jps", "reference", "pairing"):
+            parts.append(f"Beside the build {other}, the median of the ratios: {middle_words(results['queries'], other)}.")
+    if results.get("textbook"):
+        words = middle_words(results["textbook"]["rows"], "textbook")
+        parts.append(f"Beside [the textbook's searches]({TEXTBOOK}), the median of the ratios: {words}.")
     return parts
 
 
-def middle_words(results, other):
+def middle_words(rows, other):
     """The medians of the ratios to another program, by engine."""
-    middle = medians(results["queries"], other=other)
+    middle = medians(rows, other=other)
     return ", ".join(f"`{engine}` {ratio:.2f}" for engine, ratio in middle.items())
 
 
@@ -252,9 +269,8 @@ def counts_text(results):
         return None
     model = "valgrind's callgrind, whose caches and guesses are a model"
     by = "`perf stat`" if results["counts"]["by"] == "perf" else model
-    facts = results["facts"]
     words = f"Thousands for each further query, in brackets the ratio to the reference's; counted by {by}, on so many "
-    words += f"further entries of each map, evenly from its lengths ({facts['program']}, {results['began']})."
+    words += f"further entries of each map, evenly from its lengths ({run_words(results, 'counts')})."
     head = ["Map", "Engine", "entries", *names]
     if has_textbook:
         head.append("instructions beside the textbook's")
@@ -416,8 +432,8 @@ def elsewhere_text(results):
         lines.append(line)
     middle = [", ".join(f"{told.median(it):.2f}" for it in found[engine].values()) for engine in ENGINES]
     words = f"How many times as long a query takes in {' and in '.join(hosts)} as in the program, by the clock, with "
-    words += f"`states=cell` ({results['began']}, {results['facts']['processor']['name']}). On ARM nothing was timed: the "
-    words += "program is tried there by qemu, which tells no times."
+    words += f"`states=cell` ({run_words(results, 'elsewhere')}). On ARM nothing was timed: the program is tried there by "
+    words += "qemu, which tells no times."
     return [words, told.table(["Map", *(f"`{it}`" for it in ENGINES)], [*lines, ["median", *middle]])]
 
 
@@ -484,14 +500,14 @@ def ticks_text(results):
             found = [find(part["rows"], map=name, kind=kind, engine=engine) for kind in part["kinds"]]
             lines.append([words, f"`{engine}`", *map(tick_time, found)])
     head = ["{0} x {0} cells".format(part["side"]), "Engine", *part["kinds"]]
-    words = "Four edits and a `near` of each of {} units: processor time of `serve` for a tick, the median of {} turns."
+    words = "Four edits and a `near` of each of {} units: processor time of `serve` for a tick, the median of {} turns ({})."
     more = [row for row in part["rows"] if row["kind"] not in part["kinds"]]
     rows = [[f"{part['units']} units: {row['kind']}", tick_time(row), told.seconds(row["0.99"])] for row in more]
     rows += [[row["what"], tick_time(row), ""] for row in part["lines"]]
     rows.append(["a million lines: the most memory behind the first 10,000, and behind all", memory_words(part), ""])
     more_head = ["By `block`", "A tick or a line", "99 of 100 ticks by the clock"]
     tables = [told.table(head, lines), told.table(more_head, rows)]
-    return ["## A tick of a game", words.format(part["units"], part["turns"]), *tables, field_table(part)]
+    return ["## A tick of a game", words.format(part["units"], part["turns"], run_words(results, "ticks")), *tables, field_table(part)]
 
 
 def memory_words(part):
@@ -620,6 +636,9 @@ def readme_text(results):
     """The rows of README. It may have few words, so there are as many as before."""
     rows = [row for row in results["queries"] if row["program"] in ("jps", "reference")]
     lines = [reference_row(rows), library_row(results) if "libraries" in results else None]
+    if results.get("textbook"):
+        jumps = [row for row in results["textbook"]["rows"] if row["engine"] in JUMPS]
+        lines[0][1] += f"; [as in the papers](bench/reference/textbook.hpp): {middle_words(jumps, 'textbook')}"
     names = sorted(maps_of(rows), key=lambda name: results["maps"][name]["width"] * results["maps"][name]["height"])
     sizes = [cells_of(results, name).replace("x", "×") for name in (names[0], names[-1])]
     head = f"On {len(names)} maps, from {sizes[0]} to {sizes[1]} cells, with `states=cell`"
@@ -749,9 +768,9 @@ def more_blocks(results):
             blocks["arrival"] = [queries_table(results, "arrival", JUMPS), cell_gain(results)]
         if has_pairing(results):
             words = "Beside the reference with the program's kind of open list, the median of the ratios: "
-            blocks["heaps"] = [heap_table(results), f"{words}{middle_words(results, 'pairing')}."]
-        if any(row["program"] == "textbook" for row in results["queries"]):
-            blocks["textbook"] = textbook_text(results)
+            blocks["heaps"] = [heap_table(results), f"{words}{middle_words(results['queries'], 'pairing')}."]
+    if has("textbook"):
+        blocks["textbook"] = textbook_text(results)
     if has("counts"):
         blocks["counts"] = counts_text(results)
     if has("taken"):

@@ -144,6 +144,13 @@ def queries(run):
     run.results["queries"] = time_queries(run, pairs, run.contestants)
 
 
+def textbook(run):
+    """The program beside the searches as the papers have them."""
+    pairs = [(name, variant) for name in run.maps for variant in run.variants if run.textbook.knows(variant)]
+    rows = time_queries(run, pairs, [run.contestants[0], run.textbook])
+    run.results["textbook"] = {"turns": run.turns, "rows": rows}
+
+
 def growth(run):
     pairs = [(name, variant) for name in run.growth_maps for variant in run.variants]
     run.results["growth"] = time_queries(run, pairs, run.contestants[:1])
@@ -406,13 +413,13 @@ def counted_row(run, name, variant, contestant):
 
 
 def counts(run):
-    """Counts of the program, the reference and the textbook's searches. Callgrind's are the same whatever else runs, so all processors count."""
+    """Counts of the program, the reference and the textbook's searches. Callgrind's are the same whatever else runs."""
     run.results["counts"] = {"by": run.counter, "rows": []}
     if not run.counter:
         run.tell("nothing is counted: neither may perf count here, nor does valgrind run")
         return
     pairs = [(name, variant) for name in run.maps for variant in run.variants]
-    counted = [it for it in run.contestants if it.name in ("jps", "reference", "textbook")]
+    counted = [*(it for it in run.contestants if it.name in ("jps", "reference")), run.textbook]
     jobs = [(*pair, contestant) for pair in pairs for contestant in counted if contestant.knows(pair[1])]
     done = 0
     jobs_at_once = 1 if run.counter == "perf" else run.jobs  # real caches are shared
