@@ -262,6 +262,12 @@ def made(tried):
     browser.press("#make-scen button")
     browser.wait("document.querySelector('#scen-sum').textContent.startsWith('sum 200 agree 200')", SECONDS)
     browser.wait("document.querySelector('#plot .mark.block')", SECONDS)
+    browser.press("#save-scen")
+    saved = tried.folder / "problems-1-200.scen"
+    saved.write_bytes(browser.downloaded("problems-1-200.scen"))
+    (tried.folder / "made.map").write_text(tried.jps("make", 7, 96, 64, 30))
+    told = tried.jps("scen", tried.folder / "made.map", saved).splitlines()
+    equal("the sum of the saved scenario", told[-1], "sum 200 agree 200 near 0 off 0 other 0")
     tried.keep("made")
     for command, printed in (("#command", "#printed"), ("#scen-command", "#scen-sum")):
         typed, wanted = (browser.run(f"document.querySelector('{it}').textContent") for it in (command, printed))
