@@ -358,9 +358,11 @@ def try_words(program, top, room):
     """Known words alone come to the program: `live` where states are wanted, else `serve`; a script has no `near`."""
     with tempfile.TemporaryDirectory() as spying:
         spy, sent = pathlib.Path(f"{spying}/spy"), pathlib.Path(f"{spying}/sent")
-        talking = f'tee -a {sent} | {program} "$@"'
-        choice = f'case $1 in serve | live) {talking} ;; *) exec {program} "$@" ;; esac'
-        spy.write_text(f'#!/bin/sh\necho "$*" >>{sent}\n{choice}\n')
+        spy.write_text(
+            f'#!/bin/sh\nkeep() {{ printf "%s\\n" "$*" >>{sent}; }}\nkeep "$*"\ncase $1 in\n'
+            f'serve | live) while IFS= read -r line; do keep "$line"; echo "$line"; done | {program} "$@" ;;\n'
+            f'*) exec {program} "$@" ;;\nesac\n'
+        )
         spy.chmod(0o755)
         place = Place(spy, top, room)
         try:

@@ -301,7 +301,7 @@ export function legend(theme) {
     ["land", colours.land], ["swamp (land)", colours.swamp], ["trees (blocked)", colours.trees],
     ["wall (blocked)", colours.wall], ["water", colours.water], ["walk", colours.walk, "line"],
     ["another program's walk", colours.told, "dashed"],
-    ["nearest cell, if none leads to the goal", ring, "ring"],
+    ["nearest cell to a goal out of reach", ring, "ring"],
     ["taken states, early to late", `linear-gradient(90deg, ${stateRamp(theme).join(", ")})`],
     ["cells that jumps looked at", colours.looked], ["jump from its parent", colours.ray, "line"],
   ];
