@@ -48,17 +48,17 @@ export function element(name, attributes = {}, ...children) {
 export function settings(engine = state.engine, show = undefined) {
   const words = { engine, rule: state.rule };
   if (show) words.show = show;
-  if (state.cellStates && engine !== "plain") words.states = "cell";
+  if (engine !== "plain") words.states = state.cellStates ? "cell" : "arrival";
   return words;
 }
 
 const quoted = (word) => (/^[\w./:=,@%+-]+$/.test(word) ? word : `'${word.replaceAll("'", "'\\''")}'`);
 
-/** A call as it is typed; settings that hold where none is named are left out. */
+/** A call as it is typed. Settings that hold where none is named are left out, but of `serve`, which has others. */
 export function commandLine(words, { engine = "plain", rule = "none", show, states } = {}) {
-  const line = [state.program, ...words];
-  if (engine !== "plain") line.push(`engine=${engine}`);
-  if (states) line.push(`states=${states}`);
+  const line = [state.program, ...words], isServe = words[0] === "serve";
+  if (isServe || engine !== "plain") line.push(`engine=${engine}`);
+  if (states && (isServe || states !== "arrival")) line.push(`states=${states}`);
   if (show) line.push(`show=${show}`);
   if (rule !== "none") line.push(`rule=${rule}`);
   return line.map((word) => quoted(String(word))).join(" ");

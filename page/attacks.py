@@ -5,6 +5,7 @@ import json
 import os
 import pathlib
 import random
+import re
 import signal
 import socket
 import subprocess
@@ -20,6 +21,11 @@ ROUNDS_OF_GIVING_UP = 5
 STRANGERS = 200
 SECONDS_OF_DRIPPING = 8
 SECONDS_OF_CHANGING = 5
+# What the program may be called with, and what lines it may be sent.
+KNOWN = re.compile(
+    r"(serve|live) \S+( engine=(plain|jps|block|plus)| rule=(none|one|both)| states=(arrival|cell)| show=trace)*"
+    r"|(query|near)( \d{1,9}){4}|(block|free|flood)( \d{1,9}){2}|make( \d{1,9}){4}|--version|--help"
+)
 
 
 def children(process):
@@ -140,8 +146,10 @@ def words(place):
     asked = {"page": page, "engine": "plain", "rule": "none", "sx": 5, "sy": 5, "gx": 9, "gy": 9}
     yield "a query", place.post("query", asked), 200
     for name, value in [("engine", "plain; touch /tmp/x"), ("rule", "none show=trace"), ("sx", "5"), ("sx", -1), ("sx", 1.5),
-                        ("sx", True), ("gy", 10**12), ("show", "$(id)"), ("engine", ["plain"])]:
-        yield f"{name} {value}", place.post("query", {**asked, name: value}), 400
+                        ("sx", True), ("gy", 10**12), ("show", "$(id)"), ("engine", ["plain"]), ("states", "cell\nnear")]:
+        for near in (False, True):
+            yield f"{name} {value}", place.post("query", {**asked, name: value, "near": near}), 400
+    yield "near with states", place.post("query", {**asked, "near": True, "show": "trace"}), 400
     for command in ("live", "drill", "--help", "../jps", None):
         yield f"the command {command}", place.post("run", {**asked, "command": command}), 400
     for edits in ("x", [["rm", 1, 1]], [["free", 1]], [["free", "1", 1]], [["free", 1, 1, 1, 1]], [["free", 1, 1, 256]], [["free", 1, 1]] * 20001):
@@ -271,6 +279,7 @@ def changing(place):
             elif kind < 60:
                 answer = place.post("edit", {**words, "edits": [["block", below(), below()] for _ in range(60)]})
             else:
+                words["near"] = kind < 80
                 answer = place.post("query", {**words, **{it: below() for it in ("sx", "sy", "gx", "gy")}})
             told.append(status(answer))
 
@@ -343,6 +352,40 @@ def try_one_map(program, top, room):
             yield "a shell was called"
     finally:
         yield from place.end()
+
+
+def try_words(program, top, room):
+    """Known words alone come to the program: `live` where states are wanted, else `serve`; a script has no `near`."""
+    with tempfile.TemporaryDirectory() as spying:
+        spy, sent = pathlib.Path(f"{spying}/spy"), pathlib.Path(f"{spying}/sent")
+        spy.write_text(
+            f'#!/bin/sh\nkeep() {{ printf "%s\\n" "$*" >>{sent}; }}\nkeep "$*"\ncase $1 in\n'
+            f'serve | live) while IFS= read -r line; do keep "$line"; echo "$line"; done | {program} "$@" ;;\n'
+            f'*) exec {program} "$@" ;;\nesac\n'
+        )
+        spy.chmod(0o755)
+        place = Place(spy, top, room)
+        try:
+            yield from wrong(words(place))
+            page = place.open()
+            asked = {"page": page, "engine": "jps", "rule": "one", "sx": 5, "sy": 5, "gx": 24, "gy": 3}
+            before = len(sent.read_text().splitlines())
+            for told in ({"show": "trace"}, {"near": True}, {"states": "cell", "near": "near 1 1 2 2\nfree 1 1"}):
+                answer = place.post("query", {**asked, **told, "keep": True})
+                yield from wrong([(f"a query with {told}", answer, 200)])
+            yield from wrong([("an edit", place.post("edit", {**asked, "edits": [["free", 24, 3, 83]]}), 200)])
+            lines, settings = sent.read_text().splitlines(), "maps/game49.map engine=jps rule=one"
+            wanted = [f"live {settings} show=trace", "query 5 5 24 3", f"serve {settings}", "near 5 5 24 3"]
+            wanted += [f"serve {settings} states=cell", "query 5 5 24 3", "free 24 3"]
+            if lines[before:] != wanted:
+                yield f"the program is sent {lines[before:]} in place of {wanted}"
+            if odd := [it for it in lines if not KNOWN.fullmatch(it)]:
+                yield f"the program is sent {odd}"
+            script = place.get(f"{place.home}saved-script?page={page}").partition(b"\r\n\r\n")[2]
+            if script != b"query 5 5 24 3\nquery 5 5 24 3\nfree 24 3\n":
+                yield f"a script: {script!r}"
+        finally:
+            yield from place.end()
 
 
 def try_signals(program, top, room):
@@ -432,6 +475,6 @@ def wrong(answers):
 
 def try_all(program, top):
     """Each fault in words."""
-    for part in (try_one_map, try_signals, try_end, try_no_map, try_pipe, try_site):
+    for part in (try_one_map, try_words, try_signals, try_end, try_no_map, try_pipe, try_site):
         with tempfile.TemporaryDirectory() as room:
             yield from part(program, top, room)

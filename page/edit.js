@@ -1,4 +1,4 @@
-// Paints walls, land and water. Every cell of a stroke goes to `jps live` as an edit; what it answers is
+// Paints walls, land and water. Every cell of a stroke goes to the program as an edit; what it answers is
 // counted.
 
 import * as api from "./api.js";

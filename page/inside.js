@@ -7,6 +7,7 @@ import { editMap, mapText, readMap } from "./grid.js";
 const text = new TextDecoder();
 const bytesOf = (told) => new TextEncoder().encode(told);
 const MOST_NAME = /[^\w.+-]/g;
+const LINE_FEED = 10;
 
 // Workers
 
@@ -17,8 +18,8 @@ class Caller {
   }
 
   /** Calls the program when those before have ended. `files` are names and what has the bytes of each. */
-  call(words, files, signal) {
-    const mine = this.turn.then(() => this.now(words, files, signal));
+  call(words, files, signal, input) {
+    const mine = this.turn.then(() => this.now(words, files, signal, input));
     this.turn = mine.catch(() => {});
     return mine;
   }
@@ -33,7 +34,7 @@ class Caller {
     this.worker = null;
   }
 
-  now(words, files, signal) {
+  now(words, files, signal, input) {
     if (signal?.aborted) throw new DOMException("stopped", "AbortError");
     if (!this.worker) this.start();
     const sent = {};
@@ -60,7 +61,7 @@ class Caller {
         this.end();
         failed(new Fault("This browser can't run the program: it needs WebAssembly with 64-bit memories (Chromium 133, Firefox 134 or later).", -1, "page"));
       });
-      this.worker.postMessage({ words, sent });
+      this.worker.postMessage({ words, sent, input });
     });
   }
 }
@@ -69,19 +70,24 @@ const callers = {}; // one for each engine that is shown, and one for all else
 const callerOf = (name) => (callers[name] ||= new Caller());
 
 /** What a call prints; a fault where its status is one. */
-async function call(words, files, signal, caller = "") {
-  const told = await callerOf(caller).call(words.map(String), files, signal);
+async function call(words, files, signal, caller = "", input = "") {
+  const told = await callerOf(caller).call(words.map(String), files, signal, input);
   if (told.status > 1) throw new Fault(text.decode(told.err).trim(), told.status);
   return told;
 }
 
 // What a page has
 
-const mine = { name: "", bytes: null, map: null, edits: 0, journal: [], given: {}, made: null, madeScen: null, site: null };
+const mine = {
+  name: "", map: null, bytes: null, since: [], // the edits behind those that the bytes have, as lines
+  edits: 0, journal: [], given: {}, made: null, madeScen: null, site: null,
+};
+// Behind more of them the bytes are made anew: tables of `plus` are mended at each.
+const MOST_SINCE = 40;
 
 /** The files of a call: the map as it now is, and what else it reads; no map's name has a colon. */
 function files(...others) {
-  mine.bytes ??= mapText(mine.map);
+  if (mine.since.length) [mine.bytes, mine.since] = [mapText(mine.map), []];
   return Object.fromEntries([[mine.name, mine.bytes], ...others.map((it) => [`:${it}`, mine.given[it].bytes])]);
 }
 
@@ -95,14 +101,15 @@ function settings({ engine, rule, show, states }) {
 async function described() {
   const named = (kind) => mine.given[kind]?.name ?? null;
   const told = { map: mine.name, scen: named("scen"), walks: named("walks"), made: mine.made, madeScen: mine.madeScen };
-  Object.assign(told, { version: mine.version, states: mine.hasStates, program: "jps" });
+  Object.assign(told, { version: mine.version, program: "jps" });
   if (mine.map) return { ...told, width: mine.map.width, height: mine.map.height };
   const { status, err } = await callerOf("").call(["query", mine.name, "0", "0", "0", "0"], { [mine.name]: mine.bytes });
   return { ...told, status, fault: text.decode(err).trim() };
 }
 
 function takeMap(name, bytes, made = null) {
-  Object.assign(mine, { name, bytes, made, map: readMap(bytes), edits: 0, journal: [], given: {}, madeScen: null });
+  Object.assign(mine, { name, bytes, made, map: readMap(bytes), since: [] });
+  Object.assign(mine, { edits: 0, journal: [], given: {}, madeScen: null });
 }
 
 async function fetched(name) {
@@ -117,7 +124,6 @@ export const maps = () => mine.site?.maps.map((it) => it.map) ?? [];
 export async function open() {
   mine.site = JSON.parse(text.decode(await fetched("site.json")));
   mine.version = text.decode((await call(["--version"], {})).out).trim();
-  mine.hasStates = text.decode((await call(["--help"], {})).out).includes("states=");
   const asked = new URLSearchParams(location.search).get("map");
   const entry = mine.site.maps.find((it) => it.map === asked) || mine.site.maps[0];
   takeMap(entry.map, await fetched(`maps/${entry.map}`));
@@ -144,27 +150,34 @@ export async function take(kind, name, bytes) {
 
 // What the program is asked
 
+/** What these lines are answered, behind the edits: by `live` where states are wanted; `serve` tells none. */
+function lines(words, asked, signal, caller = words.engine) {
+  const map = mine.since.length > MOST_SINCE ? files() : { [mine.name]: mine.bytes };
+  const input = [...mine.since, ...asked].map((it) => `${it}\n`).join("");
+  return call([words.show ? "live" : "serve", mine.name, ...settings(words)], map, signal, caller, input);
+}
+
 /** The line that answers a query, as bytes, and how many seconds it took. */
 export async function query(words, signal) {
-  const { sx, sy, gx, gy, engine, keep } = words;
-  const told = await call(["query", mine.name, sx, sy, gx, gy, ...settings(words)], files(), signal, engine);
-  if (keep) mine.journal.push(`query ${sx} ${sy} ${gx} ${gy}`);
-  return { bytes: told.out.subarray(0, told.out.length - 1), seconds: told.seconds };
+  const { sx, sy, gx, gy, keep, near } = words;
+  const line = `${near ? "near" : "query"} ${sx} ${sy} ${gx} ${gy}`;
+  const { out, seconds } = await lines(words, [line], signal);
+  if (keep && !near) mine.journal.push(line);
+  return { bytes: out.subarray(out.lastIndexOf(LINE_FEED, -2) + 1, -1), seconds };
 }
 
 /** Works edits [verb, x, y, byte] on the map as it is; the program says of each what it did. */
 export async function edit({ edits, rule }, signal) {
-  const lines = edits.map((it) => it.slice(0, 3).join(" "));
-  const script = bytesOf(lines.map((line) => `${line}\n`).join(""));
-  const told = await call(["solve", mine.name, ":edits", `rule=${rule}`], { ...files(), ":edits": script }, signal);
-  const answers = text.decode(told.out).trimEnd().split("\n");
+  const asked = edits.map((it) => it.slice(0, 3).join(" "));
+  const { out } = await lines({ engine: "block", rule }, asked, signal, "");
+  const answers = text.decode(out).trimEnd().split("\n").slice(-asked.length);
   edits.forEach((it, at) => {
     if (answers[at] !== "ok") return;
     editMap(mine.map, ...it);
+    mine.since.push(asked[at]);
     mine.edits += 1;
   });
-  mine.journal.push(...lines);
-  mine.bytes = null;
+  mine.journal.push(...asked);
   return { answers: answers.join(" "), edits: mine.edits };
 }
 

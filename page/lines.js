@@ -1,6 +1,8 @@
 // Reads the lines that the program prints, and the files that it is given. Nothing is reckoned here but
 // decimals.
 
+import { Fault } from "./fault.js";
+
 export const DIRECTIONS = ["N", "NE", "E", "SE", "S", "SW", "W", "NW"];
 const text = new TextDecoder();
 const SPACE = 32, COMMA = 44, COLON = 58, LETTER_T = 116;
@@ -56,6 +58,7 @@ export function readAnswer(bytes) {
   const fields = text.decode(bytes.subarray(0, end)).split(" ");
   const states = end < bytes.length ? readStates(bytes, end + 6) : null;
   const answer = { kind: fields[0], states, bytes };
+  if (answer.kind === "memory" || answer.kind === "refused") throw new Fault(fields.join(" "), 0);
   if (answer.kind === "walk") {
     answer.straight = Number(fields[1]);
     answer.diagonal = Number(fields[2]);

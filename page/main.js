@@ -62,8 +62,8 @@ function pickEnds() {
 
 /** Takes over what the server tells of a map, and loads its cells. */
 export async function takeMap(told, isFirst = false) {
-  Object.assign(state, { program: told.program, scen: told.scen, walks: told.walks, hasStates: told.states });
-  Object.assign(state, { made: told.made, madeScen: told.madeScen });
+  const { program, scen, walks, made, madeScen } = told;
+  Object.assign(state, { program, scen, walks, made, madeScen });
   byId("about").textContent = `${told.version}. All that is shown was printed by this program.`;
   const name = told.map.split("/").pop();
   document.title = `${name} – jps: paths on grid maps`;

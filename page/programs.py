@@ -1,4 +1,4 @@
-"""The programs behind the page: `jps live`, asked line by line, and single calls of `jps`.
+"""The programs behind the page: `jps serve` and `jps live`, asked line by line, and single calls of `jps`.
 
 Words go to the program as a list, never through a shell. Each wait for a program also looks at the browser's
 connection: where that is closed nobody waits for the answer any more, and the program is ended.
@@ -11,7 +11,7 @@ import subprocess
 import threading
 import time
 
-# Edits go to `live` in pieces whose answers fit into a pipe.
+# Edits go to a process in pieces whose answers fit into a pipe.
 MOST_LINES_AT_ONCE = 2000
 # `live` reads at most 2^26 bytes in all; a process that has read nearly as many is replaced.
 MOST_SENT = 60_000_000
@@ -94,7 +94,8 @@ class Program:
         # Where the launcher has to build the program first, it says on standard error how long that takes.
         subprocess.run([path, "make", "1", "1", "1", "0"], stdout=subprocess.DEVNULL, check=True)
         self.version = self.text("--version").strip()
-        self.has_states = "states=" in self.text("--help")
+        if "serve MAP" not in self.text("--help"):
+            raise OSError(f"{path} has no serve: a program of version 1.3.0 or later is wanted")
 
     def text(self, word):
         call = [self.path, word]
@@ -142,11 +143,13 @@ class Program:
 
 
 class Live:
-    """One process of `jps live`, which is asked one line, or one piece of edits, at a time."""
+    """One process of `jps serve`, or of `jps live` where states are wanted; `serve` tells none. It is asked one line,
+    or one piece of edits, at a time."""
 
     def __init__(self, program, words):
         self.program = program
-        self.process = program.start(["live", *words], stdin=subprocess.PIPE)
+        command = "live" if "show=trace" in words else "serve"
+        self.process = program.start([command, *words], stdin=subprocess.PIPE)
         self.lock = threading.Lock()
         self.users = 0  # who asks it, or is about to
         self.edits = 0  # how many of the page's edits it knows

@@ -6,6 +6,7 @@ import {
   showBanner, state, tell, withMade,
 } from "./app.js";
 import { isSmall, packed, unpacked } from "./grid.js";
+import { estimateOf } from "./jumps.js";
 import { decimal, readAnswer, readPoint, shortened } from "./lines.js";
 import { groundAt, isInside, redraw, setEnd, views } from "./stage.js";
 import { ENGINES, RULES, answerWords } from "./words.js";
@@ -33,15 +34,25 @@ let restClock = null;
 
 function shortWords() {
   const words = queryWords(state.engine);
-  if (state.hasStates && state.engine !== "plain") words.states = "cell";
+  if (words.states) words.states = "cell";
   return words;
+}
+
+/** The answer to a query; where no walk leads to the goal, with the walk to the nearest cell. */
+async function answerOf(words, signal) {
+  const { bytes, seconds } = await api.query(words, signal);
+  const answer = { ...readAnswer(bytes), seconds, words };
+  if (answer.kind !== "none" && answer.kind !== "blocked") return answer;
+  const near = readAnswer((await api.query({ ...words, show: undefined, near: true }, signal)).bytes);
+  // (From a blocked start there is none.)
+  return near.kind === "walk" ? { ...answer, near, points: near.points } : answer;
 }
 
 const asker = new api.LastAsked(async ({ keep, isShort: isThisShort }, signal) => {
   const words = isThisShort ? shortWords() : wholeWords(keep);
   try {
-    const told = await during("The program is searching", (stop) => api.query(words, stop), signal);
-    state.answer = { ...readAnswer(told.bytes), seconds: told.seconds, words, isShort: isThisShort };
+    const answer = await during("The program is searching", (stop) => answerOf(words, stop), signal);
+    state.answer = { ...answer, isShort: isThisShort };
     hideBanner();
     tell("answer");
     clearTimeout(restClock);
@@ -72,11 +83,20 @@ export const isAsking = () => asker.isBusy;
 const counted = (count, what) => `${count.toLocaleString("en")} ${what}${count === 1 ? "" : "s"}`;
 const groundOf = (cell) => (isInside(cell) ? groundAt(cell) : undefined);
 
+/** What the program printed: its line, and below it that of the nearest cell, where it was asked for one. */
+const printed = ({ bytes, near }, told) => [bytes, ...(near ? [near.bytes] : [])].map(told).join("\n");
+
+function nearWords(cell, goal) {
+  const away = Number(decimal(...estimateOf(cell, goal)));
+  return `The nearest cell that a walk leads to is ${cell.x},${cell.y}, ${counted(away, "cell")} away`;
+}
+
 /** The outcome in words, for the large line and the small one. */
 export function verdictOf(answer) {
   if (answer.kind !== "walk") {
-    const { sx, sy, gx, gy } = answer.words;
-    return [answerWords(answer.kind, groundOf({ x: sx, y: sy }), groundOf({ x: gx, y: gy })), ""];
+    const { sx, sy, gx, gy } = answer.words, goal = { x: gx, y: gy };
+    const words = answerWords(answer.kind, groundOf({ x: sx, y: sy }), groundOf(goal));
+    return [words, answer.near ? nearWords(answer.points.at(-1), goal) : ""];
   }
   const { straight, diagonal, points } = answer;
   return [`${straight} + ${diagonal}·√2`, `${decimal(straight, diagonal)} · ${counted(points.length, "point")}`];
@@ -99,11 +119,12 @@ function showAnswer() {
     byId("detail").textContent = "";
   }
   // While an end is dragged a long line is shown in part, as to lay it out takes as long as the search.
-  byId("printed").textContent = answer ? shortened(answer.bytes, answer.words.keep ? 24_000 : 1500) : "";
+  const most = answer?.words.keep ? 24_000 : 1500;
+  byId("printed").textContent = answer ? printed(answer, (it) => shortened(it, most)) : "";
   showCommand();
   const view = views[0];
   if (!state.compare) {
-    view.content.walk = answer?.kind === "walk" ? answer.points : null;
+    Object.assign(view.content, { walk: answer?.points, isNear: Boolean(answer?.near) });
     redraw();
   }
 }
@@ -111,9 +132,13 @@ function showAnswer() {
 function showCommand() {
   if (!hasEnds()) return;
   const words = state.answer?.isShort ? state.answer.words : wholeWords();
-  byId("command").textContent = withMade(commandLine(["query", mapWord(), ...endWords()], words));
+  const line = endWords().join(" "), serve = ["serve", mapWord()];
+  const asked = [commandLine(["query", mapWord(), ...endWords()], words)];
+  const near = `echo near ${line} | ${commandLine(serve, { ...words, show: undefined })}`;
+  if (state.answer?.near) asked.push(near);
+  byId("command").textContent = withMade(asked.join("\n"));
   byId("draw-note").textContent = commandLine(["draw", mapWord(), ...endWords()], words) + " > walk.svg";
-  byId("live-note").textContent = commandLine(["live", mapWord()], settings()) + `\nquery ${endWords().join(" ")}`;
+  byId("serve-note").textContent = `${commandLine(serve, settings())}\nquery ${line}`;
   if (state.changes) byId("draw-note").textContent += "   (save the edited map first: Edit)";
 }
 
@@ -156,7 +181,7 @@ export function readAddress() {
   state.goal = { x: numbers[2], y: numbers[3] };
   if (ENGINE_NAMES.includes(engine)) state.engine = engine;
   if (RULE_NAMES.includes(rule)) state.rule = rule;
-  state.cellStates = state.hasStates && states === "cell";
+  state.cellStates = states === "cell";
   return true;
 }
 
@@ -213,7 +238,9 @@ export function beginQuery() {
     showAddress();
     copy(location.href, event.target);
   };
-  byId("copy-printed").onclick = (event) => state.answer && copy(wholeText.decode(state.answer.bytes), event.target);
+  byId("copy-printed").onclick = ({ target }) => {
+    if (state.answer) copy(printed(state.answer, (it) => wholeText.decode(it)), target);
+  };
   byId("copy-command").onclick = (event) => copy(byId("command").textContent, event.target);
   on("ends", ({ isDragged }) => {
     showEnds(isDragged);
@@ -239,7 +266,6 @@ export function beginQuery() {
   on("leave", () => asker.drop());
   on("changed", () => ask());
   on("map", () => {
-    byId("states-choice").hidden = byId("states-words").hidden = !state.hasStates;
     showChoices();
     showEnds();
     showAnswer();

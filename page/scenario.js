@@ -190,6 +190,7 @@ export function beginScenario() {
   byId("copy-scen").onclick = (event) => copy(byId("scen-command").textContent, event.target);
   byId("scen-sort").onchange = byId("scen-bucket").onchange = () => list.take(listed());
   byId("save-list").onclick = saveList;
+  byId("save-scen").onclick = async () => saveAs(state.scen.split("/").pop(), await api.scenText(), "text/plain");
   on("tab", load);
   on("settings", load);
   on("files", () => {

@@ -139,9 +139,7 @@ export function playOnce() {
 // Side by side
 
 async function askOf(view, signal) {
-  const words = { ...queryWords(view.engine, "trace") };
-  delete words.states;
-  if (state.hasStates && view.states === "cell") words.states = "cell";
+  const words = { ...queryWords(view.engine, "trace"), states: view.states };
   const told = await during(`${view.name} is searching`, (stop) => api.query(words, stop), signal);
   const answer = { ...readAnswer(told.bytes), seconds: told.seconds, words: { ...words, keep: true } };
   if (view.canvas.isConnected) show(view, answer);

@@ -2,7 +2,7 @@
 """Serves one page on 127.0.0.1 that shows what `jps` printed.
 
     jps-page MAP [SCEN [WALKS]] [--program PATH] [--port N]
-    jps-page --site FOLDER      writes the page as files that any web server serves (site.py)
+    jps-page --site FOLDER      writes the page as files that any web server serves (site_files.py)
 
 The page's address has a secret in it, and is answered only where the request's Host is its own. No file is served
 but the page's own ones and those that were named; words go to the program as a list.
@@ -68,13 +68,13 @@ class Request:
             raise Refused(400, f"{name} is none of {', '.join(choices)}")
         return value
 
-    def settings(self, program, shows=()):
+    def settings(self, shows=()):
         """The settings that are named, as words of the program."""
         words = ["engine=" + self.choice("engine", ENGINES), "rule=" + self.choice("rule", RULES)]
         if self.words.get("show") is not None:
             words.append("show=" + self.choice("show", shows))
-        if program.has_states and self.words.get("states") is not None:
-            words.append("states=" + self.choice("states", ("cell",)))
+        if self.words.get("states") is not None:
+            words.append("states=" + self.choice("states", ("arrival", "cell")))
         return words
 
     def rule(self):
@@ -269,8 +269,8 @@ class Handler(http.server.BaseHTTPRequestHandler):
     def described(self, session, key):
         """What a page is told of its map; a fault where the program refuses it."""
         told = {"page": key, "map": session.map_path, "scen": session.scen_path, "walks": session.walks_path}
-        told.update(version=self.server.program.version, states=self.server.program.has_states)
-        told.update(program=self.server.program.path, made=session.map_words, madeScen=session.scen_words)
+        told.update(version=self.server.program.version, program=self.server.program.path)
+        told.update(made=session.map_words, madeScen=session.scen_words)
         if session.map is None:
             told["status"], told["fault"] = session.fault_of_map(self.connection)
         else:
@@ -285,15 +285,17 @@ class Handler(http.server.BaseHTTPRequestHandler):
     def query(self, _):
         request = self.body()
         session = self.session_with_map(request.words.get("page"))
-        settings = request.settings(self.server.program, ("points", "trace"))
-        line = "query " + " ".join(request.ends())
-        answer, seconds = session.ask(settings, line, self.connection, request.words.get("keep") is True)
+        is_near = request.words.get("near") is True
+        settings = request.settings(() if is_near else ("trace",))
+        line = " ".join(["near" if is_near else "query", *request.ends()])
+        is_kept = request.words.get("keep") is True and not is_near  # a script has no `near`
+        answer, seconds = session.ask(settings, line, self.connection, is_kept)
         self.answer(answer, "text/plain", seconds=seconds)
 
     def edit(self, _):
         request = self.body()
         session = self.session_with_map(request.words.get("page"))
-        settings = request.settings(self.server.program, ("points", "trace"))
+        settings = request.settings(("trace",))
         answers = session.edit(settings, request.edits(), self.connection)
         self.tell({"answers": b" ".join(answers).decode(), "edits": len(session.edits)})
 
@@ -302,11 +304,11 @@ class Handler(http.server.BaseHTTPRequestHandler):
         name = request.choice("command", ("scen", "judge", "prove", "check", "draw"))
         path = session.edited_path()
         if name == "scen":
-            return name, [name, path, session.scen_path, *request.settings(self.server.program, ("taken",))]
+            return name, [name, path, session.scen_path, *request.settings(("taken",))]
         if name == "judge":
             return name, [name, path, session.scen_path, session.walks_path, *request.rule()]
         if name == "draw":
-            settings = request.settings(self.server.program, ("points", "trace"))
+            settings = request.settings(("trace",))
             return name, [name, path, *request.ends(), *settings]
         if name == "check":
             return name, [name, path, session.file("walk.cert"), *request.rule()]

@@ -20,7 +20,7 @@ MOST_MENDED = 40
 
 
 def most_lives(cells):
-    """How many `live` processes a page keeps: each has a map and a search of its own in memory."""
+    """How many processes of `serve` and `live` a page keeps: each has a map and a search in memory."""
     if cells > 1 << 22:
         return 2
     return 4 if cells > 1 << 20 else 8

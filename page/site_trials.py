@@ -1,6 +1,7 @@
 """What is tried of the page as a folder of files, and of what both forms have: figures, drops, links. For page/test."""
 
 import hashlib
+import pathlib
 import subprocess
 import time
 
@@ -39,8 +40,6 @@ def site_queries(tried):
             browser.press(f"input[name=rule][value={rule}]")
             words = ["query", GAME, 5, 5, 44, 8, "show=trace", f"engine={engine}", f"rule={rule}"]
             tried.printed(tried.jps(*words).rstrip("\n"), f"site, {engine}, {rule}")
-    tried.type("#goal", "24,3")
-    tried.printed("blocked", "a blocked goal on a site")
     tried.type("#goal", "5,40")
     browser.press("#tab-edit")
     browser.drag([tried.cell(x, 20) for x in (1, 6, 14, 22)])
@@ -182,6 +181,63 @@ def links(tried):
     both_forms(tried, work)
 
 
+def nearest(tried):
+    """Where no walk leads to the goal: the line of the nearest cell, its ring, its words and its command."""
+    browser = tried.browser
+
+    def look(form, map_path, goal, *words):
+        """The printed lines, and what is drawn and told of the second one."""
+        ends = [5, 5, *goal]
+        told = tried.jps("query", map_path, *ends, *words, "show=trace")
+        near = tried.jps("serve", map_path, *words, lines=f"near {' '.join(map(str, ends))}\n")
+        what = f"{form}, from {ends[:2]} to {goal}"
+        tried.printed((told + near).rstrip("\n"), what)
+        x, y = map(int, near.split()[-1].split(","))
+        expect(f"{what}: the ring", tried.is_ringed(x, y))
+        less, more = sorted((abs(x - goal[0]), abs(y - goal[1])))
+        head, away = browser.text("#detail").split(" away")[0].rsplit(", ", 1)
+        equal(f"{what}: the nearest cell in words", head, f"The nearest cell that a walk leads to is {x},{y}")
+        expect(f"{what}: {away} away", abs(float(away.split()[0]) - (more - less + less * 2**0.5)) < 0.001)
+        typed = browser.run("document.querySelector('#command').textContent")
+        call = ["sh", "-c", f'jps() {{ {tried.program} "$@"; }}\n{typed}']
+        at = TOP if " maps/" in typed else map_path.parent
+        done = subprocess.run(call, capture_output=True, text=True, cwd=at)
+        equal(f"{what}: what {typed!r} prints", done.stdout, told + near)
+
+    def work(form):
+        words = ("engine=jps", "states=arrival", "rule=none")
+        tried.type("#goal", "24,3")
+        look(form, TOP / GAME, [24, 3], *words)
+        tried.keep(f"{form}-nearest")
+        if form == "server":
+            calls = [pathlib.Path(f"/proc/{it}/cmdline").read_bytes() for it in tried.children()]
+            equal("who is asked", sorted(it.split(b"\0")[1] for it in calls), [b"live", b"serve"])
+        tried.type("#goal", "15,15")
+        printed = tried.jps("query", GAME, 5, 5, 15, 15, "engine=jps", "show=trace").rstrip("\n")
+        tried.printed(printed, f"{form}, a goal that can be reached again")
+        browser.press("#tab-edit")
+        browser.drag([tried.cell(*it) for it in ((12, 12), (18, 12), (18, 18), (12, 18), (12, 12))])
+        browser.wait("document.querySelector('#edit-count').textContent === '24 edits'", SECONDS)
+        browser.press("#save-map")
+        path = tried.folder / form / "edited.map"
+        path.parent.mkdir()
+        path.write_bytes(browser.downloaded("edited.map"))
+        look(form, path, [15, 15], *words)
+        browser.run("document.querySelector('#tab-query').click()")
+        tried.keep(f"{form}-nearest-closed")
+        # A drag out of the ring and into it again; its answers are those of where the end is.
+        browser.drag([tried.cell(*it) for it in ((15, 15), (20, 20), (30, 30), (14, 14), (13, 13))])
+        look(form, path, [13, 13], *words)
+        browser.press("#tab-edit")
+        browser.press("#undo")
+        browser.wait("document.querySelector('#undo').disabled", SECONDS)
+        printed = tried.jps("query", GAME, 5, 5, 13, 13, "engine=jps", "show=trace").rstrip("\n")
+        tried.printed(printed, f"{form}, behind undo")
+        expect(f"{form}: no ring behind undo", not tried.is_ringed(13, 13))
+
+    both_forms(tried, work)
+
+
 def figures(tried):
     """The five figures step by step, by keys and with walls drawn; what they say is what the program prints."""
     browser = tried.browser
@@ -296,4 +352,4 @@ def by_keys(tried):
     tried.printed(tried.jps("query", GAME, 5, 5, 26, 22, "show=trace", "engine=jps").rstrip("\n"), "behind an edit by keys")
 
 
-PARTS = [site_files, site_queries, dragged, drops, replaced, links, figures, sizes, by_keys]
+PARTS = [site_files, site_queries, dragged, drops, replaced, links, nearest, figures, sizes, by_keys]

@@ -27,8 +27,6 @@ def query(tried):
     tried.printed(tried.jps("query", GAME, 23, 1, 25, 1, "show=trace").rstrip("\n"), "the first query")
     print(f"49 x 49 on the screen after {tried.shown()} ms")
     tried.keep("query")
-    is_offered = not browser.run("document.querySelector('#states-choice').hidden")
-    equal("whether states=cell is offered", is_offered, "states=" in tried.jps("--help"))
     browser.click(*tried.cell(5, 5))
     browser.click(*tried.cell(40, 44))
     tried.printed(tried.jps("query", GAME, 5, 5, 40, 44, "show=trace").rstrip("\n"), "two clicks")
@@ -43,13 +41,17 @@ def query(tried):
     typed = browser.text("#command")
     told = subprocess.run(["sh", "-c", typed], capture_output=True, text=True, cwd=TOP).stdout.rstrip("\n")
     equal("the command line prints the line", told, browser.text("#printed"))
-    call, line = browser.text("#live-note").splitlines()
+    call, line = browser.text("#serve-note").splitlines()
     told = subprocess.run(["sh", "-c", call], input=line + "\n", capture_output=True, text=True, cwd=TOP).stdout.rstrip("\n")
-    expect("so does the line for live", browser.text("#printed").startswith(told + " taken "))
-    for field, word in (("24,3", "blocked"), ("99,3", "outside")):
-        browser.run(f"(() => {{ const it = document.querySelector('#goal'); it.value = '{field}'; it.onchange(); }})()")
-        tried.printed(word, f"a goal at {field}")
-        expect(f"{word} stands in words", browser.text("#verdict").startswith(f"{word} the goal lies"))
+    expect("so does the line for serve", browser.text("#printed").startswith(told + " taken "))
+    for goal, start, words in (
+        ("99,3", "5,5", "outside the goal lies outside the map."),
+        ("30,3", "24,3", "blocked the start lies in trees."),
+    ):
+        tried.type("#goal", goal)
+        tried.type("#start", start)
+        tried.printed(words.split()[0], f"from {start} to {goal}")
+        equal(f"from {start} to {goal}, in words", browser.text("#verdict"), words)
 
 
 def share(tried):
@@ -260,6 +262,12 @@ def made(tried):
     browser.press("#make-scen button")
     browser.wait("document.querySelector('#scen-sum').textContent.startsWith('sum 200 agree 200')", SECONDS)
     browser.wait("document.querySelector('#plot .mark.block')", SECONDS)
+    browser.press("#save-scen")
+    saved = tried.folder / "problems-1-200.scen"
+    saved.write_bytes(browser.downloaded("problems-1-200.scen"))
+    (tried.folder / "made.map").write_text(tried.jps("make", 7, 96, 64, 30))
+    told = tried.jps("scen", tried.folder / "made.map", saved).splitlines()
+    equal("the sum of the saved scenario", told[-1], "sum 200 agree 200 near 0 off 0 other 0")
     tried.keep("made")
     for command, printed in (("#command", "#printed"), ("#scen-command", "#scen-sum")):
         typed, wanted = (browser.run(f"document.querySelector('{it}').textContent") for it in (command, printed))
@@ -375,6 +383,25 @@ def handed(tried):
     equal("a file that is too long", asked(tried, f"take?page={page}&kind=map&name=m", b"", head)[0], 413)
 
 
+def refused(tried):
+    """An answer `memory` or `refused` of `serve` is told with what it means, and `serve` is asked again."""
+    fake = tried.folder / "fake"
+    answers = "read -r line && echo memory && read -r line && echo refused T1"
+    fake.write_text(f'#!/bin/sh\n[ "$1" = serve ] && {answers}\nexec {tried.program} "$@"\n')
+    fake.chmod(0o755)
+    tried.serve(GAME, hash_words="#5,5,15,15,plain,none", program=fake)
+    for goal, words in (
+        ("24,3", "memory There was not enough memory. Another engine may need less."),
+        ("24,4", "refused T1 A line is no command."),
+    ):
+        tried.type("#goal", goal)
+        tried.browser.wait(f"document.querySelector('#banner').innerText === {words!r}", SECONDS)
+    tried.type("#goal", "24,5")
+    near = tried.jps("serve", GAME, "engine=plain", lines="near 5 5 24 5\n").rstrip("\n")
+    tried.printed(f"blocked\n{near}", "behind answers that were refused")
+    expect("nothing of them is told then", tried.browser.run("document.querySelector('#banner').hidden"))
+
+
 def asked(tried, name, body, head=None):
     """The status and the bytes that a request is answered with."""
     request = urllib.request.Request(tried.address + name, data=body, headers=head or {}, method="POST")
@@ -408,5 +435,5 @@ def left(tried):
     browser.wait("!document.querySelector('#banner').hidden", SECONDS)
 
 
-PARTS = [query, share, search, edit, scenario, judge, certificate, manners, made, portrait, handed, left]
-PARTS += [lambda tried: large(tried, 512), lambda tried: large(tried, 4096)]
+PARTS = [query, share, search, edit, scenario, judge, certificate, manners, made, portrait, handed]
+PARTS += [refused, left, lambda tried: large(tried, 512), lambda tried: large(tried, 4096)]

@@ -3,6 +3,7 @@
 import functools
 import http.server
 import json
+import math
 import os
 import pathlib
 import signal
@@ -50,15 +51,15 @@ class Tried:
         self.server = self.plain = None
         self.browser = Browser()
 
-    def jps(self, *words):
-        """What the program prints."""
+    def jps(self, *words, lines=""):
+        """What the program prints, to these lines where it reads any."""
         call = [self.program, *(str(it) for it in words)]
-        return subprocess.run(call, capture_output=True, text=True, cwd=TOP, timeout=600).stdout
+        return subprocess.run(call, input=lines, capture_output=True, text=True, cwd=TOP, timeout=600).stdout
 
-    def serve(self, *named, hash_words=""):
+    def serve(self, *named, hash_words="", program=None):
         """Another server, and its page in the browser."""
         self.end_server()
-        call = [TOP / "jps-page", "--program", self.program, *(str(it) for it in named)]
+        call = [TOP / "jps-page", "--program", program or self.program, *(str(it) for it in named)]
         self.server = subprocess.Popen(call, stdout=subprocess.PIPE, stderr=subprocess.DEVNULL, text=True, cwd=TOP)
         self.address = self.server.stdout.readline().strip()
         self.load(hash_words)
@@ -150,6 +151,16 @@ class Tried:
             f" const [x, y] = view.place({x} + .5, {y} + .5).map((it) => Math.round(it * r));"
             " return [...view.context.getImageData(x, y, 1, 1).data].slice(0, 3); })"
         )
+
+    def is_ringed(self, x, y):
+        """Whether a ring in the goal's colour is seen round a cell: at three of eight places, as the goal may lie over
+        the others."""
+        far = self.browser.run("import('./stage.js').then(({views: [view]}) => (view.endRadius() + 5) / view.camera.scale)")
+        goal = self.browser.run("getComputedStyle(document.documentElement).getPropertyValue('--goal').trim()")
+        wanted = [int(goal[at : at + 2], 16) for at in (1, 3, 5)]
+        ways = [it * math.pi / 4 for it in range(8)]
+        seen = [self.colour(x + far * math.cos(it), y + far * math.sin(it)) for it in ways]
+        return seen.count(wanted) >= 3
 
     def keep(self, name):
         time.sleep(0.25)

@@ -102,6 +102,7 @@ export class View {
     if (content.picture && !isAbove) this.drawMarks(content.picture, colours);
     if (content.walk) this.drawWalk(content.walk, colours.walk, colours.casing);
     if (content.picture && isAbove) this.drawMarks(content.picture, colours);
+    if (content.walk && content.isNear) this.drawNearest(content.walk.at(-1), colours);
     // Between the dashes of a told walk a least one is seen, where both lead the same way.
     if (content.told) this.drawWalk(content.told, colours.told, colours.casing, [8, 9]);
     if (content.bad) this.drawBad(content.bad, colours);
@@ -252,6 +253,18 @@ export class View {
     return Math.max(Math.min(9, most), Math.min(this.camera.scale * 0.42, most));
   }
 
+  /** A ring round the nearest cell, where no walk leads to the goal. */
+  drawNearest(cell, colours) {
+    const { context } = this;
+    context.beginPath();
+    context.arc(...this.place(cell.x + 0.5, cell.y + 0.5), this.endRadius() + 5, 0, 7);
+    for (const [colour, width] of [["#fff", 7], [colours.goal, 3.5]]) {
+      context.strokeStyle = colour;
+      context.lineWidth = width;
+      context.stroke();
+    }
+  }
+
   drawBad(cell, colours) {
     const { context } = this;
     const [x, y] = this.place(cell.x + 0.5, cell.y + 0.5);
@@ -283,10 +296,12 @@ export class View {
 /** What the colours mean, for the legend. */
 export function legend(theme) {
   const colours = palette(theme);
+  const ring = `radial-gradient(circle, transparent 3px, ${colours.goal} 3.5px 6px, transparent 6.5px)`;
   return [
     ["land", colours.land], ["swamp (land)", colours.swamp], ["trees (blocked)", colours.trees],
     ["wall (blocked)", colours.wall], ["water", colours.water], ["walk", colours.walk, "line"],
     ["another program's walk", colours.told, "dashed"],
+    ["nearest cell to a goal out of reach", ring, "ring"],
     ["taken states, early to late", `linear-gradient(90deg, ${stateRamp(theme).join(", ")})`],
     ["cells that jumps looked at", colours.looked], ["jump from its parent", colours.ray, "line"],
   ];

@@ -58,22 +58,22 @@ const MAP_FAULTS = {
   K2: "There are more lines of walks than entries, or fewer.",
   P1: "A line of the certificate has another form.",
   P2: "A cell of the certificate stands out of its order.",
-  T1: "A line of the script is no command.",
-  T2: "A line of the script is longer than 128 bytes.",
+  T1: "A line is no command.",
+  T2: "A line is longer than 128 bytes.",
   F1: "The table file begins with another head.",
   F2: "The table file has another length.",
   F3: "An entry of the table file is wrong.",
 };
 
-/** What the program's line of a fault means. */
+/** What the program's line of a fault means; `refused` and `memory` are answers of `serve`, which goes on. */
 export function meaning(line, status) {
-  const code = line.match(/^jps: \w+ ([A-Z]\d)\b/);
+  const code = line.match(/^(?:jps: \w+|refused) ([A-Z]\d)\b/);
   if (code) return MAP_FAULTS[code[1]] || "";
   if (/ long$/.test(line)) return "The text is longer than the program takes.";
   if (/map large$/.test(line)) return "This engine takes maps of at most 16384 cells.";
   if (line === "jps: read") return "A file could not be read: it is absent, or no regular file.";
   if (line === "jps: write") return "Its answer could not be written.";
-  if (line === "jps: memory") return "There was not enough memory for this. Another engine may need less.";
+  if (/^(jps: )?memory$/.test(line)) return "There was not enough memory. Another engine may need less.";
   if (/^jps: word/.test(line)) return "The words were not accepted.";
   if (/signal|stopped/.test(line)) return "It is started anew with the next query.";
   return status ? `It ended with status ${status}.` : "";
