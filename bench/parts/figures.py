@@ -415,26 +415,37 @@ def by_size(results, part, write):
     return told.table(["Cells", *(f"`{it}`" for it in words)], lines)
 
 
-def elsewhere_text(results):
+def elsewhere_ratios(results, name, engine):
     """How many times as long a query takes in each host of the module as in the program."""
-    rows, hosts = results["elsewhere"]["rows"], results["elsewhere"]["hosts"]
-    found = {engine: {host: [] for host in hosts} for engine in ENGINES}
-    lines = []
-    for name in maps_of(rows):
-        line = [short(name)]
-        for engine in ENGINES:
-            kind = {"map": name, "engine": engine}
-            mine = find(rows, program="jps", **kind)["per_query"]
-            ratios = [told.ratio(find(rows, program=it, **kind)["per_query"], mine)[0] for it in hosts]
-            for host, ratio in zip(hosts, ratios):
-                found[engine][host].append(ratio)
-            line.append(", ".join(f"{it:.2f}" for it in ratios))
-        lines.append(line)
-    middle = [", ".join(f"{told.median(it):.2f}" for it in found[engine].values()) for engine in ENGINES]
-    words = f"How many times as long a query takes in {' and in '.join(hosts)} as in the program, by the clock, with "
-    words += f"`states=cell` ({run_words(results, 'elsewhere')}). On ARM nothing was timed: the program is tried there by "
-    words += "qemu, which tells no times."
-    return [words, told.table(["Map", *(f"`{it}`" for it in ENGINES)], [*lines, ["median", *middle]])]
+    rows, kind = results["elsewhere"]["rows"], {"map": name, "engine": engine}
+    mine = find(rows, program="jps", **kind)["per_query"]
+    return [told.ratio(find(rows, program=it, **kind)["per_query"], mine)[0] for it in results["elsewhere"]["hosts"]]
+
+
+def elsewhere_text(results):
+    """The median over the maps, and the sizes of the programs."""
+    names, hosts = maps_of(results["elsewhere"]["rows"]), results["elsewhere"]["hosts"]
+    middle = []
+    for engine in ENGINES:
+        each = zip(*(elsewhere_ratios(results, name, engine) for name in names))
+        middle.append(f"`{engine}` {', '.join(f'{told.median(it):.2f}' for it in each)}")
+    words = f"A query takes so many times as long in {' and in '.join(hosts)} as in the program (the median over "
+    words += f"{len(names)} maps; [each](../bench/FIGURES.md#as-a-webassembly-module)): {'; '.join(middle)}. A 64-bit "
+    words += "memory has each access tested. On ARM nothing was timed: qemu, by which it is tried, tells no times."
+    sizes = [f"{name} {path.stat().st_size / 1e6:.2f}" for name, path in programs.handed_over().items()]
+    return [words, f"Sizes of the programs in MB: {', '.join(sizes)}."]
+
+
+def elsewhere_table(results):
+    """Each map by each engine, in each host of the module."""
+    names = maps_of(results["elsewhere"]["rows"])
+    lines = [
+        [short(name), *(", ".join(f"{it:.2f}" for it in elsewhere_ratios(results, name, engine)) for engine in ENGINES)]
+        for name in names
+    ]
+    words = f"How many times as long a query takes in {' and in '.join(results['elsewhere']['hosts'])} as in the program, "
+    words += f"by the clock, with `states=cell` ({run_words(results, 'elsewhere')})."
+    return [words, told.table(["Map", *(f"`{it}`" for it in ENGINES)], lines)]
 
 
 def growth_text(pictures):
@@ -493,6 +504,7 @@ def tick_time(row):
 
 
 def ticks_text(results):
+    """A tick by map and engine, and round a closed tower."""
     part = results["ticks"]
     lines = []
     for name, words in part["maps"].items():
@@ -500,14 +512,20 @@ def ticks_text(results):
             found = [find(part["rows"], map=name, kind=kind, engine=engine) for kind in part["kinds"]]
             lines.append([words, f"`{engine}`", *map(tick_time, found)])
     head = ["{0} x {0} cells".format(part["side"]), "Engine", *part["kinds"]]
-    words = "Four edits and a `near` of each of {} units: processor time of `serve` for a tick, the median of {} turns ({})."
+    words = "Four edits and a `near` of each of {} units: processor time of `serve` for a tick, the median of {} turns. "
+    words += "[FIGURES](../bench/FIGURES.md#ticks-of-a-game) has closed towers, single lines and fields."
+    return ["## A tick of a game", words.format(part["units"], part["turns"]), told.table(head, lines)]
+
+
+def ticks_table(results):
+    """Ticks round a closed tower and beyond a wall, single lines, fields."""
+    part = results["ticks"]
     more = [row for row in part["rows"] if row["kind"] not in part["kinds"]]
     rows = [[f"{part['units']} units: {row['kind']}", tick_time(row), told.seconds(row["0.99"])] for row in more]
     rows += [[row["what"], tick_time(row), ""] for row in part["lines"]]
     rows.append(["a million lines: the most memory behind the first 10,000, and behind all", memory_words(part), ""])
-    more_head = ["By `block`", "A tick or a line", "99 of 100 ticks by the clock"]
-    tables = [told.table(head, lines), told.table(more_head, rows)]
-    return ["## A tick of a game", words.format(part["units"], part["turns"], run_words(results, "ticks")), *tables, field_table(part)]
+    head = ["By `block`", "A tick or a line", "99 of 100 ticks by the clock"]
+    return [f"By `serve` ({run_words(results, 'ticks')}).", told.table(head, rows), field_table(part)]
 
 
 def memory_words(part):
@@ -522,7 +540,7 @@ def field_table(part):
         times = [told.seconds(told.median(row[it])) if row[it] else "" for it in ("field", "costs", "flow_field")]
         ratio = told.ratio_text(told.ratio(row["field"], row["flow_field"])) if row["flow_field"] else ""
         lines.append([names[row["map"]], *times, ratio])
-    by_buckets = "[by buckets, in C++](../bench/ticks/flow_field.cpp)"
+    by_buckets = "[by buckets, in C++](ticks/flow_field.cpp)"
     return told.table(["All cells", "`field`", "`costs`", by_buckets, "`field` over that"], lines)
 
 
@@ -741,8 +759,6 @@ def speed_blocks(results, pictures):
         blocks["libraries"] = libraries_text(results)
     if has("processes"):
         blocks["processes"] = processes_text(results)
-    if has("ticks"):
-        blocks["ticks"] = ticks_text(results)
     if has("dearest"):
         blocks["dearest"] = dearest_text(results)
     if has("elsewhere") and results["elsewhere"]["rows"]:
@@ -781,6 +797,8 @@ def more_blocks(results):
         "open_land": open_land_spread_text,
         "dearest": dearest_numbers_text,
         "growth": growth_numbers_text,
+        "ticks": ticks_table,
+        "elsewhere": elsewhere_table,
     }
     return blocks | {name: write(results) for name, write in numbers.items() if has(name)}
 

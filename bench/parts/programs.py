@@ -40,6 +40,12 @@ def own():
     return subprocess.run([TOP / "jps", "--program"], check=True, stdout=subprocess.PIPE, text=True).stdout.strip()
 
 
+def handed_over():
+    """The programs of dist/, by system."""
+    found = [*TOP.glob("dist/*/jps"), *TOP.glob("dist/*/jps.exe"), *TOP.glob("dist/*/jps.wasm")]
+    return {path.parent.name: path for path in sorted(found)}
+
+
 def is_older(made, *sources):
     """Whether what was made is absent or older than one of its sources."""
     return not made.exists() or any(made.stat().st_mtime < source.stat().st_mtime for source in sources)
