@@ -262,6 +262,7 @@ def made(tried):
     browser.press("#make-scen button")
     browser.wait("document.querySelector('#scen-sum').textContent.startsWith('sum 200 agree 200')", SECONDS)
     browser.wait("document.querySelector('#plot .mark.block')", SECONDS)
+    browser.press("#scen-other summary")
     browser.press("#save-scen")
     saved = tried.folder / "problems-1-200.scen"
     saved.write_bytes(browser.downloaded("problems-1-200.scen"))
