@@ -391,6 +391,7 @@ def refused(tried):
     fake.write_text(f'#!/bin/sh\n[ "$1" = serve ] && {answers}\nexec {tried.program} "$@"\n')
     fake.chmod(0o755)
     tried.serve(GAME, hash_words="#5,5,15,15,plain,none", program=fake)
+    tried.browser.wait("document.querySelector('#printed').textContent", SECONDS)
     for goal, words in (
         ("24,3", "memory There was not enough memory. Another engine may need less."),
         ("24,4", "refused T1 A line is no command."),
