@@ -150,11 +150,14 @@ export async function take(kind, name, bytes) {
 
 // What the program is asked
 
-/** What these lines are answered, behind the edits: by `live` where states are wanted; `serve` tells none. */
+/**
+ * What these lines are answered, behind the edits: by `live`, or by `serve`, which begins each session with a pass over
+ * the map, and so is asked here for the nearest cell alone.
+ */
 function lines(words, asked, signal, caller = words.engine) {
   const map = mine.since.length > MOST_SINCE ? files() : { [mine.name]: mine.bytes };
   const input = [...mine.since, ...asked].map((it) => `${it}\n`).join("");
-  return call([words.show ? "live" : "serve", mine.name, ...settings(words)], map, signal, caller, input);
+  return call([words.near ? "serve" : "live", mine.name, ...settings(words)], map, signal, caller, input);
 }
 
 /** The line that answers a query, as bytes, and how many seconds it took. */

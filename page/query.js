@@ -29,6 +29,9 @@ const wholeWords = (keep) => queryWords(state.engine, state.showStates ? "trace"
 // state for each cell, which costs the same and is quicker among scattered walls. All is asked where the end rests.
 const SLOW_SECONDS = 0.012;
 const REST = 150;
+// Where the nearest cell takes longer than this it is asked for where the end is dropped.
+const SLOW_NEAR = 0.06;
+let nearSeconds = 0;
 let isShort = false;
 let restClock = null;
 
@@ -43,7 +46,10 @@ async function answerOf(words, signal) {
   const { bytes, seconds } = await api.query(words, signal);
   const answer = { ...readAnswer(bytes), seconds, words };
   if (answer.kind !== "none" && answer.kind !== "blocked") return answer;
-  const near = readAnswer((await api.query({ ...words, show: undefined, near: true }, signal)).bytes);
+  if (!words.keep && nearSeconds > SLOW_NEAR) return answer;
+  const told = await api.query({ ...words, show: undefined, near: true }, signal);
+  const near = readAnswer(told.bytes);
+  nearSeconds = told.seconds;
   // (From a blocked start there is none.)
   return near.kind === "walk" ? { ...answer, near, points: near.points } : answer;
 }

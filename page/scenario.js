@@ -146,7 +146,7 @@ function beginPlotChoice() {
 export async function load() {
   byId("scen-other").open = !state.scen;
   byId("scen-none").hidden = Boolean(state.scen);
-  byId("scen-some").hidden = !state.scen;
+  byId("scen-some").hidden = byId("save-scen").hidden = !state.scen;
   if (!state.scen || !state.map || state.tab !== "scenario") return;
   byId("scen-command").textContent = withMade(commandLine(["scen", mapWord(), scenWord()], settings(state.engine, "taken")), true);
   try {

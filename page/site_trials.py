@@ -218,6 +218,7 @@ def nearest(tried):
         browser.press("#tab-edit")
         browser.drag([tried.cell(*it) for it in ((12, 12), (18, 12), (18, 18), (12, 18), (12, 12))])
         browser.wait("document.querySelector('#edit-count').textContent === '24 edits'", SECONDS)
+        browser.wait("document.querySelector('#verdict').textContent.startsWith('none')", SECONDS)
         browser.press("#save-map")
         path = tried.folder / form / "edited.map"
         path.parent.mkdir()

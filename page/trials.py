@@ -262,6 +262,7 @@ def made(tried):
     browser.press("#make-scen button")
     browser.wait("document.querySelector('#scen-sum').textContent.startsWith('sum 200 agree 200')", SECONDS)
     browser.wait("document.querySelector('#plot .mark.block')", SECONDS)
+    browser.press("#scen-other summary")
     browser.press("#save-scen")
     saved = tried.folder / "problems-1-200.scen"
     saved.write_bytes(browser.downloaded("problems-1-200.scen"))
@@ -390,6 +391,7 @@ def refused(tried):
     fake.write_text(f'#!/bin/sh\n[ "$1" = serve ] && {answers}\nexec {tried.program} "$@"\n')
     fake.chmod(0o755)
     tried.serve(GAME, hash_words="#5,5,15,15,plain,none", program=fake)
+    tried.browser.wait("document.querySelector('#printed').textContent", SECONDS)
     for goal, words in (
         ("24,3", "memory There was not enough memory. Another engine may need less."),
         ("24,4", "refused T1 A line is no command."),

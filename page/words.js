@@ -14,7 +14,7 @@ export const RULES = {
 };
 
 export const ANSWERS = {
-  none: "none: no walk leads from start to goal.",
+  none: "none: no walk leads to the goal.",
   outside: "outside: an end lies outside the map.",
   blocked: "blocked: an end lies on a wall or in trees.",
   apart: "apart: one end is land, the other water.",
