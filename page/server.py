@@ -447,17 +447,20 @@ def main():
     for path in filter(None, (told.map, told.scen, told.walks)):
         if not os.path.isfile(path):
             sys.exit(f"jps-page: there is no file {path}")
-    if told.site is not None:
-        sys.exit(site_files.write(told.site, told.module, told.map, told.scen))
+    site_files.take_signals(signal.default_int_handler)
     try:
+        if told.site is not None:
+            sys.exit(site_files.write(told.site, told.module, told.map, told.scen))
         program = Program(told.program)
         server = Server(told.port, program, (told.map, told.scen, told.walks))
     except (OSError, OverflowError, subprocess.CalledProcessError) as fault:
         sys.exit(f"jps-page: {fault}")
+    except KeyboardInterrupt:  # (It has ended the program, too.)
+        sys.exit(130)
 
     # (A signal interrupts nothing, and a second one not the end.)
-    signals, ends = [], (signal.SIGINT, signal.SIGTERM, signal.SIGHUP)
-    for it in ends:
+    signals = []
+    for it in site_files.ENDS:
         signal.signal(it, lambda *told: signals.append(told))
     print(f"http://{server.own_host}/{server.secret}/", flush=True)
     print("Open this address in a browser. Ctrl-C ends the page and its programs.", file=sys.stderr, flush=True)
@@ -465,7 +468,7 @@ def main():
     while not signals:
         server.handle_request()
     server.end()
-    for it in ends:
+    for it in site_files.ENDS:
         signal.signal(it, signal.SIG_IGN)
 
 
