@@ -431,7 +431,6 @@ def try_start(_program, top, room):
             while not read(told).endswith("\n") and time.monotonic() - begun < 20:
                 time.sleep(0.01)
             child = int(read(told))
-            time.sleep(0.5)  # (until it is waited for)
             page.send_signal(it)
             page.wait(20)
             begun = time.monotonic()

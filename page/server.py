@@ -27,7 +27,7 @@ sys.dont_write_bytecode = True  # the folder stays as it is
 sys.path.insert(0, str(pathlib.Path(__file__).resolve().parent))
 import connections  # noqa: E402
 from connections import Refused  # noqa: E402
-from programs import Fault, Gone, Program, TooMuch, is_closed  # noqa: E402
+from programs import Fault, Gone, Program, TooMuch, end_all, is_closed  # noqa: E402
 from sessions import Session  # noqa: E402
 import given  # noqa: E402
 import maps  # noqa: E402
@@ -455,7 +455,8 @@ def main():
         server = Server(told.port, program, (told.map, told.scen, told.walks))
     except (OSError, OverflowError, subprocess.CalledProcessError) as fault:
         sys.exit(f"jps-page: {fault}")
-    except KeyboardInterrupt:  # (It has ended the program, too.)
+    except KeyboardInterrupt:
+        end_all()
         sys.exit(130)
 
     # (A signal interrupts nothing, and a second one not the end.)
