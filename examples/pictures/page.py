@@ -98,5 +98,5 @@ def main():
 
 try:
     main()
-except ValueError as fault:
+except (OSError, ValueError) as fault:
     sys.exit(f"page.py: {fault}")
