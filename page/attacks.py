@@ -15,6 +15,8 @@ import time
 import urllib.parse
 from itertools import product
 
+import site_attacks
+
 MANY = 1000
 ROUNDS = 40
 ROUNDS_OF_GIVING_UP = 5
@@ -32,6 +34,11 @@ def children(process):
     """The programs that any thread of a process has started and that still run."""
     lists = pathlib.Path(f"/proc/{process}/task").glob("*/children")
     return [int(it) for numbers in lists for it in read(numbers).split()]
+
+
+def runs(process):
+    """Whether a process has not ended, be it taken note of or not."""
+    return read(pathlib.Path(f"/proc/{process}/stat")).rpartition(")")[2][:3] not in ("", " Z ", " X ")
 
 
 def read(path):
@@ -264,6 +271,16 @@ def names(place):
             yield f"a scenario {name}", said, 200
 
 
+def alike(place):
+    """What is a map for the program is one for the page, and nothing else."""
+    page, text = place.open(), b"type octile\nheight 1\nwidth 2\nmap\n..\n"
+    ways = [(text, True), (text.replace(b"1", b"1\r\r"), False), (text.replace(b"1", b"\f1"), False)]
+    for text, is_map in (*ways, (text[:-1] + b"\r", True), (text.replace(b" ", b"\t "), True)):
+        told = place.post(f"take?page={page}&kind=map&name=x", text).partition(b"\r\n\r\n")[2]
+        if ("width" in json.loads(told)) != is_map:
+            yield f"the map {text}: {told}"
+
+
 def changing(place):
     """Other maps, edits and queries at once: each is answered, or told that the map is another one."""
     page, told, until = place.open(), [], time.monotonic() + SECONDS_OF_CHANGING
@@ -346,7 +363,7 @@ def try_one_map(program, top, room):
     try:
         for part in (strangers, words, names, heads):
             yield from wrong(part(place))
-        for part in (many, gone, given_up, together, changing, dripping):
+        for part in (alike, many, gone, given_up, together, changing, dripping):
             yield from part(place)
         if os.path.exists("/tmp/x"):
             yield "a shell was called"
@@ -444,26 +461,30 @@ def open_request(place):
     return f"POST {place.home}open HTTP/1.1\r\nHost: {place.host}\r\nContent-Length: 2\r\n\r\n{{}}".encode()
 
 
-def try_site(program, top, room):
-    """A folder of files that fails midway: a line, and nothing is left."""
-    room = pathlib.Path(room)
-    for name in ("module/jps.mjs", "module/jps.wasm", "module/said", "file"):
-        (room / name).parent.mkdir(exist_ok=True)
-        (room / name).touch()
-    named = os.fsencode(room) + b"/module/\xff.map"
-    pathlib.Path(os.fsdecode(named)).touch()
-    (room / "link").symlink_to("none")
-    before = sorted(room.rglob("*"))
-    for what, told, limit in [
-        ("no name", [""], 100), ("a folder below a file", [room / "file/a"], 100), ("a link to nothing", [room / "link"], 100),
-        ("a long name", [room / ("x" * 300)], 100), ("little room", [room / "a/b"], 8),
-        ("a map's name in no UTF-8", [room / "a", named], 100),
-    ]:
-        call = [top / "jps-page", "--program", program, "--module", room / "module", "--site", *told]
-        shell = ["sh", "-c", f'ulimit -f {limit} && exec "$@"', "-", *call]
-        done = subprocess.run(shell, cwd=room, capture_output=True, timeout=60, check=False)
-        if done.returncode != 1 or not done.stderr.startswith(b"jps-page: ") or sorted(room.rglob("*")) != before:
-            yield f"--site, {what}: status {done.returncode}, {done.stderr[-200:]!r}, {sorted(room.rglob('*'))}"
+def try_start(_program, top, room):
+    """A signal while the program is still being built: a status, no traceback, and nothing that goes on."""
+    slow, told = pathlib.Path(f"{room}/slow"), pathlib.Path(f"{room}/number")
+    slow.write_text(f"#!/bin/sh\necho $$ >{told}\nexec sleep 60\n", encoding="ascii")
+    slow.chmod(0o755)
+    for it in (signal.SIGINT, signal.SIGTERM, signal.SIGHUP):
+        signal.signal(it, signal.SIG_DFL)  # (a shell may have begun this with it left out)
+        call = [top / "jps-page", top / "maps/pillar.map", "--program", slow]
+        with subprocess.Popen(call, stderr=subprocess.PIPE) as page:
+            begun = time.monotonic()
+            while not read(told).endswith("\n") and time.monotonic() - begun < 20:
+                time.sleep(0.01)
+            child = int(read(told))
+            page.send_signal(it)
+            page.wait(20)
+            begun = time.monotonic()
+            while (goes_on := runs(child)) and time.monotonic() - begun < 5:
+                time.sleep(0.01)
+            if goes_on:
+                os.kill(child, signal.SIGKILL)
+            said = page.stderr.read()
+        if page.returncode != 130 or said or goes_on:
+            yield f"{it.name} before the page is there: status {page.returncode}, {said[-200:]!r}, {goes_on}"
+        told.unlink()
 
 
 def wrong(answers):
@@ -475,6 +496,7 @@ def wrong(answers):
 
 def try_all(program, top):
     """Each fault in words."""
-    for part in (try_one_map, try_words, try_signals, try_end, try_no_map, try_pipe, try_site):
+    parts = [try_one_map, try_words, try_signals, try_end, try_start, try_no_map, try_pipe]
+    for part in (*parts, *site_attacks.PARTS):
         with tempfile.TemporaryDirectory() as room:
             yield from part(program, top, room)

@@ -5,6 +5,7 @@ written is a map with the page's edits in it.
 """
 
 import os
+import re
 import stat
 
 MOST_BYTES = 1 << 26
@@ -45,9 +46,14 @@ class Map:
         return head + b"\n".join(rows) + b"\n"
 
 
+def fields_of(line):
+    """The fields of a line, as the program parts them."""
+    return re.findall(rb"[^ \t]+", line)
+
+
 def side(line, name):
     """The number of a line such as `height 49`."""
-    fields = line.split()
+    fields = fields_of(line)
     if len(fields) != 2 or fields[0] != name or not fields[1].isdigit() or len(fields[1]) > 9:
         raise NoMap
     number = int(fields[1])
@@ -69,8 +75,8 @@ def read(path):
     text = read_file(path, MOST_BYTES + 1)
     if len(text) > MOST_BYTES:
         raise NoMap
-    lines = text.replace(b"\r\n", b"\n").split(b"\n")
-    if len(lines) < 5 or lines[0].split() != [b"type", b"octile"] or lines[3].split() != [b"map"]:
+    lines = [it.removesuffix(b"\r") for it in text.split(b"\n")]
+    if len(lines) < 5 or fields_of(lines[0]) != [b"type", b"octile"] or fields_of(lines[3]) != [b"map"]:
         raise NoMap
     height, width = side(lines[1], b"height"), side(lines[2], b"width")
     rows = lines[4 : 4 + height]

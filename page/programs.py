@@ -4,8 +4,11 @@ Words go to the program as a list, never through a shell. Each wait for a progra
 connection: where that is closed nobody waits for the answer any more, and the program is ended.
 """
 
+import contextlib
 import os
+import pathlib
 import select
+import signal
 import socket
 import subprocess
 import threading
@@ -71,6 +74,14 @@ def end(process):
         except subprocess.TimeoutExpired:
             process.kill()
             process.wait()
+
+
+def end_all():
+    """Ends all that this process has started, also where a signal came before it was noted."""
+    for it in pathlib.Path("/proc/self/task").glob("*/children"):
+        for child in it.read_text().split():
+            with contextlib.suppress(ProcessLookupError):
+                os.kill(int(child), signal.SIGKILL)
 
 
 def fault_of(process):

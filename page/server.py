@@ -27,7 +27,7 @@ sys.dont_write_bytecode = True  # the folder stays as it is
 sys.path.insert(0, str(pathlib.Path(__file__).resolve().parent))
 import connections  # noqa: E402
 from connections import Refused  # noqa: E402
-from programs import Fault, Gone, Program, TooMuch, is_closed  # noqa: E402
+from programs import Fault, Gone, Program, TooMuch, end_all, is_closed  # noqa: E402
 from sessions import Session  # noqa: E402
 import given  # noqa: E402
 import maps  # noqa: E402
@@ -449,17 +449,21 @@ def main():
     for path in filter(None, (told.map, told.scen, told.walks)):
         if not os.path.isfile(path):
             sys.exit(f"jps-page: there is no file {path}")
-    if told.site is not None:
-        sys.exit(site_files.write(told.site, told.module, told.map, told.scen))
+    site_files.take_signals(signal.default_int_handler)
     try:
+        if told.site is not None:
+            sys.exit(site_files.write(told.site, told.module, told.map, told.scen))
         program = Program(told.program)
         server = Server(told.port, program, (told.map, told.scen, told.walks))
     except (OSError, OverflowError, subprocess.CalledProcessError) as fault:
         sys.exit(f"jps-page: {fault}")
+    except KeyboardInterrupt:
+        end_all()
+        sys.exit(130)
 
     # (A signal interrupts nothing, and a second one not the end.)
-    signals, ends = [], (signal.SIGINT, signal.SIGTERM, signal.SIGHUP)
-    for it in ends:
+    signals = []
+    for it in site_files.ENDS:
         signal.signal(it, lambda *told: signals.append(told))
     print(f"http://{server.own_host}/{server.secret}/", flush=True)
     print("Open this address in a browser. Ctrl-C ends the page and its programs.", file=sys.stderr, flush=True)
@@ -467,7 +471,7 @@ def main():
     while not signals:
         server.handle_request()
     server.end()
-    for it in ends:
+    for it in site_files.ENDS:
         signal.signal(it, signal.SIG_IGN)
 
 

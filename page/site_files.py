@@ -9,11 +9,14 @@ import hashlib
 import json
 import pathlib
 import shutil
+import signal
 
 HERE = pathlib.Path(__file__).resolve().parent
 TOP = HERE.parent
 MODULE = ("jps.mjs", "jps.wasm")
 PAGES = ("index.html", "jump.html")
+# The signals that end a call.
+ENDS = (signal.SIGINT, signal.SIGTERM, signal.SIGHUP)
 SERVER_ALONE = ("asked.js",)
 # Maps that each site has, with their scenarios.
 MAPS = ((HERE / "island.map", HERE / "island.scen"), (TOP / "maps/game49.map", TOP / "maps/game49.map.scen"),
@@ -31,15 +34,19 @@ def as_site(html):
 
 
 def copy_maps(folder, named):
-    """The maps and scenarios below `maps/`; what site.json tells of them."""
-    listed = []
+    """The maps and scenarios below `maps/`, but those whose names are taken; what site.json tells of them."""
+    listed, names = [], set()
     for map_path, scen_path in named:
-        entry = {"map": map_path.name, "scen": scen_path.name if scen_path else None}
-        if entry["map"] in [it["map"] for it in listed]:
+        paths = [it for it in (map_path, scen_path) if it]
+        own = {it.name for it in paths}
+        if len(own) < len(paths):
+            raise ValueError(f"map and scenario have one name, {map_path.name}")
+        if own & names:
             continue
-        for path in filter(None, (map_path, scen_path)):
+        for path in paths:
             shutil.copyfile(path, folder / "maps" / path.name)
-        listed.append(entry)
+        names |= own
+        listed.append({"map": map_path.name, "scen": scen_path.name if scen_path else None})
     return {"maps": listed}
 
 
@@ -50,7 +57,15 @@ def sums(folder):
     return "".join(lines)
 
 
+def take_signals(handler):
+    for it in ENDS:
+        if signal.getsignal(it) != signal.SIG_IGN:
+            signal.signal(it, handler)
+
+
 def empty(folder):
+    """Takes away what was written, whatever signals come meanwhile."""
+    take_signals(signal.SIG_IGN)
     for it in folder.iterdir():
         if it.is_dir():
             shutil.rmtree(it)

@@ -344,7 +344,8 @@ def main():
         f"share/fish/vendor_completions.d/{name}.fish": fish(told.rows, ask),
     }.items():
         (folder / place).parent.mkdir(parents=True, exist_ok=True)
-        (folder / place).write_text(text.replace("@NAME@", name))
+        # (The folder of the docs may have a name that is no text.)
+        (folder / place).write_text(text.replace("@NAME@", name), encoding="utf-8", errors="surrogateescape")
 
 
 main()

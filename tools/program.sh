@@ -30,10 +30,10 @@ read_manifest() {
     declare -gA told=() sums=()
     [ -f "$manifest" ] || return 1
     while read -r word value; do
-        told[$word]=$value
+        told[${word:-none}]=$value
         if [ "$word" = file ]; then
             word=${value%% *} value=${value#* }
-            sums[$word]=${value%% *}
+            sums[${word:-none}]=${value%% *}
         fi
     done <"$manifest"
     sums[${told[program]-none}]=${told[sha256]-}
@@ -114,13 +114,17 @@ begin_look() {
     sleep 0.02
 }
 
-# Writes what this look found and what it looked at. Of the program in dist/ its folders are looked at too:
-# another one may be put in their place, with another program in it, that is older than this look.
+# Writes what this look found, on a line, and the names of what it looked at, from crates/. Of the program in
+# dist/ its folders are looked at too: another one may be put in their place, with another program in it, that
+# is older than this look.
 write_look() {
     local names=("${program#"$top"/}" "${made#"$top"/}")
     if [ "$program" = "$handed" ]; then names=("${handed#"$top"/}" dist/MANIFEST dist); fi
     if [ "$program" = "$handed" ]; then names+=("${names[0]%/*}"); fi
-    printf '%s\0' "${names[@]}" && "$top/tools/sources" --list
+    printf '%s\n' "${names[0]}" &&
+        { printf '%s\0' "${names[@]}" && "$top/tools/sources" --list; } |
+        sed -z 's,^crates/,,; t; s,^,../,' &&
+        printf '%s\0' "jps/out/looked.$at"
 }
 
 # Keeps what was found, so that the next call need not look. Where that cannot be kept, as on a full disk,
@@ -129,6 +133,7 @@ write_look() {
 keep_look() {
     (
         trap '' XFSZ
+        set -o pipefail
         at=$(find "$began" -printf '%T@') && [[ $at != *.0000000000 ]] && write_look >"$began.kept" &&
             rm -f "$out"/looked* && mv -f "$began.kept" "$out/looked.$at"
     ) 2>/dev/null || true

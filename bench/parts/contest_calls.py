@@ -214,6 +214,9 @@ def verdicts(jps, contest, rule, told, limit):
     if done.returncode > 1:
         raise contest_inputs.Wrong(f"`judge` refuses it: {done.stderr.strip()}")
     rows = [line.split()[2:] for line in done.stdout.splitlines() if line.startswith("row ")]
+    if len(rows) != len(contest.entries):
+        counts = f"{len(rows)} rows for {len(contest.entries)} entries"
+        raise contest_inputs.Wrong(f"`judge` of {jps} prints {counts}")
     return [row_of(row, lines[place] if place < len(lines) else None) for place, row in enumerate(rows)]
 
 

@@ -66,6 +66,8 @@ class Entry:
 
     def __init__(self, line):
         fields = line.split()
+        if len(fields) < 9:
+            raise ValueError
         self.line, self.bucket, self.listed = line, fields[0], fields[-1]
         self.ends = [int(it) for it in fields[-5:-1]]
         self.length = float(self.listed)
@@ -76,7 +78,7 @@ class Contest:
 
     def __init__(self, name, map_path, scenario_path):
         self.name, self.map_path, self.scenario_path = name, map_path, scenario_path
-        head, *lines = [it for it in read_text(scenario_path).splitlines() if it.strip()] or [""]
+        head, *lines = [it for it in read_text(scenario_path).split("\n") if it.strip()] or [""]
         self.head, self.entries = head, []
         if not head.startswith("version"):
             raise Wrong(f"{scenario_path}: no line `version 1`")

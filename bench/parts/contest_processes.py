@@ -46,9 +46,14 @@ def is_over(pid):
 
 def end(child):
     """Ends a process and all that it started, also what has left its group."""
-    stop = time.monotonic() + SECONDS_TO_END
     with contextlib.suppress(ProcessLookupError):
         os.killpg(child.pid, signal.SIGKILL)
+    end_all()
+
+
+def end_all():
+    """Ends all that this process has started, also what it has not noted yet."""
+    stop = time.monotonic() + SECONDS_TO_END
     while left := [pid for pid in children(os.getpid()) if not is_over(pid)]:
         for pid in left:
             with contextlib.suppress(ProcessLookupError, PermissionError):

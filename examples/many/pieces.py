@@ -138,7 +138,10 @@ def join(given):
         if absent:
             lacking += absent
             continue
-        output, fault, status = join_pieces((it.read_bytes() for it in files), size)
+        try:
+            output, fault, status = join_pieces((it.read_bytes() for it in files), size)
+        except (ValueError, LookupError, AttributeError):
+            sys.exit(f"pieces.py: an answer rows/{stem}.* is damaged: take it away, and call again")
         (given.work / "joined" / f"{stem}.rows").write_bytes(output)
         statuses.append(status)
         total = output.splitlines()[-1] if output else fault

@@ -96,4 +96,7 @@ def main():
     print(PAGE.format(title=title, colours=colours, keys=keys, figures=figures), end="")
 
 
-main()
+try:
+    main()
+except (OSError, ValueError) as fault:
+    sys.exit(f"page.py: {fault}")

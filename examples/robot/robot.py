@@ -200,5 +200,5 @@ def main():
 
 try:
     main()
-except (OSError, ValueError) as fault:
+except (OSError, ValueError, OverflowError) as fault:
     sys.exit(f"robot.py: {fault}")

@@ -166,20 +166,32 @@ static void send_home(struct cell *units)
         units[k] = (struct cell){k / HEIGHT, k % HEIGHT};
 }
 
+/* How many units are not yet there after a tick. Where none of these has gone on the game ends. */
+static int left(int away, int gone_on)
+{
+    if (away && !gone_on) {
+        fputs("some units have no way\n", stderr);
+        exit(1);
+    }
+    return away;
+}
+
 /* A tick of units that ask each for itself; returns how many are not yet there. */
 static int tick_by_walks(struct cell *units)
 {
     static char lines[UNITS * 64], *answers[UNITS];
-    int length = 0, away = 0;
+    int length = 0, away = 0, gone_on = 0;
     for (int k = 0; k < UNITS; k++)
         length += sprintf(lines + length, "near %d %d %d %d\n", units[k].x, units[k].y, GOAL_X, GOAL_Y);
     ask(lines, answers, UNITS);
     for (int k = 0; k < UNITS; k++) {
-        units[k] = moved(units[k], answers[k]);
-        away += !is_at_goal(units[k]);
+        struct cell to = moved(units[k], answers[k]);
+        gone_on += to.x != units[k].x || to.y != units[k].y;
+        units[k] = to;
+        away += !is_at_goal(to);
         free(answers[k]);
     }
-    return away;
+    return left(away, gone_on);
 }
 
 /* A tick of units that are led by a field. */
@@ -187,22 +199,23 @@ static int tick_by_field(struct cell *units, const char *field)
 {
     const char *rows = strchr(field, '\n') + 1;
     static const struct cell steps[] = {{0, -1}, {1, -1}, {1, 0}, {1, 1}, {0, 1}, {-1, 1}, {-1, 0}, {-1, -1}};
-    int away = 0;
+    int away = 0, gone_on = 0;
     for (int k = 0; k < UNITS; k++) {
         char letter = rows[units[k].y * (WIDTH + 1) + units[k].x];
         if (letter >= '0' && letter <= '7') {
             units[k].x += steps[letter - '0'].x;
             units[k].y += steps[letter - '0'].y;
+            gone_on++;
         }
         away += !is_at_goal(units[k]);
     }
-    return away;
+    return left(away, gone_on);
 }
 
 int main(int count, char **words)
 {
     struct cell units[UNITS];
-    char lines[64], *field;
+    char lines[64], head[64], *field;
     if (count != 3) {
         fputs("usage: serve PROGRAM MAP\n", stderr);
         return 2;
@@ -221,8 +234,9 @@ int main(int count, char **words)
 
     snprintf(lines, sizeof lines, "field %d %d\n", GOAL_X, GOAL_Y);
     ask(lines, &field, 1);
-    if (strncmp(field, "field ", 6) != 0) {
-        printf("the field is %s", field);
+    snprintf(head, sizeof head, "field %d %d\n", WIDTH, HEIGHT);
+    if (strncmp(field, head, strlen(head)) != 0) {
+        printf("the field is %.*s\n", (int)strcspn(field, "\n"), field);
         return 1;
     }
     ticks = 1;

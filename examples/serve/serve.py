@@ -72,6 +72,13 @@ def led(at, field):
     return tuple(map(sum, zip(at, STEPS[int(letter)]))) if letter.isdigit() else at
 
 
+def gone_on(before, after):
+    """The units after a tick; where none has gone on the game ends."""
+    if before == after:
+        sys.exit("serve.py: some units have no way")
+    return after
+
+
 def main():
     if len(sys.argv) != 3:
         sys.exit(__doc__)
@@ -84,14 +91,14 @@ def main():
         if ticks == 10:
             server.jps.kill()
         answers = server.ask(*("near %d %d %d %d" % (*it, *GOAL) for it in units))
-        units, ticks = [moved(*pair) for pair in zip(units, answers)], ticks + 1
+        units, ticks = gone_on(units, [moved(*pair) for pair in zip(units, answers)]), ticks + 1
     print("each by its walk: all", len(units), "are there after", ticks, "ticks")
     (field,) = server.ask("field %d %d" % GOAL)
     if isinstance(field, str):
         sys.exit(f"serve.py: the field is {field}")
     units, ticks = home, 0
     while set(units) != {GOAL}:
-        units, ticks = [led(it, field) for it in units], ticks + 1
+        units, ticks = gone_on(units, [led(it, field) for it in units]), ticks + 1
     print("by the field: all", len(units), "are there after", ticks, "ticks")
     server.jps.stdin.close()  # the end of its input ends it
     sys.exit(server.jps.wait())
@@ -99,5 +106,5 @@ def main():
 
 try:
     main()
-except OSError as fault:
+except (OSError, ValueError, LookupError) as fault:
     sys.exit(f"serve.py: {str(fault) or 'jps ended'}")
