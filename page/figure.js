@@ -83,10 +83,9 @@ export class Figure {
 
   listen() {
     let paints = null;
-    const cellOf = (event) => {
-      const box = this.picture.getBoundingClientRect();
-      const side = box.width / this.rows[0].length;
-      return { x: Math.floor((event.clientX - box.left) / side), y: Math.floor((event.clientY - box.top) / side) };
+    const cellOf = ({ clientX, clientY }) => {
+      const { a, e, f } = this.picture.getScreenCTM(); // on a low screen the picture is narrower than its box
+      return { x: Math.floor((clientX - e) / a / CELL), y: Math.floor((clientY - f) / a / CELL) };
     };
     this.picture.addEventListener("pointerdown", (event) => {
       const cell = cellOf(event);

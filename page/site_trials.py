@@ -287,6 +287,11 @@ def figures(tried):
         browser.wait(f"document.querySelector('#straight').dataset.ready !== '{before}'", SECONDS)
         said = steps("straight")
         expect(f"{form}: a wall by keys ends the run: {said[-1]}", said[-1].startswith("The run ends after 2 moves"))
+        browser.size(844, 390)
+        cell = f"#straight > svg rect:nth-child({4 * 11 + 3 + 1})"
+        browser.press(cell)
+        expect(f"{form}: a click draws the wall below it", browser.run(f"document.querySelector('{cell}').classList.contains('wall')"))
+        browser.size(1280, 800)
 
     both_forms(tried, work)
     tried.browser.size(390, 844, 2, True)
