@@ -17,12 +17,8 @@ from itertools import product
 
 import site_attacks
 
-MANY = 1000
-ROUNDS = 40
-ROUNDS_OF_GIVING_UP = 5
-STRANGERS = 200
-SECONDS_OF_DRIPPING = 8
-SECONDS_OF_CHANGING = 5
+MANY, ROUNDS, ROUNDS_OF_GIVING_UP, STRANGERS = 1000, 40, 5, 200
+SECONDS_OF_DRIPPING, SECONDS_OF_CHANGING = 8, 5
 # What the program may be called with, and what lines it may be sent.
 KNOWN = re.compile(
     r"(serve|live) \S+( engine=(plain|jps|block|plus)| rule=(none|one|both)| states=(arrival|cell)| show=trace)*"
