@@ -89,7 +89,8 @@ def dragged(tried):
             show = ["show=trace"] if side == 512 else []
             words = tried.jps("query", path, *ends[:2], *there, "engine=block", *show).rstrip("\n")
             # What rests behind the drag is the query as it was chosen.
-            browser.wait(f"shown.answer && shown.answer.bytes.length === {len(words)}", SECONDS)
+            rests = f"shown.answer && !shown.answer.isShort && shown.answer.bytes.length === {len(words)}"
+            browser.wait(rests, SECONDS)
             equal(f"{form}, {side} x {side}: the answer behind a drag", browser.run("new TextDecoder().decode(shown.answer.bytes)"), words)
             equal(f"{form}, {side} x {side}: the command", "states=" in browser.text("#command"), False)
             told = f"{form}, {side} x {side}, an end is dragged:"
