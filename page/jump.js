@@ -62,13 +62,18 @@ function neighbourStep(it, arrival) {
   const cost = it.walk && costWords(it.walk.cost);
   const words = {
     forced: `${told(it.cell)} is a forced neighbour: the least path from > costs ${cost}, and goes over x.`,
-    kept: `${told(it.cell)} is a natural neighbour: the least path from > costs ${cost}, and goes over x.`,
+    kept: `${told(it.cell)} is a natural neighbour: the least path from >, diagonal moves first, `
+      + `costs ${cost}, and goes over x.`,
     pruned: it.walk ? `${told(it.cell)} is pruned: a least path from > costs ${cost}, and does not need x.` : `${told(it.cell)} can't be reached here.`,
   }[kind];
   return { words, cells: [{ ...it.cell, kind }], lines: it.walk ? linesOf(it.walk.points, "walk") : [], letters: marks(arrival) };
 }
 
-const lost = (rule, arrival) => ({ words: `Under ${rule} the move from > to x cuts a corner, and is not legal: with such a wall nobody comes to x this way.`, letters: marks(arrival) });
+const lost = (rule, arrival) => ({
+  words: `Under the rule ${rule} the move from > to x cuts a corner, and is not legal. `
+    + "Take away a wall beside it, or change the rule.",
+  letters: marks(arrival),
+});
 
 async function prunedSteps(figure) {
   const arrival = arrivalOf(figure);
@@ -96,9 +101,11 @@ async function forcedSteps(figure) {
       lines: linesOf(before[at].points, "other"), letters: marks(arrival) },
     { ...neighbourStep(it, arrival), words: `A wall closes that path. The least one now costs ${costWords(it.walk.cost)}, and goes over x: ${told(it.cell)} is a forced neighbour.` },
   ]);
-  const count = (rule) => `under ${rule} ${byRule[rule]?.map(({ cell }) => told(cell)).join(" and ") || "nothing"}`;
+  const names = (cells) => cells.map(({ cell }) => told(cell)).join(" and ") || "nothing";
+  const count = (rule) => (byRule[rule] ? `rule ${rule} forces ${names(byRule[rule])}`
+    : `under rule ${rule} the move to x is not legal`);
   const cells = forced.map(({ cell }) => ({ ...cell, kind: "forced" }));
-  const words = `Forced by these walls: ${count("none")}; ${count("one")}; ${count("both")}.`;
+  const words = `With these walls ${count("none")}; ${count("one")}; ${count("both")}.`;
   const lines = [{ from: arrival.from, to: X, kind: "walk" }, ...forced.map(({ cell }) => ({ from: X, to: cell, kind: "ray", isArrow: true }))];
   return [...steps, { words, cells, lines, letters: marks(arrival) }];
 }
@@ -117,7 +124,7 @@ async function entryOf(rows, rule, { x, y }, d) {
 async function jumpEnd(figure, start, jump, base) {
   const entry = await entryOf(figure.rows, figure.rule, start, jump.d);
   figure.box.dataset.agrees = String(entry === (jump.stop ? jump.count : -jump.count));
-  const says = `The program's own table of jumps has ${entry} here`;
+  const says = `The program's table of jumps (see 5) has ${entry} for s`;
   if (!jump.stop) {
     return { ...base, words: `The run ends after ${jump.count} moves, and nothing was forced: nothing goes on the list. ${says}: minus, as there is no jump point.` };
   }
@@ -127,7 +134,8 @@ async function jumpEnd(figure, start, jump, base) {
   const turn = jump.stop.to ?? jump.stop.then.to;
   return { ...base, cells: [...base.cells, { ...jump.cell, kind: "stop" }, { ...turn, kind: "forced" }],
     lines: [{ from: start, to: jump.cell, kind: "ray", isArrow: true }],
-    words: `${told(jump.cell)} is a jump point: ${why}. It goes on the list, at ${cost} more than s. ${says}.` };
+    words: `${told(jump.cell)} is a jump point: ${why}. `
+      + `${told(jump.cell)} goes on the list, at ${cost} more than s. ${says}.` };
 }
 
 const LEFT = { x: 1, y: 2 };
@@ -152,7 +160,8 @@ async function diagonalSteps(figure) {
   const jump = rules.jump(CORNER, 1);
   const letters = [{ cell: CORNER, words: "s" }], cells = [], steps = [];
   const add = (words, more = []) => steps.push({ words, cells: [...cells, ...more], letters, lines: [{ from: CORNER, to: cells[cells.length - 1] ?? CORNER, kind: "ray" }] });
-  add("A jump from s up and right. Behind this move three neighbours are natural: up, right, and up and right.");
+  add("A jump from s up and right. After this move three neighbours are natural: "
+    + "up, right, and up and right.");
   for (const cell of cellsAlong(CORNER, 1, jump.count)) {
     cells.push({ ...cell, kind: "looked" });
     const looks = jump.looks.filter((it) => same(it.from, cell));
@@ -184,12 +193,16 @@ const counted = (count, what) => `${count} ${what}${count === 1 ? "" : "s"}`;
 /** What one state reads: cells of runs, whole lines of bits, or entries of the tables. */
 function readOf(node, mode, rows) {
   const straights = node.offers.flatMap((it) => (isDiagonal(it.d) ? it.looks : [{ from: node.cell, ...it }]));
-  if (mode === "tables") return { words: `It looks up ${counted(node.offers.length, "jump")}.`, cells: [] };
+  if (mode === "tables") {
+    const jumps = counted(node.offers.length, "jump");
+    return { words: `It looks up ${jumps}; a number is a jump's length.`, cells: [] };
+  }
   if (mode === "blocks") {
     const lines = new Set(straights.map(({ from, d }) => (d % 4 === 2 ? `y${from.y}` : `x${from.x}`)));
     const isRead = (x, y) => lines.has(`y${y}`) || lines.has(`x${x}`);
     const cells = rows.flatMap((row, y) => [...row].map((_, x) => ({ x, y, kind: "bits" }))).filter(({ x, y }) => isRead(x, y));
-    return { words: `It reads ${lines.size === 1 ? "one row or column" : `${lines.size} rows and columns`} as bits, each at once with those beside it.`, cells };
+    const what = lines.size === 1 ? "one row or column" : `${lines.size} rows and columns`;
+    return { words: `It reads ${what} as bits, each at once, with the lines on its two sides.`, cells };
   }
   const runs = node.offers.flatMap((it) => [...cellsAlong(node.cell, it.d, it.count), ...it.looks.flatMap((look) => cellsAlong(look.from, look.d, look.count))]);
   return { words: `It looks at ${counted(runs.length, "cell")}.`, cells: runs.map((cell) => ({ ...cell, kind: "looked" })) };
@@ -199,14 +212,14 @@ function searchStep(node, at, run, { chosen, rows }) {
   const read = readOf(node, chosen, rows);
   const stops = node.offers.filter((it) => it.stop);
   const isGoal = same(node.cell, GOAL);
-  const came = node.arrival < 8 ? `, come to by a move ${WAYS[node.arrival]}` : "";
-  const offers = stops.length ? `puts ${stops.map((it) => told(it.cell)).join(", ")} on the list` : "puts nothing on the list";
+  const came = node.arrival < 8 ? `, reached by a move ${WAYS[node.arrival]}` : "";
+  const met = stops.map((it) => told(it.cell)).join(", ") || "no jump point";
   const before = run.nodes.slice(0, at).filter(({ cell }) => same(cell, node.cell)).map((it) => it.at + 1);
   const again = before.length ? ` State ${before.join(" and ")} had this cell, too, by another arrival: it is searched from once more.`
     : chosen === "cell" && node.equals.length ? ` ${node.equals.map((it) => told(it.cell)).join(", ")} was there before at the same cost: what came first stays.` : "";
   return {
     words: `State ${at + 1}: ${told(node.cell)}${came}. So far ${costWords(node.cost)}, estimate ${costWords(estimateOf(node.cell, GOAL))}. `
-      + (isGoal ? "It is the goal." : `${read.words} It ${offers}.${again}`),
+      + (isGoal ? "It is the goal." : `${read.words} Its jumps meet ${met}.${again}`),
     cells: [...(isGoal ? [] : read.cells), ...run.nodes.slice(0, at).map(({ cell }) => ({ ...cell, kind: "taken" })), { ...node.cell, kind: "stop" }],
     lines: [...run.nodes.slice(1, at + 1).map(({ cell, parent }) => ({ from: parent.cell, to: cell, kind: "past" })),
       ...stops.map(({ cell }) => ({ from: node.cell, to: cell, kind: "ray", isArrow: true }))],
@@ -230,7 +243,8 @@ function swapStep(run, rules) {
       const [first, end] = [cellAfter(begin, turn), cellAfter(cell, turn)];
       if (!rules.isLegal(begin, turn) || !isRun(rules, first, stays.arrival, stays.jump.count)) continue;
       return { words: `Nothing is lost. At ${told(cell)} the dropped arrival alone would turn ${WAYS[turn]} (dashed). The one that stays came ${WAYS[stays.arrival]} from ${told(begin)}: `
-        + `make the diagonal move first, there. The path over ${told(first)} to ${told(end)} costs the same, and the search finds it.`,
+        + `make the diagonal move first, there. The path over ${told(first)} to ${told(end)} costs the same, `
+        + "so that turn is not needed.",
       letters: ENDS, cells: [{ ...cell, kind: "pruned" }, { ...end, kind: "kept" }],
       lines: [...linesOf([begin, cell, end], "other"), ...linesOf([begin, first, end], "walk")] };
     }
@@ -257,7 +271,7 @@ async function searchSteps(figure) {
 // The page
 
 const OPEN = ["...", "...", "..."];
-const BY = [["straight", "behind a straight move"], ["diagonal", "behind a diagonal move"]];
+const BY = [["straight", "after a straight move"], ["diagonal", "after a diagonal move"]];
 const JUMPED = [["looked", "looked at"], ["stop", "jump point"], ["forced", "forced"]];
 const MODES = [["cells", "cell by cell"], ["blocks", "by blocks"], ["tables", "by tables"], ["cell", "one state a cell"]];
 
@@ -270,7 +284,9 @@ function beginFigures() {
     rows: ["...........", "...........", ".......@...", ".......@...", "...........", "...........", "...........", "...........", "..........."],
     key: JUMPED, fixed: () => [CORNER], steps: diagonalSteps,
   });
-  const key = [["stop", "taken now"], ["taken", "taken before"], ["looked", "looked at"]];
+  const key = [
+    ["stop", "taken now"], ["taken", "taken before"], ["looked", "looked at"], ["bits", "read as bits"],
+  ];
   new Figure(byId("whole"), { rows: SEARCHED, choices: MODES, key, fixed: () => [START, GOAL], steps: searchSteps });
 }
 
