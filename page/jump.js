@@ -239,7 +239,8 @@ function swapStep(run, rules) {
     const stays = run.nodes.find((it) => same(it.cell, cell));
     if (!stays?.parent || isDiagonal(stays.arrival)) continue;
     const kept = rules.allowed(cell, stays.arrival), begin = stays.parent.cell;
-    for (const turn of rules.allowed(cell, d).filter((it) => isDiagonal(it) && !kept.includes(it))) {
+    const isSwap = (it) => [1, 7].includes((it - stays.arrival + 8) % 8) && !kept.includes(it);
+    for (const turn of rules.allowed(cell, d).filter(isSwap)) {
       const [first, end] = [cellAfter(begin, turn), cellAfter(cell, turn)];
       if (!rules.isLegal(begin, turn) || !isRun(rules, first, stays.arrival, stays.jump.count)) continue;
       return { words: `Nothing is lost. At ${told(cell)} the dropped arrival alone would turn ${WAYS[turn]} (dashed). The one that stays came ${WAYS[stays.arrival]} from ${told(begin)}: `
@@ -291,7 +292,7 @@ function beginFigures() {
 }
 
 const SEARCHED = [
-  "........@.@", "....@.@....", "........@..", "......@.@@.", "...........", "..@........", "@..........", "..@....@.@@", ".....@...@.",
+  "........@.@", "....@.@....", "........@..", "..@...@.@@.", "...........", "..@........", "@..........", "..@....@.@@", ".....@...@.",
 ];
 
 async function begin() {

@@ -79,12 +79,13 @@ def dragged(tried):
         path.write_text(tried.jps("make", 9, side, side, 25))
         ends = tried.jps("problems", path, 9, 40).splitlines()[-1].split("\t")[4:8]
         wanted = tried.jps("query", path, *ends, "engine=block").rstrip("\n")
-        x, y = int(ends[2]), int(ends[3])
+        x, y, step = int(ends[2]), int(ends[3]), side // 512  # (on the large map a dot is some cells)
+        way = [(x - step * (k % 9), y - step * (k // 9)) for k in range(40)]
         for form, begin in (("server", tried.serve), ("site", tried.site)):
             begin(path, hash_words="#" + ",".join([*ends, "block", "none"]))
             browser.wait(f"document.querySelector('#printed').textContent.startsWith('{wanted[:40]}')", SECONDS)
             browser.run(WATCH)
-            browser.drag([tried.cell(x - k % 9, y - k // 9) for k in range(40)])
+            browser.drag([tried.cell(*it) for it in way])
             there = browser.run("document.querySelector('#goal').value").split(",")
             show = ["show=trace"] if side == 512 else []
             words = tried.jps("query", path, *ends[:2], *there, "engine=block", *show).rstrip("\n")
@@ -92,7 +93,8 @@ def dragged(tried):
             rests = f"shown.answer && !shown.answer.isShort && shown.answer.bytes.length === {len(words)}"
             browser.wait(rests, SECONDS)
             equal(f"{form}, {side} x {side}: the answer behind a drag", browser.run("new TextDecoder().decode(shown.answer.bytes)"), words)
-            equal(f"{form}, {side} x {side}: the command", "states=" in browser.text("#command"), False)
+            command = browser.text("#command").split("\n")[0]  # (below it stands that of the nearest cell)
+            equal(f"{form}, {side} x {side}: the command", "states=" in command, False)
             told = f"{form}, {side} x {side}, an end is dragged:"
             for what in ("answers", "gaps"):
                 times = sorted(browser.run(what))
@@ -302,7 +304,7 @@ def figures(tried):
 
 
 # The map of the last figure, as jump.js has it.
-SEARCHED = "........@.@|....@.@....|........@..|......@.@@.|...........|..@........|@..........|..@....@.@@|.....@...@."
+SEARCHED = "........@.@|....@.@....|........@..|..@...@.@@.|...........|..@........|@..........|..@....@.@@|.....@...@."
 
 
 def check_whole(tried, said):
