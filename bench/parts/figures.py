@@ -540,7 +540,7 @@ def field_table(part):
         times = [told.seconds(told.median(row[it])) if row[it] else "" for it in ("field", "costs", "flow_field")]
         ratio = told.ratio_text(told.ratio(row["field"], row["flow_field"])) if row["flow_field"] else ""
         lines.append([names[row["map"]], *times, ratio])
-    by_buckets = "[by buckets, in C++](ticks/flow_field.cpp)"
+    by_buckets = "by buckets, in C++ (`ticks/flow_field.cpp`)"
     return told.table(["All cells", "`field`", "`costs`", by_buckets, "`field` over that"], lines)
 
 

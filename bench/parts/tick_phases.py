@@ -125,8 +125,8 @@ def tower_ticks(ground, word, closes):
         units = [ground.around(ground.middle, AROUND, draw, RING + 2) for _ in range(UNITS)]
         asked = [line(word, unit, ground.middle) for unit in units]
         if closes:
-            edits = [line(b"block", ring[0]), *edits[:3]] if tick else edits
-            asked.append(line(b"free", ring[0]))
+            edits = [line(b"block", ring[RING]), *edits[:3]] if tick else edits     # amid a side; no corner parts
+            asked.append(line(b"free", ring[RING]))
         ticks.append([*edits, *asked])
     ticks[0] = first + ticks[0]
     return ticks
