@@ -10,52 +10,23 @@ import inputs
 import numbers_of as told
 import plots
 import programs
+from rows_of import (
+    cells_of,
+    engine_words,
+    find,
+    main_states,
+    maps_of,
+    name_of,
+    ratio_of,
+    run_words,
+    short,
+    states_of,
+)
+from tick_figures import tick_words, ticks_table, ticks_text
 
 ENGINES, JUMPS = programs.ENGINES, programs.JUMPS
 MOST = 1.15                              # above this the part of the open list is told
 TEXTBOOK = "../bench/FIGURES.md#beside-the-textbook"
-
-
-def find(rows, **wanted):
-    """The row that has these values, or None."""
-    return next((row for row in rows if all(row.get(key) == value for key, value in wanted.items())), None)
-
-
-def name_of(name):
-    return inputs.TOLD.get(name, name)
-
-
-def short(name):
-    return name_of(name).split(" (")[0]
-
-
-def engine_words(row):
-    return f"{row['engine']} states=cell" if row["states"] == "cell" else row["engine"]
-
-
-def cells_of(results, name):
-    size = results["maps"][name]
-    return f"{size['width']} x {size['height']}"
-
-
-def maps_of(rows):
-    return list(dict.fromkeys(row["map"] for row in rows))
-
-
-def main_states(rows, engine):
-    """The states of the main tables: one for each cell, as the field has it, where that was measured."""
-    return "cell" if engine in JUMPS and find(rows, engine=engine, states="cell") else "arrival"
-
-
-def states_of(rows):
-    return list(dict.fromkeys(row["states"] for row in rows if row["engine"] != "plain"))
-
-
-def ratio_of(rows, name, engine, states, one="jps", other="reference"):
-    """The ratio of two programs on a map, where both were measured."""
-    key = {"map": name, "engine": engine, "states": states}
-    mine, theirs = find(rows, program=one, **key), find(rows, program=other, **key)
-    return told.ratio(mine["per_query"], theirs["per_query"]) if mine and theirs else None
 
 
 def medians(rows, states=None, other="reference", engines=ENGINES):
@@ -84,20 +55,6 @@ def origin(results):
         f"{results['turns']} turns in random order. All figures: [bench/results](../bench/results/latest.json).",
     ]
     return "".join(words)
-
-
-def run_of(results):
-    """Of which run these results are: what --add keeps with a part."""
-    facts, load = results["facts"], results.get("load", {}).get("before", {}).get("load", "unknown")
-    kept = {name: facts[name] for name in ("program", "commit", "processor")}
-    return {"began": results["began"], "load": load, **kept}
-
-
-def run_words(results, part):
-    """The same in few words, of a part of the results."""
-    run = results[part].get("run") or run_of(results)
-    words = f"{run['program']} on commit {run['commit'][:8]}, {run['began']}, {run['processor']['name']}"
-    return f"{words}, load {run['load']}"
 
 
 def queries_table(results, states, engines):
@@ -364,6 +321,9 @@ def process_words(name, side):
     return f"one edit {where}, by `{engine}`"
 
 
+IN_FIGURES_ALONE = ("`make`", "`draw`", "`problems`", "`judge`", "`tables`")    # of other work
+
+
 def processes_text(results):
     """The medians; the engines of one kind of work stand in one row."""
     side = results["processes"]["side"]
@@ -373,9 +333,12 @@ def processes_text(results):
         found.setdefault(words, []).append((engine, told.seconds(max(told.median(row["processor"]), 1e-9))))
     lines = []
     for words, told_of in found.items():
+        if words.startswith(IN_FIGURES_ALONE):
+            continue
         by = ", ".join(engine for engine, _ in told_of if engine)
         lines.append([f"{words}, by {by}" if by else words, ", ".join(value for _, value in told_of)])
-    return [told.table(["What, the whole process but for edits", "Time"], lines)]
+    words = "More: [FIGURES](../bench/FIGURES.md#other-work)."
+    return [told.table(["What, the whole process but for edits", "Time"], lines), words]
 
 
 def process_spread_text(results):
@@ -498,64 +461,6 @@ def open_land_spread_text(results):
     return [words, told.table(["Question", "By", "How many", "median", "99 of 100 within"], lines)]
 
 
-def tick_time(row):
-    """The median of the turns."""
-    return told.seconds(max(told.median(row["per_piece"]), 1e-9)) if row else ""
-
-
-def ticks_text(results):
-    """A tick by map and engine, and round a closed tower."""
-    part = results["ticks"]
-    lines = []
-    for name, words in part["maps"].items():
-        for engine in part["engines"]:
-            found = [find(part["rows"], map=name, kind=kind, engine=engine) for kind in part["kinds"]]
-            lines.append([words, f"`{engine}`", *map(tick_time, found)])
-    head = ["{0} x {0} cells".format(part["side"]), "Engine", *part["kinds"]]
-    words = "Four edits and a `near` of each of {} units: processor time of `serve` for a tick, the median of {} turns. "
-    words += "[FIGURES](../bench/FIGURES.md#ticks-of-a-game) has closed towers, single lines and fields."
-    return ["## A tick of a game", words.format(part["units"], part["turns"]), told.table(head, lines)]
-
-
-def ticks_table(results):
-    """Ticks round a closed tower and beyond a wall, single lines, fields."""
-    part = results["ticks"]
-    more = [row for row in part["rows"] if row["kind"] not in part["kinds"]]
-    rows = [[f"{part['units']} units: {row['kind']}", tick_time(row), told.seconds(row["0.99"])] for row in more]
-    rows += [[row["what"], tick_time(row), ""] for row in part["lines"]]
-    rows.append(["a million lines: the most memory behind the first 10,000, and behind all", memory_words(part), ""])
-    head = ["By `block`", "A tick or a line", "99 of 100 ticks by the clock"]
-    return [f"By `serve` ({run_words(results, 'ticks')}).", told.table(head, rows), field_table(part)]
-
-
-def memory_words(part):
-    peaks = [part["memory"][it] for it in ("first", "last")]
-    return ", ".join(map(told.megabytes, peaks)) if all(peaks) else ""
-
-
-def field_table(part):
-    """`field` and `costs` of `serve`, and the field by buckets."""
-    lines, names = [], {"open": "open land", "quarter": "a quarter blocked"}
-    for row in part["fields"]:
-        times = [told.seconds(told.median(row[it])) if row[it] else "" for it in ("field", "costs", "flow_field")]
-        ratio = told.ratio_text(told.ratio(row["field"], row["flow_field"])) if row["flow_field"] else ""
-        lines.append([names[row["map"]], *times, ratio])
-    by_buckets = "by buckets, in C++ (`ticks/flow_field.cpp`)"
-    return told.table(["All cells", "`field`", "`costs`", by_buckets, "`field` over that"], lines)
-
-
-def tick_words(results):
-    """README's words of a tick of a game, where it was measured."""
-    if not results.get("ticks"):
-        return "[units, edits, crowds](examples/serve)"
-    rows, kinds = results["ticks"]["rows"], results["ticks"]["kinds"]
-    mine = [row for row in rows if row["engine"] == "block" and row["kind"] in kinds]
-    times = [told.median(row["per_piece"]) for row in mine]
-    walled = find(rows, kind="`near` to a closed tower", engine="block")
-    least, most, closed = (in_unit(it, "ms") for it in (min(times), max(times), told.median(walled["per_piece"])))
-    return f"[a tick](docs/SPEED.md#a-tick-of-a-game): {least} to {most} ms, closed tower {closed}"
-
-
 def dear_time(row):
     """A median of seconds; what is shorter than the start of a process can tell has no digits."""
     return told.seconds(max(told.median(row["per_query"]), 1e-6)) if row else ""
@@ -676,12 +581,6 @@ def mean_words(row):
     return f"{told.seconds(told.median(row['per_query']))} (`{row['engine']}`, {where})"
 
 
-def in_unit(seconds, unit):
-    """A number without its unit, in as few digits as tell it."""
-    value = seconds * {"s": 1, "ms": 1e3, "µs": 1e6}[unit]
-    return f"{value:.0f}" if value >= 9.95 else f"{value:.1f}" if value >= 0.095 else f"{max(value, 0.01):.2f}"
-
-
 class Medians:
     """The medians that README's table of engines tells, each without its unit."""
 
@@ -690,11 +589,11 @@ class Medians:
 
     def query(self, name, engine, unit="µs", states="arrival"):
         row = find(self.results["queries"], map=name, engine=engine, states=states, program="jps")
-        return in_unit(told.median(row["per_query"]), unit)
+        return told.in_unit(told.median(row["per_query"]), unit)
 
     def open_land(self, kind, engine, unit):
         rows = self.results["open_land"]["rows"]
-        return in_unit(find(rows, kind=kind, engine=engine, states=main_states(rows, engine))["0.5"], unit)
+        return told.in_unit(find(rows, kind=kind, engine=engine, states=main_states(rows, engine))["0.5"], unit)
 
     def dearest(self, kind, engine, states):
         row = find(self.results["dearest"]["rows"], map=kind, engine=engine, states=states)
@@ -702,7 +601,7 @@ class Medians:
 
     def process(self, name, unit):
         value = max(told.median(self.results["processes"]["rows"][name]["processor"]), 1e-9)
-        return f"{value:.2f}" if unit == "s" else in_unit(value, unit)
+        return f"{value:.2f}" if unit == "s" else told.in_unit(value, unit)
 
 
 def engines_text(results):

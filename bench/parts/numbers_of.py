@@ -79,3 +79,9 @@ def table(head, rows):
     """A table of Markdown."""
     lines = ["| " + " | ".join(map(cell, head)) + " |", "|" + "---|" * len(head)]
     return "\n".join([*lines, *("| " + " | ".join(map(cell, row)) + " |" for row in rows)])
+
+
+def in_unit(seconds, unit):
+    """A number without its unit, in as few digits as tell it."""
+    value = seconds * {"s": 1, "ms": 1e3, "µs": 1e6}[unit]
+    return f"{value:.0f}" if value >= 9.95 else f"{value:.1f}" if value >= 0.095 else f"{max(value, 0.01):.2f}"
