@@ -528,7 +528,7 @@ def reference_row(rows):
     ratios = [ratio_of(rows, row["map"], row["engine"], row["states"])[0] for row in mine]
     middle = ", ".join(f"`{engine}` {value:.2f}" for engine, value in medians(rows).items())
     middle = middle.replace("` ", "` takes ", 1)
-    words = f"{middle} times as long (medians; single maps {min(ratios):.2f} to {max(ratios):.2f})"
+    words = f"{middle} times as long (medians; {min(ratios):.2f} to {max(ratios):.2f})"
     return ["[our own C++ program](bench/reference) of the same engines", words]
 
 
