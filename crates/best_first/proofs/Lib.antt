@@ -21,3 +21,4 @@ pub mod Ending
 pub mod Tracing
 pub mod Telling
 pub mod Answering
+pub mod Looping

@@ -11,3 +11,4 @@ pub mod Index
 pub mod Space
 pub mod Answer
 pub mod Made
+pub mod Frame

@@ -2,7 +2,7 @@
 //!
 //! A `Space` has the nodes of a search, the open list over them, and an index from states to nodes.
 //! It begins a search, takes offers, takes the next state and leads back along the parents. It keeps
-//! the run of any rule (crate `search_run`); a search is a rule and a loop over its offers.
+//! the run of any rule (crate `search_run`). The loop is `search`, over the offers of an `Expansion`.
 //!
 //! A* after Hart, Nilsson and Raphael (1968). Departures: a node keeps no cost but the rank of its
 //! sum, and offers are compared by keys, as equal states have equal estimates; closed nodes are not
@@ -13,6 +13,7 @@ mod found;
 mod index;
 mod node;
 mod place;
+mod search;
 mod space;
 mod state;
 mod way;
@@ -20,6 +21,7 @@ mod way;
 pub use found::{Found, Taken};
 pub use node::{Node, Offer};
 pub use place::Place;
+pub use search::{Expansion, search};
 pub use space::Space;
 pub use state::{Layout, State};
 pub use std::alloc::AllocError as NoMemory;

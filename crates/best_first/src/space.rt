@@ -224,6 +224,14 @@ impl Space {
         self.index.layout
     }
 
+    // The width of the map of the last search.
+    #[inline(always)]
+    pub(crate) fn width(&self) -> u16
+        ensures { result ≡ self.now.width }
+    {
+        self.width
+    }
+
     /// The node of this number.
     #[inline(always)]
     pub fn node(&self, id: u32) -> Node

@@ -1,5 +1,5 @@
 -- A state's offers of the moves toward the goal make the least offers those after it.
-use Rattle.std.proofs.Common.{◌≡◌, ℕ, ◌*◌, List, [], ◌∷◌, refl, ap, sym, ◌∙◌, subst, Bool, true, false, ◌||◌}
+use Rattle.std.proofs.Common.{◌≡◌, ℕ, ◌*◌, ◌≤◌, List, [], ◌∷◌, refl, ap, sym, ◌∙◌, subst, Bool, true, false, ◌||◌}
 use Rattle.std.specs.Prelude.{Option, Some, None}
 use Rattle.root2_cost.specs.declared.Cost.{Cost}
 use Rattle.grid_moves.specs.declared.Cell.{Cell}
@@ -40,7 +40,7 @@ module _ {g : GridData} (b : BoxTeller) {s t : Cell} (asked : IsAsked g s t (box
     free = node_free asked i;
     keyed = estimate_within (fit asked) i;
     short = left_small (fit asked) i;
-    closed = rw table (closed_below (fit asked) i);
+    closed = closed_below (fit asked) i;
     may = λ d v e.
         let w = toward_is g b t (node_cell i.node) d v e in (
           placed g asked.whole space width places v (legal_is g (node_cell i.node) v w.leads.legal).target,

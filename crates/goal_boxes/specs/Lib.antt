@@ -5,4 +5,4 @@ pub mod Rule
 pub mod Answer
 pub mod Made
 pub mod Offers
-pub mod Progress
+pub mod Asked

@@ -24,6 +24,10 @@ use Rattle.goal_boxes.specs.Rule.{is_toward}
 abbrev pub Agree : CellBoxes → BoxTeller → Cell → Type 0
 Agree boxes box c = (d : Dir) → box_in boxes d ≡ box c d
 
+-- the eight boxes, as those of whatever cell
+abbrev pub eight : CellBoxes → BoxTeller
+eight boxes = λ c d. box_in boxes d
+
 -- where the move in a direction leads, if it is legal and this box holds t
 abbrev pub toward_by : GridData → Option Area → Cell → Cell → Dir → Option Cell
 toward_by g area t c d = if is_toward t area then legal_ahead g c d else None

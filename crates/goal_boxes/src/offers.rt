@@ -3,14 +3,12 @@
 ghost use Rattle.std.specs.Prelude.{◌≡◌, ◌+◌, ◌<◌, ◌≤◌, ◌^◌, length, slice_get, Some};
 ghost use Rattle.best_first.specs.Space.{IsPlaced, KeepsShape};
 ghost use Rattle.best_first.specs.Table.{node_for, ClosedBelow};
-ghost use Rattle.best_first.specs.Trace.{node_cell};
 ghost use Rattle.plain_search.specs.Offers.{offer_to};
 ghost use Rattle.goal_boxes.specs.Box.{box_in};
-ghost use Rattle.goal_boxes.specs.Offers.{Agree, toward, offered_over, all_offered, MayOffer, MayExpand, HasExpanded};
+ghost use Rattle.goal_boxes.specs.Offers.{eight, toward, offered_over, all_offered, MayOffer, MayExpand, HasExpanded};
 ghost use Rattle.goal_boxes.specs.Rule.{is_toward};
 
 use crate::around::CellBoxes;
-use crate::source::Meant;
 use best_first::{Layout, Space};
 use grid_moves::{ALL_DIRS, Cell, Dir, Terrain, step};
 use plain_search::offer_to;
@@ -40,15 +38,8 @@ fn is_toward(boxes: CellBoxes, d: Dir, goal: Cell) -> bool
 
 // Where the move in a direction leads, if it is legal and its box holds the goal.
 #[inline(always)]
-fn toward<K: Meant, T: Terrain>(
-    t: &T,
-    boxes: CellBoxes,
-    c: Cell,
-    d: Dir,
-    goal: Cell,
-) -> Option<Cell>
-    requires { box_in boxes d ≡ K.boxes c d }
-    ensures { result ≡ toward (T.grid t.now) K.boxes goal c d }
+fn toward<T: Terrain>(t: &T, boxes: CellBoxes, c: Cell, d: Dir, goal: Cell) -> Option<Cell>
+    ensures { result ≡ toward (T.grid t.now) (eight boxes) goal c d }
 {
     if is_toward(boxes, d, goal) {
         step(t, c, d)
@@ -84,7 +75,7 @@ fn offer_over<L: Ledger>(
 }
 
 // Makes the offers in these directions, in their order.
-fn offer_in<K: Meant, T: Terrain, L: Ledger>(
+fn offer_in<T: Terrain, L: Ledger>(
     t: &T,
     boxes: CellBoxes,
     from: Source,
@@ -92,26 +83,25 @@ fn offer_in<K: Meant, T: Terrain, L: Ledger>(
     space: &mut Space,
     steps: &mut Steps<L>,
 )
-    requires boxes { Agree boxes K.boxes from.cell }
     requires layout { space.old.layout ≡ Layout.ByCell }
     requires narrow { space.old.width ≤ 4096 }
     requires short { from.rank < 2 ^ 62 }
-    requires may { MayOffer (T.grid t.now) K.boxes from.goal from.id from.key from.rank from.cell space.old }
+    requires may { MayOffer (T.grid t.now) (eight boxes) from.goal from.id from.key from.rank from.cell space.old }
     requires closed { ClosedBelow from.key space.old.table }
     requires room { length dirs.now ≤ space.old.spare }
     ensures table { space.new.table
-        ≡ all_offered (T.grid t.now) K.boxes from.goal from.id from.rank from.cell dirs.now space.old.table }
+        ≡ all_offered (T.grid t.now) (eight boxes) from.goal from.id from.rank from.cell dirs.now space.old.table }
     ensures shape { KeepsShape space.old space.new }
 {
     for d in dirs {
-        let to = toward::<K, T>(t, boxes, from.cell, *d, from.goal);
+        let to = toward(t, boxes, from.cell, *d, from.goal);
         offer_over(space, from, to, *d, steps);
     }
 }
 
 /// Offers the legal moves from the node of that number whose boxes hold the goal, in increasing order of
 /// direction. There is room for them.
-pub(crate) fn offer_all<K: Meant, T: Terrain, L: Ledger>(
+pub(crate) fn offer_all<T: Terrain, L: Ledger>(
     t: &T,
     boxes: CellBoxes,
     goal: Cell,
@@ -119,16 +109,14 @@ pub(crate) fn offer_all<K: Meant, T: Terrain, L: Ledger>(
     space: &mut Space,
     steps: &mut Steps<L>,
 )
-    requires boxes { (n : _) → slice_get space.old.table.nodes at ≡ Some n
-        → Agree boxes K.boxes (node_cell n) }
     requires known { at < length space.old.table.nodes }
     requires layout { space.old.layout ≡ Layout.ByCell }
     requires narrow { space.old.width ≤ 4096 }
     requires room { 8 ≤ space.old.spare }
     requires may { (n : _) → slice_get space.old.table.nodes at ≡ Some n
-        → MayExpand (T.grid t.now) K.boxes goal at n space.old }
+        → MayExpand (T.grid t.now) (eight boxes) goal at n space.old }
     ensures expanded { (n : _) → slice_get space.old.table.nodes at ≡ Some n
-        → HasExpanded (T.grid t.now) K.boxes goal at n space.old.table space.new.table }
+        → HasExpanded (T.grid t.now) (eight boxes) goal at n space.old.table space.new.table }
     ensures shape { KeepsShape space.old space.new }
 {
     let node = space.node(at);
@@ -139,5 +127,5 @@ pub(crate) fn offer_all<K: Meant, T: Terrain, L: Ledger>(
         cell: node.place.cell(),
         goal,
     };
-    offer_in::<K, T, L>(t, boxes, from, &ALL_DIRS, space, steps);
+    offer_in(t, boxes, from, &ALL_DIRS, space, steps);
 }

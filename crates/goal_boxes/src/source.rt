@@ -1,77 +1,85 @@
-//! Where the boxes of a taken cell come from: they are kept, or a pass from the cell finds them.
+//! The moves toward a goal, as a search asks for them: by boxes that are kept, or that a pass from the taken
+//! cell finds.
 
-ghost use Rattle.std.specs.Prelude.{◌≡◌, ◌+◌, ◌≤◌, None, true, IfOk};
-ghost use Rattle.goal_boxes.specs.Box.{BoxTeller, AreBoxes};
-ghost use Rattle.goal_boxes.specs.Stored.{HoldsBoxes};
-ghost use Rattle.grid_moves.specs.Grid.{GridData, is_free};
+ghost use Rattle.std.specs.Prelude.{◌≡◌, ◌+◌, ◌≤◌};
+ghost use Rattle.goal_boxes.specs.Asked.{IsAskedBy, IsAskedWith};
 
-use crate::around::{CellBoxes, boxes_by};
-use crate::{Boxes, NoMemory};
+use crate::around::boxes_by;
+use crate::offers::offer_all;
+use crate::{Boxes, NoMemory, Taken};
+use best_first::{Expansion, Node, Space, State};
 use cost_waves::CostWaves;
-use grid_moves::{Cell, Terrain};
-use std::marker::Brand;
+use grid_moves::{Ends, Terrain};
 use std::sync::ledger::Ledger;
 use steps::Steps;
 
-/// The boxes of a grid as contracts speak of them, for proofs alone: as a free cell has one box or none in
-/// each direction, who keeps or finds it does not matter.
-pub(crate) trait Meant {
-    ghost boxes: { BoxTeller };
-}
-
-impl Meant for Brand {
-    ghost boxes = { λ _ _. None };
-}
-
-/// What gives the boxes of one cell after another.
-pub(crate) trait BoxSource {
-    /// The grids for which it stands.
-    ghost StandsFor: { Self → GridData → Type 0 };
-
-    /// The boxes of a free cell. It counts a step where it makes a pass.
-    fn boxes_of<T: Terrain, L: Ledger>(
-        &mut self,
-        t: &T,
-        c: Cell,
-        passes: &mut Steps<L>,
-    ) -> Result<CellBoxes, NoMemory>
-        requires stands { StandsFor self.old (T.grid t.now) }
-        requires free { is_free (T.grid t.now) c ≡ true }
-        ensures boxes { IfOk result (AreBoxes (T.grid t.now) c) }
-        ensures stands { StandsFor self.new (T.grid t.now) }
-        ensures passes { passes.new ≤ passes.old + 1 };
-}
-
-/// Boxes that are kept for all cells. No pass is made.
-#[derive(Drop)]
-pub(crate) struct Kept<'a> {
+/// By boxes that are kept for all cells. Nothing is counted.
+pub(crate) struct ByKept<'a, T: Terrain> {
+    pub(crate) terrain: &'a T,
     pub(crate) boxes: &'a Boxes,
 }
 
-impl<'a> BoxSource for Kept<'a> {
-    ghost StandsFor = { λ s g. HoldsBoxes g s.boxes.now };
+impl<'a, T: Terrain> Expansion for ByKept<'a, T> {
+    type Memory = ();
 
-    fn boxes_of<T: Terrain, L: Ledger>(
-        &mut self,
-        _t: &T,
-        c: Cell,
-        _passes: &mut Steps<L>,
-    ) -> Result<CellBoxes, NoMemory> {
-        Ok(self.boxes.of_cell(c))
+    ghost Serves = { λ k ends f. IsAskedWith (T.grid k.terrain.now) k.boxes.now ends f };
+
+    ghost IsReady = { λ _ _. Unit {0} };
+
+    ghost Counts = { λ _ _ _ _. Unit {0} };
+
+    fn shown(&self, node: Node) -> State {
+        State::start(node.place.cell())
+    }
+
+    fn offer<L: Ledger, M: Ledger>(
+        &self,
+        ends: Ends,
+        at: u32,
+        space: &mut Space,
+        _taken: &Taken,
+        _memory: &mut (),
+        _steps: &mut Steps<L>,
+        own: &mut Steps<M>,
+    ) -> Result<(), NoMemory> {
+        let boxes = self.boxes.of_cell(space.node(at).place.cell());
+        offer_all(self.terrain, boxes, ends.to, at, space, own);
+        Ok(())
     }
 }
 
-/// Memory for passes over maps of a grid's sides: one pass for each cell that is asked.
-impl BoxSource for CostWaves {
-    ghost StandsFor = { λ w g. (w.width ≡ g.width) × (w.height ≡ g.height) };
+/// By one pass from each cell, which is counted, in memory for passes over maps of the grid's sides.
+pub(crate) struct ByPasses<'a, T: Terrain> {
+    pub(crate) terrain: &'a T,
+}
 
-    fn boxes_of<T: Terrain, L: Ledger>(
-        &mut self,
-        t: &T,
-        c: Cell,
-        passes: &mut Steps<L>,
-    ) -> Result<CellBoxes, NoMemory> {
-        passes.tick();
-        boxes_by(self, t, c)
+impl<'a, T: Terrain> Expansion for ByPasses<'a, T> {
+    type Memory = CostWaves;
+
+    ghost Serves = { λ p ends f. IsAskedBy (T.grid p.terrain.now) ends f };
+
+    ghost IsReady = { λ p w. (w.width ≡ (T.grid p.terrain.now).width)
+        × (w.height ≡ (T.grid p.terrain.now).height) };
+
+    ghost Counts = { λ _ n old new. new ≤ old + n };
+
+    fn shown(&self, node: Node) -> State {
+        State::start(node.place.cell())
+    }
+
+    fn offer<L: Ledger, M: Ledger>(
+        &self,
+        ends: Ends,
+        at: u32,
+        space: &mut Space,
+        _taken: &Taken,
+        memory: &mut CostWaves,
+        steps: &mut Steps<L>,
+        own: &mut Steps<M>,
+    ) -> Result<(), NoMemory> {
+        steps.tick();
+        let boxes = boxes_by(memory, self.terrain, space.node(at).place.cell())?;
+        offer_all(self.terrain, boxes, ends.to, at, space, own);
+        Ok(())
     }
 }

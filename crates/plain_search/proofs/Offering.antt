@@ -1,7 +1,7 @@
 -- A state's offers of the moves that are kept make the least offers those after it.
 use Rattle.std.proofs.lemmas.Grind.{common_steps}
 use Rattle.std.proofs.lemmas.Bool.Decides.{nat_tests}
-use Rattle.std.proofs.Common.{◌≡◌, ℕ, ◌*◌, ◌⊎◌, inl, inr, List, [], ◌∷◌, refl, ap, sym, ◌∙◌, subst, Bool}
+use Rattle.std.proofs.Common.{◌≡◌, ℕ, ◌*◌, ◌≤◌, ◌⊎◌, inl, inr, List, [], ◌∷◌, refl, ap, sym, ◌∙◌, subst, Bool}
 use Rattle.std.proofs.Common.{true, false, arith}
 use Rattle.std.specs.Prelude.{Option, Some, None, if◌then◌else◌}
 use Rattle.std.proofs.lemmas.Bool.{cases_Bool, or_parts}
@@ -92,7 +92,7 @@ module _ {g : GridData} {s t : Cell} (asked : IsAsked g s t (plain_links g)) (x 
     free = node_free asked i;
     keyed = estimate_within (fit asked) i;
     short = left_small (fit asked) i;
-    closed = rw table (closed_below (fit asked) i);
+    closed = closed_below (fit asked) i;
     may = λ a around d h.
         let c = node_cell i.node in
         let l = open_leads g c a d around h in (

@@ -1,9 +1,10 @@
 -- A search over legal moves is posed on its grid, and takes few moves.
 use Rattle.std.proofs.lemmas.Grind.{common_steps}
-use Rattle.std.proofs.Common.{◌≡◌, ◌+◌, ◌*◌, ◌≤◌, length, List, [], ◌∷◌, refl, ap, ◌∙◌, true}
+use Rattle.std.proofs.Common.{◌≡◌, ℕ, ◌+◌, ◌*◌, ◌≤◌, length, List, [], ◌∷◌, refl, ap, ◌∙◌, true}
 use Rattle.std.proofs.Common.{arith}
 use Rattle.root2_cost.specs.declared.Cost.{Cost}
 use Rattle.grid_moves.specs.declared.Cell.{Cell}
+use Rattle.grid_moves.specs.declared.ends.Ends.{Ends}
 use Rattle.grid_moves.specs.Grid.{GridData, IsGrid, is_free}
 use Rattle.grid_moves.specs.Move.{move_cost}
 use Rattle.grid_moves.proofs.Legal.{free_inside, legal_is}
@@ -13,10 +14,13 @@ use Rattle.grid_moves.proofs.Short.{few_cells}
 use Rattle.search_run.specs.Run.{Rule, Taken, IsIn, here, there, IsRun}
 use Rattle.search_run.proofs.Leastness.{least_offer-from}
 use Rattle.best_first.specs.declared.state.State.{State}
+use Rattle.best_first.specs.declared.state.Layout.TheVariants.{ByCell}
+use Rattle.best_first.specs.Frame.{CanBegin}
 use Rattle.best_first.specs.Space.{SpaceData, IsPlaced}
 use Rattle.best_first.specs.State.{start_at}
 use Rattle.best_first.specs.Rule.{IsPosed, IsSearch, Links, search_rule}
 use Rattle.best_first.proofs.Bounds.{few_taken}
+use Rattle.plain_search.specs.Asked.{moves_on}
 use Rattle.plain_search.specs.Rule.{plain_links}
 use Rattle.plain_search.proofs.Walks.{AreMoves, plain_are_moves}
 
@@ -35,7 +39,7 @@ plain_asked g s t whole from to =
 
 -- a free cell has its place in a space of the map's size
 pub placed : (g : GridData) → IsGrid g → (space : SpaceData) → space.width ≡ g.width
-    → space.places ≡ g.height * g.width → (v : Cell) → is_free g v ≡ true
+    → g.height * g.width ≤ space.places → (v : Cell) → is_free g v ≡ true
     → IsPlaced space.width space.places v
 placed g h1 space h2 h3 v h4 = grind (arith, common_steps, free_inside, free_below)
 
@@ -81,3 +85,15 @@ module _ {g : GridData} {s t : Cell} {link : Links} (asked : IsAsked g s t link)
 
   pub fit : IsSearch g.width g.height s t link
   fit = grind (arith, common_steps, posed, moves_within, few_taken, few_cells)
+
+-- so the search may begin, on a map of the grid's width, in a space for its cells
+pub can_begin : {g : GridData} {ends : Ends} {link : Links} (asked : IsAsked g ends.from ends.to link)
+    {width : ℕ} {space : SpaceData} → width ≡ g.width → space.layout ≡ ByCell
+    → space.places ≡ g.height * g.width → CanBegin (moves_on g link) ends width space
+can_begin {g} {ends} asked w layout places = record {
+  fit = fit asked;
+  begins = asked.printed (start_at ends.from) (start_at ends.from);
+  width_is = w;
+  layout_is = layout;
+  enough = (let e = places in omega arith);
+}

@@ -4,7 +4,9 @@ use Rattle.std.proofs.lemmas.Grind.{common_steps}
 use Rattle.std.proofs.Common.{◌≡◌, ℕ, suc, ◌+◌, ◌≤◌, arith, List, length}
 use Rattle.std.specs.Prelude.{Option, Some, None}
 use Rattle.pruning.specs.Source.{StepsByCall, IsWithin}
-use Rattle.search_core.specs.Counting.{IsCounted, IsCountedSoFar, IsWithinTaken}
+use Rattle.search_core.specs.Counting.{IsCounted, IsWithinTaken, RoseByTaken}
+use Rattle.path_points.specs.declared.points.Walk.{Walk}
+use Rattle.best_first.specs.Frame.{AreCounted}
 use Rattle.best_first.specs.declared.found.Found.{Found}
 
 -- nothing counted
@@ -17,21 +19,34 @@ pub within_then : (m : Option StepsByCall) (f h q : StepsByCall → ℕ) (old mi
 within_then m f h q old mid new h1 h2 h3 = grind (arith, nat_tests, common_steps)
 
 -- a state more
-counted_more : (most : Option StepsByCall) (fewest n a b c : ℕ) → IsCounted most fewest n a b
+pub counted_more : {most : Option StepsByCall} {fewest n a b c : ℕ} → IsCounted most fewest n a b
     → IsCounted most fewest 1 b c → IsCounted most fewest (suc n) a c
-counted_more most fewest n a b c h one = grind (arith, nat_tests, common_steps, within_then)
+counted_more h one = grind (arith, nat_tests, common_steps, within_then)
 
-pub counted_further : {most : Option StepsByCall} {fewest : ℕ} {taken after : List ℕ} {a b c : ℕ}
-    → IsCountedSoFar most fewest taken a b → length after ≡ length taken + 1 → IsCounted most fewest 1 b c
-    → IsCountedSoFar most fewest after a c
-counted_further {most} {fewest} {taken} {after} {a} {b} {c} h e one = record {
-  gone_on = suc h.gone_on;
-  one_more = (let f = h.one_more in omega arith);
-  counted = counted_more most fewest h.gone_on a b c h.counted one;
-}
+-- nothing yet
+pub counted_none : (most : Option StepsByCall) (fewest a : ℕ) → IsCounted most fewest 0 a a
+counted_none most fewest a = grind (arith, nat_tests, common_steps, within_none)
 
--- what all states but the last ask is within what all ask
-pub within_taken : (most : Option StepsByCall) (fewest : ℕ) (taken : List ℕ) (a b : ℕ) (f : Found)
-    → IsCountedSoFar most fewest taken a b → f.taken ≡ taken → IsWithinTaken most f a b
-within_taken None fewest taken a b f h e = tt
-within_taken (Some known) fewest taken a b f h e = grind (arith, nat_tests, common_steps)
+-- what the states that made offers ask is within what all ask, and no less than all but the last
+module _ (most : Option StepsByCall) (fewest a b : ℕ) (f : Found)
+    (counted : AreCounted (λ n. IsCounted most fewest n a b) f) where
+  fewer : (n : ℕ) → n ≤ length f.taken → IsCounted most fewest n a b → IsWithinTaken most f a b
+  fewer n l h = grind (arith, nat_tests, common_steps)
+
+  pub within_taken : IsWithinTaken most f a b
+  within_taken = by_walk f.walk counted
+    where
+      by_walk : (o : Option Walk)
+          → AreCounted (λ n. IsCounted most fewest n a b) (record { walk = o; taken = f.taken })
+          → IsWithinTaken most f a b
+      by_walk None h = fewer (length f.taken) (omega arith) h
+      by_walk (Some w) h = fewer h.gone_on (let e = h.one_more in omega arith) h.counted
+
+  pub rose_by_taken : RoseByTaken fewest f a b
+  rose_by_taken = by_walk f.walk counted
+    where
+      by_walk : (o : Option Walk)
+          → AreCounted (λ n. IsCounted most fewest n a b) (record { walk = o; taken = f.taken })
+          → RoseByTaken fewest (record { walk = o; taken = f.taken }) a b
+      by_walk None h = h.at_least
+      by_walk (Some w) h = rw h.one_more (let l = h.counted.at_least in omega arith)

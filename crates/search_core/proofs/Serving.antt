@@ -151,16 +151,3 @@ module _ {layout : Layout} {Stands : GridData → Type 0} {s t : Cell} {last : L
       let all =
       subst (λ (ds : List Dir). IsSoFar layout Stands s t last most dirs ds old mid before at) none so in
       (λ g v. all.jumped g v, all.within at (within_none most (λ known. 0 * known.stop) at))
-
--- the cell of a node that was read differs from t or not: so does that of whatever node stands there
-module _ (nodes : List Node) (at : ℕ) (r n : Node) (c t : Cell) {differs : Bool}
-    (read : slice_get nodes at ≡ Some r)
-    (is : c ≡ node_cell r) (known : differs ≡ not (is_same c t)) (there : slice_get nodes at ≡ Some n) where
-  cell_there : node_cell n ≡ c
-  cell_there = ap (λ (m : Node). node_cell m) (some_node n r (sym there ∙ read)) ∙ sym is
-
-  pub differs_there : differs ≡ true → is_same (node_cell n) t ≡ false
-  differs_there e = ap (λ (u : Cell). is_same u t) cell_there ∙ not-true (is_same c t) (sym known ∙ e)
-
-  pub same_there : differs ≡ false → node_cell n ≡ t
-  same_there e = cell_there ∙ is_same-cell c t (not-false (is_same c t) (sym known ∙ e))

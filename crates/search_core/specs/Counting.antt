@@ -21,10 +21,3 @@ RoseByTaken fewest f old new = MatchOption f.walk (old + length f.taken * fewest
 pub record IsCounted (most : Option StepsByCall) (fewest n old new : ℕ) : Type 0 where
   pub within : IsWithin most (λ known. n * most_for_state known) old new
   pub at_least : old + n * fewest ≤ new
-
--- and one that went on from all states that it took but the last
-pub record IsCountedSoFar (most : Option StepsByCall) (fewest : ℕ) (taken : List ℕ) (old new : ℕ)
-    : Type 0 where
-  pub gone_on : ℕ
-  pub one_more : length taken ≡ suc gone_on
-  pub counted : IsCounted most fewest gone_on old new

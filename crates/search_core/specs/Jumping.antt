@@ -1,10 +1,11 @@
 -- How a search over jumps goes on from the state that was taken last.
 -- No public clause cites a definition of this module.
-use Rattle.std.specs.Prelude.{◌≡◌, ℕ, ◌+◌, List, [], ◌∷◌, Some, None, Option}
+use Rattle.std.specs.Prelude.{◌≡◌, ℕ, ◌+◌, List, [], ◌∷◌, Some}
 use Rattle.std.specs.Option.{option_map_or}
 use Rattle.root2_cost.specs.Rank.{rank_of}
 use Rattle.grid_moves.specs.declared.Cell.{Cell}
 use Rattle.grid_moves.specs.declared.Dir.{Dir}
+use Rattle.grid_moves.specs.declared.ends.Ends.{Ends}
 use Rattle.grid_moves.specs.Grid.{GridData, IsGrid}
 use Rattle.grid_moves.specs.Move.{cell_after}
 use Rattle.pruning.specs.Chain.{run_cost}
@@ -14,8 +15,8 @@ use Rattle.best_first.specs.declared.node.Node.{Node}
 use Rattle.best_first.specs.declared.node.Offer.{Offer as Way}
 use Rattle.best_first.specs.declared.state.State.{State}
 use Rattle.best_first.specs.declared.state.Layout.{Layout}
+use Rattle.best_first.specs.Frame.{Frame, frame_on}
 use Rattle.best_first.specs.Mirror.{Offers, IsSearching}
-use Rattle.best_first.specs.Progress.{HasTaken}
 use Rattle.best_first.specs.Space.{SpaceData}
 use Rattle.best_first.specs.State.{state_of_place, arrived_in}
 use Rattle.best_first.specs.Table.{Table, offered}
@@ -23,7 +24,7 @@ use Rattle.best_first.specs.Trace.{rank_left}
 use Rattle.search_core.specs.declared.jumping.Last.{Last}
 use Rattle.search_core.specs.Jumps.{jump_links}
 pub use Rattle.search_core.specs.Room.{HasPlaces}
-use Rattle.search_core.specs.Answer.{IsExhausted}
+use Rattle.search_core.specs.Serving.{IsServed}
 
 -- the space holds the nodes of a search over jumps on this grid
 pub record IsSpaceOf (layout : Layout) (g : GridData) (space : SpaceData) : Type 0 where
@@ -73,12 +74,13 @@ module _ (layout : Layout) (g : GridData) (s t : Cell) where
     pub best : Offers
     pub is_at : IsAt last latest earlier best space.table
 
-  -- it took states of these numbers, the last one with the node of this number
-  pub record HasReached (at : ℕ) (space : SpaceData) (taken : List ℕ) : Type 0 where
-    pub of : IsSpaceOf layout g space
-    pub has : HasTaken layout g.width t (jump_links layout g t) s at space.table taken
+-- what a search over the jumps of this grid goes by
+abbrev pub jumps_on : Layout → GridData → Cell → Frame
+jumps_on layout g t = frame_on layout g (jump_links layout g t)
 
-  -- it took one state more, or ends as none waits
-  abbrev pub GoesOnFrom : SpaceData → List ℕ → Option ℕ → Type 0
-  GoesOnFrom space taken None = IsExhausted layout g s t taken
-  GoesOnFrom space taken (Some at) = HasReached at space taken
+-- it is asked for between two ends, of what stands for some grid on which both are free, and goes by this
+pub record IsAskedOf (StandsFor : GridData → Type 0) (layout : Layout) (ends : Ends) (f : Frame) : Type 0 where
+  pub grid : GridData
+  pub served : IsServed StandsFor ends.from ends.to grid
+  pub whole : IsGrid grid
+  pub is : f ≡ jumps_on layout grid ends.to

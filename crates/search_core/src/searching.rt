@@ -1,206 +1,75 @@
 //! The search: A* over the states that jumps lead to.
 //!
-//! A state is taken by the least sum of its cost and the octile distance to the goal; among equal sums
-//! the one of the lesser number goes first, and of equal offers to a state the earlier one stands. The
-//! search ends where the goal is taken, or where no state waits. Both ends have to be free on a grid
-//! for which the source of jumps stands. The steps of the open list are counted by a counter of their
-//! own (`own`), so that `steps` counts those of the source alone.
+//! Both ends have to be free on a grid for which the source of jumps stands. The steps of the open list are
+//! counted by a counter of their own, so that `steps` counts those of the source alone.
 //!
 //! A* after Hart, Nilsson and Raphael (1968) over the jump points of Harabor and Grastien (AAAI 2011);
-//! the order of ties is this project's. The machine under it is `best_first`.
+//! the order of ties is this project's. The loop is that of `best_first`.
 
-ghost use Rattle.std.specs.Prelude.{◌≡◌, ◌+◌, ◌*◌, ◌<◌, [], false, length, IfOk, IfSome, IfNone, IsSome, OnOk, slice_get, Some};
+ghost use Rattle.std.specs.Prelude.{◌≡◌, IfOk};
 ghost use Rattle.grid_moves.specs.Grid.{GridData};
-ghost use Rattle.grid_moves.specs.Move.{is_same};
-ghost use Rattle.best_first.specs.State.{state_number, state_of_place};
-ghost use Rattle.best_first.specs.Trace.{node_cell};
 ghost use Rattle.path_points.specs.Least.{IsLeastOrNone};
 ghost use Rattle.search_core.specs.Answer.{IsJumpRun};
 ghost use Rattle.search_core.specs.Counting.{IsCounted, IsWithinTaken, RoseByTaken};
-ghost use Rattle.search_core.specs.Jumping.{HasReached, GoesOnFrom};
+ghost use Rattle.search_core.specs.Jumping.{IsAskedOf};
 ghost use Rattle.search_core.specs.Room.{HasPlaces};
 ghost use Rattle.search_core.specs.Serving.{OnSome, OnEach};
 
 use crate::jumping::{Query, last_at, offer_jumps};
 use crate::{NoMemory, Taken};
-use best_first::{Found, Layout, Node, Space, State};
-use grid_moves::Cell;
+use best_first::search as search_over;
+use best_first::{Expansion, Found, Layout, Node, Space, State};
+use grid_moves::{Cell, Ends};
 use pruning::{JumpSource, come_to};
 use std::alloc::Global;
-use std::marker::Brand;
-use std::sync::ledger::{Blank, Ledger};
+use std::sync::ledger::Ledger;
 use steps::Steps;
 
-// Takes the start.
-fn begin<J: JumpSource, M: Ledger>(
-    j: &J,
-    query: Query,
-    space: &mut Space,
-    taken: &mut Taken,
-    own: &mut Steps<M>,
-) -> Result<(), NoMemory>
-    requires some { OnSome (J.StandsFor j.now) query.from query.to }
-    requires layout { space.old.layout ≡ query.layout }
-    requires places { OnEach (J.StandsFor j.now) query.from query.to (λ g. HasPlaces g space.old) }
-    requires none { taken.old ≡ [] }
-    ensures reached { OnOk result (OnEach (J.StandsFor j.now) query.from query.to
-        (λ g. HasReached query.layout g query.from query.to 0 space.new taken.new)) }
-    ensures layout { space.new.layout ≡ space.old.layout }
-    ensures places { space.new.places ≡ space.old.places }
-    ensures one { OnOk result (length taken.new ≡ 1) }
-{
-    let width = j.width();
-    space.begin(width, query.from, query.to, own)?;
-    taken.push(State::start(query.from).number(width))
+// The jumps of a source, with these states of a cell.
+struct Jumps<'a, J: JumpSource> {
+    source: &'a J,
+    layout: Layout,
 }
 
-// The printed number of a node's state.
-fn number_at<J: JumpSource>(j: &J, node: Node) -> u32
-    requires { (g : GridData) × J.StandsFor j.now g
-        × ((node_cell node).x < g.width) × ((node_cell node).y < g.height) }
-    ensures { (g : GridData) → J.StandsFor j.now g
-        → result ≡ state_number g.width (state_of_place node.place) }
-{
-    let state = State {
-        cell: node.place.cell(),
-        arrival: node.place.arrival(),
-    };
-    state.number(j.width())
-}
+impl<'a, J: JumpSource> Expansion for Jumps<'a, J> {
+    type Memory = ();
 
-// Makes the offers of the last taken state, and takes the next, if a state waits.
-fn advance<J: JumpSource, L: Ledger, M: Ledger>(
-    j: &J,
-    query: Query,
-    space: &mut Space,
-    at: u32,
-    taken: &mut Taken,
-    steps: &mut Steps<L>,
-    own: &mut Steps<M>,
-) -> Result<Option<u32>, NoMemory>
-    requires some { OnSome (J.StandsFor j.now) query.from query.to }
-    requires reached { OnEach (J.StandsFor j.now) query.from query.to
-        (λ g. HasReached query.layout g query.from query.to at space.old taken.old) }
-    requires open_ended { (n : _) → slice_get space.old.table.nodes at ≡ Some n
-        → is_same (node_cell n) query.to ≡ false }
-    ensures goes_on { IfOk result (λ next. OnEach (J.StandsFor j.now) query.from query.to
-        (λ g. GoesOnFrom query.layout g query.from query.to space.new taken.new next)) }
-    ensures one_more { IfOk result (λ next. IfSome next (λ id. length taken.new ≡ length taken.old + 1)) }
-    ensures same { IfOk result (λ next. IfNone next (taken.new ≡ taken.old)) }
-    ensures layout { space.new.layout ≡ space.old.layout }
-    ensures places { space.new.places ≡ space.old.places }
-    ensures counted { IfOk result
-        (λ _. IsCounted (J.most j.now) (J.fewest j.now).allowed 1 steps.old steps.new) }
-{
-    space.reserve()?;
-    let last = last_at(space, query.to, at);
-    let dirs = j.allowed_word(last.state.cell, come_to(last.state.arrival), steps);
-    offer_jumps(j, query, last, dirs, space, steps, own);
-    match space.take_next(own) {
-        None => Ok(None),
-        Some(next) => {
-            let node = space.node(next);
-            taken.push(number_at(j, node))?;
-            Ok(Some(next))
+    ghost Serves = { λ j ends f. IsAskedOf (J.StandsFor j.source.now) j.layout ends f };
+
+    ghost IsReady = { λ _ _. Unit {0} };
+
+    ghost Counts = { λ j n old new. IsCounted (J.most j.source.now) (J.fewest j.source.now).allowed n old new };
+
+    fn shown(&self, node: Node) -> State {
+        State {
+            cell: node.place.cell(),
+            arrival: node.place.arrival(),
         }
     }
-}
 
-// The answer where the goal was taken last.
-fn found<J: JumpSource>(
-    alloc: Global,
-    j: &J,
-    query: Query,
-    space: &Space,
-    at: u32,
-    taken: Taken,
-) -> Result<Found, NoMemory>
-    requires some { OnSome (J.StandsFor j.now) query.from query.to }
-    requires reached { OnEach (J.StandsFor j.now) query.from query.to
-        (λ g. HasReached query.layout g query.from query.to at space.now taken) }
-    requires goal { (n : _) → slice_get space.now.table.nodes at ≡ Some n → node_cell n ≡ query.to }
-    ensures run { IfOk result (λ f. OnEach (J.StandsFor j.now) query.from query.to
-        (λ g. IsJumpRun query.layout g query.from query.to f)) }
-    ensures found { IfOk result (λ f. IsSome f.walk) }
-    ensures taken { IfOk result (λ f. f.taken ≡ taken) }
-{
-    let way = space.way_to(alloc, query.to, at)?;
-    Ok(Found {
-        walk: Some(way),
-        taken,
-    })
-}
-
-// So many states a short search takes at most, and there is room for their numbers from the start on: a list
-// that grows from nothing is moved a few times.
-const MANY_STATES: usize = 256;
-
-// No states, and room for some.
-fn none_taken(alloc: Global) -> Result<Taken, NoMemory>
-    ensures { IfOk result (λ taken. taken ≡ []) }
-{
-    Ok(Taken::of(Vec::with_capacity(alloc, MANY_STATES)?))
-}
-
-// The search's run.
-fn run<J: JumpSource, L: Ledger, M: Ledger>(
-    alloc: Global,
-    j: &J,
-    query: Query,
-    space: &mut Space,
-    steps: &mut Steps<L>,
-    own: &mut Steps<M>,
-) -> Result<Found, NoMemory>
-    requires some { OnSome (J.StandsFor j.now) query.from query.to }
-    requires layout { space.old.layout ≡ query.layout }
-    requires places { OnEach (J.StandsFor j.now) query.from query.to (λ g. HasPlaces g space.old) }
-    ensures run { IfOk result (λ f. OnEach (J.StandsFor j.now) query.from query.to
-        (λ g. IsJumpRun query.layout g query.from query.to f)) }
-    ensures most { IfOk result (λ f. IsWithinTaken (J.most j.now) f steps.old steps.new) }
-    ensures fewest { IfOk result (λ f. RoseByTaken (J.fewest j.now).allowed f steps.old steps.new) }
-    ensures layout { space.new.layout ≡ space.old.layout }
-    ensures places { space.new.places ≡ space.old.places }
-{
-    let mut taken = none_taken(alloc)?;
-    begin(j, query, space, &mut taken, own)?;
-    let mut at: u32 = 0;
-    'taking: while space.node(at).place.cell() != query.to {
-        match advance(j, query, space, at, &mut taken, steps, own)? {
-            Some(next) => at = next,
-            None => {
-                return Ok(Found { walk: None, taken });
-            }
-        }
+    fn offer<L: Ledger, M: Ledger>(
+        &self,
+        ends: Ends,
+        at: u32,
+        space: &mut Space,
+        _taken: &Taken,
+        _memory: &mut (),
+        steps: &mut Steps<L>,
+        own: &mut Steps<M>,
+    ) -> Result<(), NoMemory> {
+        // (by the clause of `width` each grid is whole)
+        let _whole = self.source.width();
+        let query = Query {
+            from: ends.from,
+            to: ends.to,
+            layout: self.layout,
+        };
+        let last = last_at(space, ends.to, at);
+        let by = come_to(last.state.arrival);
+        let dirs = self.source.allowed_word(last.state.cell, by, steps);
+        offer_jumps(self.source, query, last, dirs, space, steps, own);
+        Ok(())
     }
-    found(alloc, j, query, space, at, taken)
-}
-
-// A search whose steps of the open list are counted by a counter of its own.
-fn run_counted<J: JumpSource, L: Ledger, M: Ledger>(
-    alloc: Global,
-    j: &J,
-    query: Query,
-    space: &mut Space,
-    steps: &mut Steps<L>,
-    blank: Blank,
-) -> Result<Found, NoMemory>
-    requires name { blank.name ≡ M.name }
-    requires parts { blank.parts ≡ M.parts }
-    requires positive { 0 < M.parts }
-    requires some { OnSome (J.StandsFor j.now) query.from query.to }
-    requires layout { space.old.layout ≡ query.layout }
-    requires places { OnEach (J.StandsFor j.now) query.from query.to (λ g. HasPlaces g space.old) }
-    ensures run { IfOk result (λ f. OnEach (J.StandsFor j.now) query.from query.to
-        (λ g. IsJumpRun query.layout g query.from query.to f)) }
-    ensures least { IfOk result (λ f. OnEach (J.StandsFor j.now) query.from query.to
-        (λ g. IsLeastOrNone g query.from query.to f.walk)) }
-    ensures most { IfOk result (λ f. IsWithinTaken (J.most j.now) f steps.old steps.new) }
-    ensures fewest { IfOk result (λ f. RoseByTaken (J.fewest j.now).allowed f steps.old steps.new) }
-    ensures layout { space.new.layout ≡ space.old.layout }
-    ensures places { space.new.places ≡ space.old.places }
-{
-    let mut own = Steps::<M>::new(blank);
-    run(alloc, j, query, space, steps, &mut own)
 }
 
 /// The jump engines' run from one free cell to another, over memory that is lent: its answer is a
@@ -228,9 +97,12 @@ pub fn search_in<J: JumpSource, L: Ledger>(
     ensures layout { space.new.layout ≡ space.old.layout }
     ensures places { OnEach (J.StandsFor j.now) from to (λ g. HasPlaces g space.new) }
 {
-    let layout = space.layout();
-    let query = Query { from, to, layout };
-    run_counted::<J, L, Brand>(alloc, j, query, space, steps, Blank::new(1))
+    let jumps = Jumps {
+        source: j,
+        layout: space.layout(),
+    };
+    let ends = Ends { from, to };
+    search_over(alloc, &jumps, j.width(), ends, space, &mut (), steps)
 }
 
 // The memory for searches on a map of this size.

@@ -6,6 +6,3 @@ pub offer_over-requires-clause-may : goal.offer_over-requires-clause-may
 offer_over-requires-clause-may g c = λ v e.
     still {a = c.args.space.now} {b = c.loop-d.space} c.loop-d.invariant.shape (c.requires.may _ v)
     (sym c.toward-to.ensures ∙ e)
-
-pub toward-to-requires : goal.toward-to-requires
-toward-to-requires g c = c.requires.boxes _

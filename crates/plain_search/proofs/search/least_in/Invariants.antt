@@ -1,4 +1,4 @@
 use Rattle.plain_search.proofs.search.least_in.Given as goal
 
-abbrev pub ghosts-take_counted : goal.ghosts-take_counted
-ghosts-take_counted g a = record { name = a.blank.name; parts = a.blank.parts }
+abbrev pub ghosts-search_on : goal.ghosts-search_on
+ghosts-search_on g a = record { name = a.blank.name; parts = a.blank.parts }
