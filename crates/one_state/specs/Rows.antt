@@ -69,13 +69,14 @@ pub above_alone-both : is_run (round Both (octile_to end))
     (taken 2 2 S 2 1 (cell 2 1) ∷ taken 2 1 SE 1 1 (cell 1 0) ∷ taken 1 0 E 1 0 (cell 0 0) ∷ start ∷ []) ≡ true
 above_alone-both = refl
 
--- with no estimate all that costs less goes first
+-- with no estimate all that costs less goes first; of two equal offers of the goal the later one stays, where this
+-- project keeps the first
 pub by_costs : is_run (round Never no_estimate)
-    (taken 2 2 E 4 0 (cell 0 2) ∷ taken 2 0 E 2 0 (cell 0 0) ∷ taken 0 2 S 2 0 (cell 0 0) ∷ start ∷ []) ≡ true
+    (taken 2 2 S 4 0 (cell 2 0) ∷ taken 2 0 E 2 0 (cell 0 0) ∷ taken 0 2 S 2 0 (cell 0 0) ∷ start ∷ []) ≡ true
 by_costs = refl
 
 abbrev by_costs_past_it : List Taken
-by_costs_past_it = taken 2 2 E 2 1 (cell 1 2) ∷ taken 2 1 SE 1 1 (cell 1 0) ∷ taken 1 2 SE 1 1 (cell 0 1)
+by_costs_past_it = taken 2 2 S 2 1 (cell 2 1) ∷ taken 2 1 SE 1 1 (cell 1 0) ∷ taken 1 2 SE 1 1 (cell 0 1)
     ∷ taken 1 0 E 1 0 (cell 0 0) ∷ taken 0 1 S 1 0 (cell 0 0) ∷ start ∷ []
 
 pub by_costs-one : is_run (round One no_estimate) by_costs_past_it ≡ true
@@ -177,6 +178,23 @@ not_the_least = refl
 pub beyond_the_stop : is_run (everywhere One no_estimate)
     (taken 2 0 E 2 0 (cell 0 0) ∷ taken 0 1 S 1 0 (cell 0 0) ∷ taken 1 0 E 1 0 (cell 0 0) ∷ start ∷ []) ≡ false
 beyond_the_stop = refl
+
+-- a direction is taken that pruning drops: on `.../...` the diagonal move goes first
+abbrev open_rows : GridData
+open_rows = grid_of 3 2 (codes "......") Never
+
+abbrev over_the_open : Search
+over_the_open = record {
+  grid = open_rows;
+  start = cell 0 0;
+  goal = cell 2 1;
+  estimate = octile_to (cell 2 1);
+  stops = besides at_all open_rows (cell 2 1);
+}
+
+pub dropped_direction : is_run over_the_open
+    (taken 2 1 SE 1 1 (cell 1 0) ∷ taken 1 0 E 1 0 (cell 0 0) ∷ start ∷ []) ≡ false
+dropped_direction = refl
 
 -- a parent is skipped
 pub parent_skipped : is_run (round Never (octile_to end))
