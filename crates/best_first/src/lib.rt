@@ -9,19 +9,19 @@
 //! looked for, as the estimate is consistent; the index is exact and never cleared as a whole.
 #![tactic(auto)]
 
+mod expansion;
 mod found;
 mod index;
 mod node;
 mod place;
-mod search;
 mod space;
 mod state;
 mod way;
 
+pub use expansion::{Expansion, search};
 pub use found::{Found, Taken};
 pub use node::{Node, Offer};
 pub use place::Place;
-pub use search::{Expansion, search};
 pub use space::Space;
 pub use state::{Layout, State};
 pub use std::alloc::AllocError as NoMemory;

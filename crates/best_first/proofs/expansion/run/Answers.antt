@@ -3,7 +3,7 @@ use Rattle.std.proofs.lemmas.Result.{IfOk-from_err, IfOk-weaker}
 use Rattle.best_first.proofs.Looping.{differs_there, same_there, reached_within, few_taken, gone_further}
 use Rattle.best_first.proofs.Looping.{all_gone, last_counted}
 use Rattle.best_first.proofs.Progress.{has_back}
-use Rattle.best_first.proofs.search.run.Goals as goal
+use Rattle.best_first.proofs.expansion.run.Goals as goal
 
 smaller : (old new : ℕ) → new ≡ old + 1 → new ≤ 150994944 → 150994944 - new < 150994944 - old
 smaller old new e h = omega arith

@@ -129,13 +129,7 @@ fn advance<E: Expansion, L: Ledger, M: Ledger>(
 }
 
 // The answer where the goal was taken last.
-fn found(
-    alloc: Global,
-    ends: Ends,
-    space: &Space,
-    at: u32,
-    taken: Taken,
-) -> Result<Found, NoMemory>
+fn found(alloc: Global, ends: Ends, space: &Space, at: u32, taken: Taken) -> Result<Found, NoMemory>
     requires back { HasBack ends.to space.now.table.nodes at }
     requires goal { (n : Node) → slice_get space.now.table.nodes at ≡ Some n → node_cell n ≡ ends.to }
     ensures answers { IfOk result (λ r. (f : Frame) → HasReached f ends at space.now taken

@@ -3,7 +3,7 @@ use Rattle.std.proofs.lemmas.Result.{on_ok_weaker}
 use Rattle.best_first.specs.declared.state.State.{State}
 use Rattle.best_first.specs.State.{state_number}
 use Rattle.best_first.proofs.Looping.{begins_narrow, start_placed, reached_first}
-use Rattle.best_first.proofs.search.begin.Goals as goal
+use Rattle.best_first.proofs.expansion.begin.Goals as goal
 
 pub begin-requires-clause-narrow : goal.begin-requires-clause-narrow
 begin-requires-clause-narrow g c = begins_narrow c.requires.some.1

@@ -2,7 +2,7 @@ use Rattle.std.proofs.Common.{◌∙◌, refl}
 use Rattle.best_first.specs.State.{state_of_place}
 use Rattle.best_first.proofs.Answering.{found_back}
 use Rattle.best_first.proofs.Offering.{in_cell}
-use Rattle.best_first.proofs.search.found.Goals as goal
+use Rattle.best_first.proofs.expansion.found.Goals as goal
 
 pub returns-clause-answers : goal.returns-clause-answers
 returns-clause-answers g c = λ f h.

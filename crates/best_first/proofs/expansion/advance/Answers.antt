@@ -6,7 +6,7 @@ use Rattle.best_first.specs.declared.node.Node.{Node}
 use Rattle.best_first.specs.Table.{Table}
 use Rattle.best_first.proofs.Looping.{shape_then, reached_still, reached_within, next_placed, reached_next}
 use Rattle.best_first.proofs.Progress.{exhausted}
-use Rattle.best_first.proofs.search.advance.Goals as goal
+use Rattle.best_first.proofs.expansion.advance.Goals as goal
 
 pub offer-requires-clause-reached : goal.offer-requires-clause-reached
 offer-requires-clause-reached g c = λ f serves.

@@ -1,4 +1,4 @@
-use Rattle.best_first.proofs.search.search.Given as goal
+use Rattle.best_first.proofs.expansion.search.Given as goal
 
 abbrev pub ghosts-run : goal.ghosts-run
 ghosts-run g a = record { name = a.blank.name; parts = a.blank.parts }

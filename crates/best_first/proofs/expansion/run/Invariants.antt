@@ -1,6 +1,6 @@
 use Rattle.std.proofs.Common.{◌≡◌, ◌-◌, length}
 use Rattle.best_first.specs.Frame.{Frame, HasReached, HasGoneOn}
-use Rattle.best_first.proofs.search.run.Given as goal
+use Rattle.best_first.proofs.expansion.run.Given as goal
 
 -- the states so far were taken, and all of them but the last have made offers
 abbrev pub invariant-taking : goal.invariant-taking
