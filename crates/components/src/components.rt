@@ -7,8 +7,8 @@ ghost use Rattle.components.specs.Classes.{IsForest};
 ghost use Rattle.components.specs.Kept.{AreFor, KeptLabels, Tells};
 
 use crate::NoMemory;
-use crate::around::{is_whole, ring_of};
 use crate::classes::root;
+use crate::flood::{MOST, SIDE, stays_joined};
 use crate::labelling::relabel;
 use crate::meeting::add;
 use crate::shape::{Shape, label_at};
@@ -21,6 +21,16 @@ fn zeros(alloc: Global, n: usize) -> Result<Vec<u32>, NoMemory>
     ensures { IfOk result (λ v. v.items ≡ replicate n 0) }
 {
     vec![in alloc; 0u32; n]
+}
+
+// So many places without a mark.
+fn blanks(alloc: Global, n: usize) -> Result<Vec<bool>, NoMemory> {
+    vec![in alloc; false; n]
+}
+
+// Room for so many cells.
+fn room(alloc: Global, n: usize) -> Result<Vec<Cell>, NoMemory> {
+    vec![in alloc; Cell { x: 0, y: 0 }; n]
 }
 
 // Makes each label stand for itself.
@@ -48,6 +58,10 @@ pub struct Components {
     /// The greatest label that was given.
     used: u32,
     fresh: bool,
+    /// Where floods mark the cells that they have found.
+    marks: Vec<bool>,
+    /// Where they list them.
+    list: Vec<Cell>,
 }
 
 impl Model for Components {
@@ -80,6 +94,8 @@ impl Components {
         let cells = shape.height as usize * shape.width as usize;
         let mut labels = zeros(alloc, cells)?;
         let mut classes = zeros(alloc, cells + 1)?;
+        let marks = blanks(alloc, SIDE as usize * SIDE as usize)?;
+        let list = room(alloc, MOST)?;
         part_all(classes.as_mut_slice());
         let used = relabel(t, shape, labels.as_mut_slice(), classes.as_mut_slice());
         Ok(Components {
@@ -89,6 +105,8 @@ impl Components {
             classes,
             used,
             fresh: true,
+            marks,
+            list,
         })
     }
 
@@ -163,8 +181,15 @@ impl Components {
             return;
         }
         if !free {
-            self.fresh = is_whole(self.shape.eight, ring_of(self.shape, &self.labels, c));
-            self.labels[number_of(self.shape.width, c) as usize] = 0;
+            let place = number_of(self.shape.width, c) as usize;
+            self.labels[place] = 0;
+            self.fresh = stays_joined(
+                self.shape,
+                &self.labels,
+                c,
+                self.marks.as_mut_slice(),
+                self.list.as_mut_slice(),
+            );
             return;
         }
         if self.used as usize + 1 == self.classes.len() {

@@ -13,6 +13,7 @@
 mod around;
 mod classes;
 mod components;
+mod flood;
 mod labelling;
 mod meeting;
 mod shape;

@@ -1,6 +1,5 @@
 //! Small maps by hand. The tests of `components` stand here too, as a crate is proved once more with its tests.
 
-ghost use Rattle.std.specs.Prelude.{◌≡◌, length};
 ghost use Rattle.grid_moves.specs.Grid.{AreCells};
 
 use crate::nearest;
@@ -15,16 +14,23 @@ fn cell(x: u16, y: u16) -> Cell {
     Cell { x, y }
 }
 
-// Whether the labels stay fresh where the middle of a map of three columns and rows is blocked.
-fn stay_fresh(alloc: Global, cells: &[u8], corner: Corner) -> Result<bool, NoMemory>
-    requires { length cells.now ≡ 9 }
+// Whether the labels stay fresh where a cell is blocked.
+fn stay_fresh(
+    alloc: Global,
+    width: u16,
+    height: u16,
+    cells: &[u8],
+    at: Cell,
+    corner: Corner,
+) -> Result<bool, NoMemory>
+    requires { AreCells width height cells.now }
 {
-    let grid = Grid::of_cells(alloc, 3, 3, cells, corner)?;
+    let grid = Grid::of_cells(alloc, width, height, cells, corner)?;
     let mut p = Components::of(alloc, &grid)?;
-    if p.width() != 3 || p.height() != 3 {
+    if at.x >= p.width() || at.y >= p.height() {
         return Ok(false);
     }
-    p.set(Cell { x: 1, y: 1 }, false);
+    p.set(at, false);
     Ok(p.is_fresh())
 }
 
@@ -49,7 +55,40 @@ fn labels_stay_fresh_where_nothing_parts(rt: HostRuntime) -> Result<(), Fail> {
     ] {
         for i in 0..3 {
             assert_eq!(rt;
-                stay_fresh(rt.alloc(), cells, RULES[i])?,
+                stay_fresh(rt.alloc(), 3, 3, cells, cell(1, 1), RULES[i])?,
+                fresh[i],
+                "{cells:?} {i}"
+            );
+        }
+    }
+    Ok(())
+}
+
+// The door above a room is closed: there is another one below it, there is none, there is a gap at a corner, which the
+// third rule alone lets pass, and the other one leads to where no way around leads.
+#[test]
+fn another_door_keeps_labels_fresh(rt: HostRuntime) -> Result<(), Fail> {
+    for (cells, fresh) in [
+        (
+            b"........@@.@@..@...@..@...@..@@.@@........",
+            [true, true, true],
+        ),
+        (
+            b"........@@.@@..@...@..@...@..@@@@@........",
+            [false, false, false],
+        ),
+        (
+            b"........@@.@@..@...@..@...@..@@@@.........",
+            [false, false, true],
+        ),
+        (
+            b"........@@.@@..@...@@@@...@..@@.@@........",
+            [false, false, false],
+        ),
+    ] {
+        for i in 0..3 {
+            assert_eq!(rt;
+                stay_fresh(rt.alloc(), 7, 6, cells, cell(3, 1), RULES[i])?,
                 fresh[i],
                 "{cells:?} {i}"
             );
