@@ -23,7 +23,7 @@ use grid_moves::{Cell, Dir, Ring, beyond};
 pub(crate) const SIDE: u16 = 128;
 
 /// How many cells a flood finds at most.
-pub(crate) const MOST: usize = 4096;
+pub(crate) const MOST: usize = 8192;
 
 // No direction.
 fn no_ring() -> Ring
