@@ -38,3 +38,33 @@ are_diagonal_met ring met = (is_covered ring.ne met.ne && is_covered ring.se met
 -- all free cells around that the middle is linked with were met
 abbrev pub are_met : Bool → Ring → Ring → Bool
 are_met eight ring met = are_straight_met ring met && is_covered eight (are_diagonal_met ring met)
+
+-- the cell is among so many of a list
+pub record IsListed (list : List Cell) (count : ℕ) (u : Cell) : Type 0 where
+  pub place : ℕ
+  pub below : place < count
+  pub is : slice_index_or list place no_cell ≡ u
+
+-- cells of which this holds were given a label, and no others
+pub record AreNamed (shape : Shape) (IsNamed : Cell → Type 0) (label : ℕ) (labels later : List ℕ) : Type 0 where
+  pub whole : length later ≡ length labels
+  pub low : (k : ℕ) → (slice_index later k ≡ slice_index labels k) ⊎ (slice_index later k ≡ label)
+  pub changed : (u : Cell) → (label_of (labels_in shape later) u ≡ label_of (labels_in shape labels) u)
+      ⊎ ((label_of (labels_in shape later) u ≡ label) × IsNamed u)
+
+-- all neighbours that a cell is linked with, and that have labels, have this one
+abbrev pub IsShutAt : Shape → Cell → ℕ → List ℕ → Type 0
+IsShutAt shape c label labels = (d : Dir) → is_among d (linked_dirs shape.eight) ≡ true
+    → is_labelled (labels_in shape labels) (beyond d c) ≡ true
+    → label_of (labels_in shape labels) (beyond d c) ≡ label
+
+-- so it is with so many cells of a list
+abbrev pub IsShut : Shape → List Cell → ℕ → ℕ → List ℕ → Type 0
+IsShut shape list count label labels = (k : ℕ) → k < count
+    → IsShutAt shape (slice_index_or list k no_cell) label labels
+
+-- labels that told what is linked do so where c is blocked
+abbrev pub StillTell : Bool → Cell → (Cell → ℕ) → (Cell → ℕ) → Type 0
+StillTell eight c before later = (free less : Cell → Bool) (was : Cell → ℕ) → less c ≡ false
+    → ((u : Cell) → u ≢ c → less u ≡ free u) → ((u : Cell) → u ≢ c → was u ≡ before u)
+    → TellsLinked eight free was → TellsLinked eight less later
