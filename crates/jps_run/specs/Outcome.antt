@@ -30,8 +30,8 @@ pub record IsOutput (replies : By → Replies) (call : Call) (holds : List ℕ �
   pub accepted : AreAccepted holds [] (files_of call) texts
   pub answered : output_of replies call texts ≡ Some (record { lines = lines; status = status })
 
--- the status; the lines that `out` gets, and for which of them memory may be wanted, so that `memory` may stand in
--- their place; and the line that `err` gets
+-- the status; the lines that `out` gets, and for which of them memory may be wanted, so that `memory` may stand
+-- in their place; and the line that `err` gets
 pub record Outcome : Type 0 where
   pub status : ℕ
   pub out : List (List ℕ)

@@ -53,8 +53,8 @@ Serves first input input_now before now result =
     EndsOrStops (λ status. (status ≡ 0) × AllIsServed first input before now)
     (serve_stops first input input_now before now) result
 
--- behind turns in which bytes came in, the lines that this turn completes are answered too, and more may be read; or
--- nothing more came in, and all lines are; or that stops
+-- behind turns in which bytes came in, the lines that this turn completes are answered too, and more may be read;
+-- or nothing more came in, and all lines are; or that stops
 abbrev pub ServesTurn : LineServer → LineServer → Inflow → Inflow → List ℕ → List ℕ → Outflow → Outflow
     → Result Bool Stop → Type 0
 ServesTurn old new mid input_now buffer buffer_now at now result =

@@ -72,8 +72,8 @@ abbrev pub edits_of : List Asked → List Edit
 edits_of [] = []
 edits_of (a ∷ more) = edits_by a ++ edits_of more
 
--- worked rows, where no query finds a walk: each line is answered on the grids that the edits before it leave, and
--- one that is refused changes nothing
+-- worked rows, where no query finds a walk: each line is answered on the grids that the edits before it leave,
+-- and one that is refused changes nothing
 abbrev none_found : Replies
 none_found ls s t = reply.None []
 
@@ -98,7 +98,8 @@ near_to_outside = refl
 pub near_from_a_block : answer_to none_found Points row_of_three (asked.Near 1 0 0 0) ≡ codes "blocked\n"
 near_from_a_block = refl
 
--- `near` from a cell that walks lead to no other from; and on `..@..`, where they lead to the columns before the block
+-- `near` from a cell that walks lead to no other from; and on `..@..`, where they lead to the columns before the
+-- block
 pub near_itself : answer_to none_found Points row_of_three (asked.Near 0 0 2 0) ≡ codes "none\n"
 unfolding nearest_of first_nearest
 near_itself = refl

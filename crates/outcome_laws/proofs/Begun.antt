@@ -17,7 +17,7 @@ use Rattle.line_feed.specs.declared.feed.FedLine.{FedLine}
 use Rattle.line_feed.specs.Fed.{whole_lines}
 use Rattle.line_work.specs.Sending.{Wrote}
 use Rattle.line_work.proofs.Pieces.{part-more}
-use Rattle.jps_run.specs.Heard.{AnswerTaken, heard_commands}
+use Rattle.jps_run.specs.Heard.{AnswerTaken, WroteAll, heard_commands}
 use Rattle.outcome_laws.specs.Alike.{BeginWith}
 use Rattle.outcome_laws.proofs.Taken.{pending_taken, taken_begins}
 use Rattle.outcome_laws.proofs.ServedLines.{served_begin}
@@ -29,7 +29,7 @@ use Rattle.outcome_laws.specs.Outcomes.{FilesAreKnown, OfOutput, WrittenBeginsTh
 use Rattle.jps_run.specs.Live.{On, answers_on}
 use Rattle.jps_run.specs.Outcome.{IsOutcome, IsOutput, Outcome, Spell, done, outcome_hearing, outcome_of, outcome_on}
 use Rattle.jps_run.specs.Outcome.{outcome_serving}
-use Rattle.jps_run.specs.Serving.{AreTaken, ServeLines, WroteWhole, serving_on, so_far}
+use Rattle.jps_run.specs.Serving.{AreTaken, ServeLines, ServeWhole, serving_on, so_far}
 use Rattle.jps_run.specs.Standing.{StandFor}
 use Rattle.call_files.specs.Layered.{grids_under}
 use Rattle.jps_run.specs.Manner.{manner_of}
@@ -172,8 +172,9 @@ module _ (words : List (List ℕ)) (holds : List ℕ → Held) (input input_now 
             (outcome_is Serve call spelled p refl)) begun.1,
       )
 
-  whole_begins : (call : Call) → Spell words call → WroteWhole replies_by call holds out out_now input.left
-      input_now.left → Begun out out_now outcome
+  whole_begins : (call : Call) → Spell words call → On Serve call holds
+      (λ m. WroteAll (ServeWhole (serving_on (manner_of replies_by call.settings) m) input.left input_now.left)
+      out out_now) → Begun out out_now outcome
   whole_begins call spelled p =
       let s = p.such.stand in
       let all = served_begins_all call spelled p s.taken (whole_lines s.taken) p.such.lines s.consumed (so_far refl)

@@ -212,3 +212,56 @@ fn check_failing<L: Ledger>(alloc: Global, rt: &impl Abort, blank: Blank) -> Res
 fn a_failed_write_stops_the_answers(rt: HostRuntime) -> Result<(), Fail> {
     check_failing::<Brand>(rt.alloc(), &rt, Blank::new(1))
 }
+
+// This line, so many times in one piece, has answers of so many bytes in the first write; a second write fails, if
+// there is one.
+fn check_first_write<L: Ledger>(
+    alloc: Global,
+    rt: &impl Abort,
+    talk: Talk<'_>,
+    times: usize,
+    bytes: usize,
+    is_all: bool,
+    blank: Blank,
+) -> Result<(), Fail>
+    requires name { blank.name ≡ L.name }
+    requires parts { blank.parts ≡ L.parts }
+    requires some { 0 < L.parts }
+{
+    let mut steps = Steps::<L>::new(blank);
+    let mut server = server_on(alloc, rt, talk, Engine::Plain)?;
+    let mut piece = Vec::new(alloc);
+    for _ in 0..times {
+        piece.extend_from_slice(talk.text)?;
+    }
+    let mut out = MemSink::new(alloc, 70_000, 70_000, vec![in alloc; 2]?)?;
+    let fed = server.feed(alloc, piece.as_slice(), &mut out, &mut steps);
+    assert_eq!(rt; fed.is_ok(), is_all, "{times} lines");
+    assert_eq!(rt; out.bytes().len(), bytes, "{times} lines");
+    Ok(())
+}
+
+// 200 answers `walk 0 0 0,0` are one write. On a row of 40 cells an answer to `costs` has 201 bytes, 11 of them in its
+// first line: 326 of them have 65,526 bytes, and one more is more than 64 KiB.
+#[test]
+fn answers_to_a_piece_are_one_write_up_to_64_kib(rt: HostRuntime) -> Result<(), Fail> {
+    let alloc = rt.alloc();
+    let walks = Talk {
+        map: ONE,
+        corner: Corner::Never,
+        text: b"query 0 0 0 0\n",
+    };
+    let costs = Talk {
+        map: b"type octile\nheight 1\nwidth 40\nmap\n........................................\n",
+        corner: Corner::Never,
+        text: b"costs 0 0\n",
+    };
+    for (talk, times, bytes, is_all) in [
+        (walks, 200, 2600, true),
+        (costs, 326, 65_526, true),
+        (costs, 327, 65_526, false),
+    ] {
+        check_first_write::<Brand>(alloc, &rt, talk, times, bytes, is_all, Blank::new(1))?;
+    }
+    Ok(())
+}
