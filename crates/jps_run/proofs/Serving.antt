@@ -1,7 +1,7 @@
 -- What a server wrote stands for the answers to the lines that came in, read by read.
-use Rattle.std.proofs.Common.{◌≡◌, refl, sym, ap, ◌∙◌, subst, List, [], ◌∷◌, ◌++◌, ℕ, ◌+◌, ◌<◌, ◌≤◌, inl, inr, length}
+use Rattle.std.proofs.Common.{◌≡◌, refl, sym, ap, ◌∙◌, subst, List, [], ◌∷◌, ◌++◌, ℕ, ◌+◌, ◌<◌, ◌≤◌, inl, length}
 use Rattle.std.proofs.Common.{length-append, take, min, map, arith, Bool}
-use Rattle.std.specs.Prelude.{Option, Some, None, Result, MatchResult, IsErrAnd, ◌^◌}
+use Rattle.std.specs.Prelude.{Option, Some, None, ◌^◌}
 use Rattle.std.specs.List.{concat}
 use Rattle.std.specs.Io.KnownBytes.{Consumes, IsAtEnd, Keeps}
 use Rattle.std.proofs.lemmas.List.{append-nil, length-take, map-append}
@@ -21,11 +21,10 @@ use Rattle.line_server.specs.declared.server.LineServer.{LineServer}
 use Rattle.line_server.specs.Asked.{edits_by, may_want}
 use Rattle.line_server.specs.Answers.{AreAnswers, all_asked, answer_to, answers_to}
 use Rattle.line_server.specs.Served.{HasServed, HaveAnswered, HaveStopped}
-use Rattle.line_work.specs.Sending.{Wrote}
-use Rattle.line_work.proofs.Pieces.{nothing, part-more, rose-since}
+use Rattle.line_work.proofs.Pieces.{part-more, rose-since}
 use Rattle.jps_run.specs.Heard.{WroteAll, WroteFirst}
 use Rattle.jps_run.specs.ServeLoop.{AllIsServed, IsFresh, IsServing, serving_by}
-use Rattle.jps_run.specs.Serving.{AreTaken, ServeEndless, ServeLines, ServeTaken, ServeWhole, at_end, so_far}
+use Rattle.jps_run.specs.Serving.{ServeEndless, ServeLines, ServeTaken, ServeWhole, at_end, so_far}
 use Rattle.jps_run.specs.Standing.{StandFor}
 use Rattle.jps_run.proofs.Listening.{consumes-both, consumes-none, input-all}
 
