@@ -44,7 +44,7 @@ fn made(text: Result<Vec<u8>, NoMemory>) -> Answer
 }
 
 /// Answers what a line asks.
-pub(crate) fn answer<L: Ledger>(
+pub(crate) fn answer_to<L: Ledger>(
     alloc: Global,
     session: &mut JoinedSession,
     show: Show,

@@ -4,7 +4,7 @@ ghost use Rattle.std.specs.Prelude.{◌≡◌, ◌≤◌, ◌++◌, IfOk, [], if
 ghost use Rattle.line_server.specs.Served.{HasServed, ServesEnd, ServesPiece};
 ghost use Rattle.line_server.specs.Writing.{PutsText, WritesText};
 
-use crate::answer::answer;
+use crate::answer::answer_to;
 use crate::joined::JoinedSession;
 use crate::{Asked, NoMemory};
 use edit_replay::Session;
@@ -91,7 +91,7 @@ impl LineServer {
         let mut held = Vec::new(alloc);
         let mut left = piece;
         'lines: while let Some((line, rest)) = self.feed.take(left) {
-            let text = answer(alloc, &mut self.session, self.show, Asked::by(&line), steps);
+            let text = answer_to(alloc, &mut self.session, self.show, Asked::by(&line), steps);
             put_text(out, &mut held, text.bytes())?;
             left = rest;
         }
@@ -109,7 +109,7 @@ impl LineServer {
     {
         match self.feed.end() {
             Some(line) => {
-                let text = answer(alloc, &mut self.session, self.show, Asked::by(&line), steps);
+                let text = answer_to(alloc, &mut self.session, self.show, Asked::by(&line), steps);
                 write_text(out, text.bytes())
             }
             None => Ok(()),

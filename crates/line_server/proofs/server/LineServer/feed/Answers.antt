@@ -14,15 +14,15 @@ returns-in_err-put_text g c = λ first text before h.
     rw p.1 (serving-stopped first c.lines.self text c.args.piece.now c.lines.left.now before
     (g.O.Sink.outflow c.lines.out) c.lines.held.items (c.lines.invariant first text before h) c.take.new.self
     (g.O.Sink.outflow c.put_text.new.out) c.in-Some.line c.in-Some.rest.now c.in-Some.ensures.taken c.by.result
-    c.by.ensures c.answer-text.new.session (bytes_of c.answer-text.result) c.answer-text.ensures
+    c.by.ensures c.answer_to-text.new.session (bytes_of c.answer_to-text.result) c.answer_to-text.ensures
     c.in_err-put_text.ensures.put)
 
 pub lines-preserved : goal.lines-preserved
 lines-preserved g c = λ first text before h.
     serving-more first c.lines.self text c.args.piece.now c.lines.left.now before (g.O.Sink.outflow c.lines.out)
     c.lines.held.items (c.lines.invariant first text before h) c.take.new.self (g.O.Sink.outflow c.put_text.new.out)
-    c.in-Some.line c.in-Some.rest.now c.in-Some.ensures.taken c.by.result c.by.ensures c.answer-text.new.session
-    (bytes_of c.answer-text.result) c.answer-text.ensures c.put_text.new.held.items c.in_ok-put_text.ensures.put
+    c.in-Some.line c.in-Some.rest.now c.in-Some.ensures.taken c.by.result c.by.ensures c.answer_to-text.new.session
+    (bytes_of c.answer_to-text.result) c.answer_to-text.ensures c.put_text.new.held.items c.in_ok-put_text.ensures.put
     c.in_ok-put_text.ensures.later
 
 pub returns : goal.returns

@@ -7,7 +7,7 @@ use Rattle.line_server.specs.declared.asked.Asked.TheVariants as asked
 use Rattle.line_server.specs.Answers.{cell_at}
 use Rattle.line_server.specs.Writing.{bytes_of}
 use Rattle.line_server.proofs.Serving.{answered-edit, answered-made}
-use Rattle.line_server.proofs.answer.answer.Goals as goal
+use Rattle.line_server.proofs.answer.answer_to.Goals as goal
 
 pub returns-in-Edit : goal.returns-in-Edit
 returns-in-Edit g c =
