@@ -280,7 +280,7 @@ module _ (first old : LineServer) (text piece left : List ℕ) (before at : Outf
         (answered-more first old.session new old.show (all_asked (whole_lines (text ++ s.eaten))) s.texts a answer
         s.answered one)
 
-    parts : concat (s.texts ++ answer ∷ []) ≡ s.sent ++ held ++ answer
+    parts : concat (s.texts ++ answer ∷ []) ≡ s.sent ++ (held ++ answer)
     parts = texts-more s.texts answer ∙ ap (λ (l : List ℕ). l ++ answer) s.parts
         ∙ append_assoc s.sent held answer
 
@@ -328,11 +328,11 @@ module _ (first old : LineServer) (text piece left : List ℕ) (before at : Outf
     pub serving-done : {T E : Type 0} (result : Result T E) → WritesText held at now result → at.faults ≤ now.faults
         → MatchResult result (λ _. HasServed first (server_of old.session old.show feed) (text ++ piece) before now)
         (λ _. HaveStopped first (all_asked (whole_lines (text ++ piece))) before now)
-    serving-done (Ok done) wrote risen = record {
+    serving-done {T} {E} (Ok done) wrote risen = record {
       fed = subst (λ (t : List ℕ). HasTaken feed t) (sym whole) (all (text ++ s.eaten) s.fed).taken;
-      answered = last (Ok done) wrote risen;
+      answered = last {T} {E} (Ok done) wrote risen;
     }
-    serving-done (Err error) some risen = last (Err error) some risen
+    serving-done {T} {E} (Err error) some risen = last {T} {E} (Err error) some risen
 
 -- the end
 module _ (first old : LineServer) (text : List ℕ) (before at : Outflow) (h : HasServed first old text before at)
