@@ -102,8 +102,8 @@ fn check_endless(
     Ok(())
 }
 
-// Each file of each command without an end, by each engine and under each rule. `endless` are all commands with
-// a map, that of `x`.
+// Each file of each command without an end, by each engine and under each rule. `endless` are all commands
+// with a map, that of `x`.
 pub(crate) const LONG: &str = "
 map long | endless => 3 jps: map long
 script long | solve m x engine=each rule=any => 3 jps: script long

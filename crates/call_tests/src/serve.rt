@@ -7,8 +7,9 @@ use crate::live::{check_order, check_pieces};
 use crate::table::{check_table, spelled};
 use std::test::Fail;
 
-// Lines as those of scripts have their rows there. A goal of `near` may be blocked, or in the other layer; on the map
-// with a pillar the cell above it is the nearest one, since of those beside it it has the least number:
+// Lines as those of scripts have their rows there. A goal of `near` may be blocked, or in the other layer; on
+// the map with a pillar the cell above it is the nearest one, since of those beside it it has the least
+// number:
 //
 // ```text
 // . . . . .
@@ -96,8 +97,8 @@ fn all_lines_are_answered_in_whatever_pieces(rt: HostRuntime) -> Result<(), Fail
     Ok(())
 }
 
-// Lines of 14, 10 and 2 bytes come in by sevens: the second read completes the first, the fourth both others; a fifth
-// finds the end.
+// Lines of 14, 10 and 2 bytes come in by sevens: the second read completes the first, the fourth both others;
+// a fifth finds the end.
 #[test]
 fn a_line_is_answered_before_the_next_read(rt: HostRuntime) -> Result<(), Fail> {
     let alloc = rt.alloc();

@@ -1,5 +1,6 @@
 -- The walk of first moves.
-use Rattle.std.specs.Prelude.{◌≡◌, ◌+◌, ℕ, zero, suc, true, refl, codes, List, [], ◌∷◌, Option, Some, None, ◌⊎◌}
+use Rattle.std.specs.Prelude.{◌≡◌, ◌+◌, ℕ, zero, suc, true, refl, codes, List, [], ◌∷◌, Option, Some, None}
+use Rattle.std.specs.Prelude.{◌⊎◌}
 use Rattle.std.specs.Prelude.{MatchOption}
 use Rattle.std.specs.Option.{option_and_then, option_map, option_map_or}
 use Rattle.root2_cost.specs.declared.Cost.{Cost}

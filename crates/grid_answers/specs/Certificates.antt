@@ -12,8 +12,8 @@ use Rattle.potential_check.specs.declared.verdict.Reject.{Reject}
 use Rattle.potential_check.specs.declared.verdict.Reject.TheVariants as reject
 use Rattle.potential_make.specs.Made.{made_certificate}
 
--- the line that says why nothing is proved of the walks from s to t: an end lies outside, or is neither land nor
--- water, or one is land and the other water
+-- the line that says why nothing is proved of the walks from s to t: an end lies outside, or is neither land
+-- nor water, or one is land and the other water
 abbrev pub why_unproved : Layers → Cell → Cell → Option (List ℕ)
 why_unproved ls s t = if is_on_map ls s && is_on_map ls t
     then (if are_free_ends ls s t
@@ -22,7 +22,8 @@ why_unproved ls s t = if is_on_map ls s && is_on_map ls t
 
 -- what is printed for a query from s to t: that line, or else the certificate on the grid of the query
 unfoldable pub proof_answer : Layers → Cell → Cell → List ℕ
-proof_answer ls s t = option_map_or (λ line. line) (why_unproved ls s t) (made_certificate (query_grid ls s) s t)
+proof_answer ls s t = option_map_or (λ line. line) (why_unproved ls s t)
+    (made_certificate (query_grid ls s) s t)
 
 -- and the status
 unfoldable pub proof_status : Layers → Cell → Cell → ℕ

@@ -1,7 +1,8 @@
 -- Legal moves: eight directions, and a corner rule.
 -- No corner is cut: Harabor and Grastien, SoCS 2012. One blocked cell may be passed: their AAAI 2011. Two may
 -- be: Godot's grid unless set otherwise.
-use Rattle.std.specs.Prelude.{◌≡◌, ℕ, zero, suc, ◌+◌, ◌-◌, Option, Some, None, Bool, true, false, nat_le, nat_eq}
+use Rattle.std.specs.Prelude.{◌≡◌, ℕ, zero, suc, ◌+◌, ◌-◌, Option, Some, None, Bool, true, false, nat_le}
+use Rattle.std.specs.Prelude.{nat_eq}
 use Rattle.std.specs.Prelude.{not, ◌&&◌, ◌||◌, refl, List, [], ◌∷◌, if◌then◌else◌, option_and_then, unwrap_or}
 use Rattle.std.specs.Prelude.{codes, slice_get}
 use Rattle.root2_cost.specs.declared.Cost.{Cost}

@@ -4,8 +4,8 @@
 //! free, as in Harabor and Grastien's work from SoCS 2012 on, or at least one of the two, as in their paper
 //! of AAAI 2011, or none of them, as in Godot's grid unless set otherwise. A map has two grids, its land and
 //! its water. The definitions that every answer of `jps` rests on stand in this crate's specs: map and grids,
-//! legal move, walk and its cost, least walk, unfolding of points, right reply. They know lists of cells, moves
-//! and sums only.
+//! legal move, walk and its cost, least walk, unfolding of points, right reply. They know lists of cells,
+//! moves and sums only.
 #![tactic(auto)]
 
 mod around;

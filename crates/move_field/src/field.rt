@@ -51,8 +51,8 @@ fn put_rows<T: Terrain>(
     Ok(())
 }
 
-/// Appends the field of first moves to a free cell: a line for each row, from the upper one, with a letter for
-/// each cell.
+/// Appends the field of first moves to a free cell: a line for each row, from the upper one, with a letter
+/// for each cell.
 ///
 /// `waves` is memory for passes over maps of these sides, of which one is made. Besides it takes 12 bytes for
 /// each cell, and room for the text. For want of memory nothing is appended.

@@ -1,4 +1,5 @@
-//! Small maps by hand. The tests of `components` stand here too, as a crate is proved once more with its tests.
+//! Small maps by hand. The tests of `components` stand here too, as a crate is proved once more with its
+//! tests.
 
 ghost use Rattle.std.specs.Prelude.{◌≡◌, length};
 ghost use Rattle.grid_moves.specs.Grid.{AreCells};
@@ -28,9 +29,9 @@ fn stay_fresh(alloc: Global, cells: &[u8], corner: Corner) -> Result<bool, NoMem
     Ok(p.is_fresh())
 }
 
-// The answers are for the rules in their order. Under the first two a corner joins two cells beside it only where it is
-// free, and a cell on a corner is joined with the middle over one beside it; under the third both ends of a diagonal
-// are joined as they stand.
+// The answers are for the rules in their order. Under the first two a corner joins two cells beside it only
+// where it is free, and a cell on a corner is joined with the middle over one beside it; under the third both
+// ends of a diagonal are joined as they stand.
 #[test]
 fn labels_stay_fresh_where_nothing_parts(rt: HostRuntime) -> Result<(), Fail> {
     for (cells, fresh) in [
@@ -77,8 +78,8 @@ fn found(
     Ok(Some(nearest(&p, start, goal)))
 }
 
-// Beside a wall, on it, reached, and behind it: a straight move off goes before a diagonal one, the lesser number only
-// where both are as far.
+// Beside a wall, on it, reached, and behind it: a straight move off goes before a diagonal one, the lesser
+// number only where both are as far.
 #[test]
 fn estimates_go_before_numbers(rt: HostRuntime) -> Result<(), Fail> {
     for (start, goal, wanted) in [

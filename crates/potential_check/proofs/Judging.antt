@@ -114,7 +114,8 @@ module _ (g : GridData) (s t : Cell) (cells : List Cell) where
   only_none (Err (Walk i)) r = absurd r
   only_none (Err (Move u v)) r = absurd r
 
-claim_right : (g : GridData) (s t : Cell) (claim : Claim) → IsClaimAnswer g s t claim (claim_answer g s t claim)
+claim_right : (g : GridData) (s t : Cell) (claim : Claim)
+    → IsClaimAnswer g s t claim (claim_answer g s t claim)
 claim_right g s t (Least cost points values) = least_right g s t cost points values
 claim_right g s t (NoWalk cells) = none_right g s t cells
 

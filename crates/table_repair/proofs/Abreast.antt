@@ -177,7 +177,8 @@ module _ {h : GridData} {d : Dir} (v : Cell) {old new : TablesData} (walks : Lis
           (is_at_one (option_to_list on) w) (later w) (at_both walks (option_to_list on) w) k
 
   pub step_on : {more : List WalkBack} {m : ℕ} → more ≡ walks ++ option_to_list on
-      → length (option_to_list on) ≡ m → KeepAbreast h d (either (is_at_one walks) (λ w. is_same w v)) old new more no_cell m
+      → length (option_to_list on) ≡ m
+      → KeepAbreast h d (either (is_at_one walks) (λ w. is_same w v)) old new more no_cell m
   step_on e f = rw (e, ← f) stepped
 
   -- where it stands then

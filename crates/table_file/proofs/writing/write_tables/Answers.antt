@@ -10,7 +10,8 @@ use Rattle.table_file.specs.Faults.{table_fault_of}
 use Rattle.table_file.proofs.Laws.{encoding_right, file_is, length-encoding}
 use Rattle.table_file.proofs.writing.write_tables.Goals as goal
 
-on_ok : {T E P Q R : Type 0} (answer written : Result T E) → answer ≡ written → OnOk written P → OnOk written Q
+on_ok : {T E P Q R : Type 0} (answer written : Result T E) → answer ≡ written
+    → OnOk written P → OnOk written Q
     → (P → Q → R) → OnOk answer R
 on_ok answer written same h i all = grind (arith, nat_tests)
 
