@@ -53,9 +53,17 @@ async function compiled(bytes) {
 let ready; // the module, once it is asked for
 let instance; // what answers: a new one where a call broke off
 
+// Keeps what is on its way, unless it fails: then the next call tries again.
+function keep(coming) {
+  coming.catch(() => {
+    if (ready === coming) ready = undefined;
+  });
+  return (ready = coming);
+}
+
 /** Takes the bytes of jps.wasm, where these are at hand. Else they are read from beside this file. */
-export const load = (bytes) => (ready = compiled(bytes));
-const found = () => (ready ??= fetched(new URL("jps.wasm", import.meta.url)).then(compiled));
+export const load = (bytes) => keep(compiled(bytes));
+const found = () => ready ?? keep(fetched(new URL("jps.wasm", import.meta.url)).then(compiled));
 
 // The names of the files that a call may read: of `tables=NAME`, and the first words behind the command; three at most.
 function namesOf(words, has) {
@@ -118,22 +126,34 @@ function write(fs, stream, bytes) {
   return true;
 }
 
-// The bytes of a regular file or, under the name 0, of the input; or nothing.
+// The bytes of a regular file or, under the name 0, of the input; or nothing. (What Node does not read at once, as it
+// has 2 GiB or more, is want of memory: the module would need several times that.)
 function read(fs, name) {
   try {
     return name === 0 || fs.statSync(name).isFile() ? fs.readFileSync(name) : undefined;
-  } catch {
+  } catch (fault) {
+    if (fault.code === "ERR_FS_FILE_TOO_LARGE") throw OUT_OF_MEMORY;
     return undefined;
+  }
+}
+
+// The answer to a command line.
+async function answered(fs, words) {
+  const files = Object.create(null);
+  try {
+    namesOf(words, (name) => (files[name] = read(fs, name)));
+    const input = ["live", "serve"].includes(words[0]) ? read(fs, 0) : "";
+    const told = await answer(words, files, input);
+    return told.status === 0 && input === undefined ? { ...told, status: 4, err: bytesOf("jps: read\n") } : told;
+  } catch (fault) {
+    if (fault === OUT_OF_MEMORY) return fault;
+    throw fault;
   }
 }
 
 // The command line.
 async function main(fs, words) {
-  const files = Object.create(null);
-  namesOf(words, (name) => (files[name] = read(fs, name)));
-  const input = ["live", "serve"].includes(words[0]) ? read(fs, 0) : "";
-  let { status, out, err } = await answer(words, files, input);
-  if (status === 0 && input === undefined) [status, err] = [4, bytesOf("jps: read\n")];
+  let { status, out, err } = await answered(fs, words);
   if (!write(fs, 1, out)) [status, err] = [5, bytesOf("jps: write\n")];
   write(fs, 2, err);
   process.exitCode = status;

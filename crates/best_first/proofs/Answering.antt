@@ -97,7 +97,8 @@ module _ (width height : ℕ) (goal : Cell) (link : Links) (links : AreLinks wid
       by_earlier (y ∷ more) is h = only (is_same x.state.cell goal) (rw is.1 at h)
 
   -- the answer of a run that ended
-  by_end : (run : List (Taken State)) → IsEndedRun (search_rule width goal link) (start_at start) run → (b : Bool)
+  by_end : (run : List (Taken State))
+      → IsEndedRun (search_rule width goal link) (start_at start) run → (b : Bool)
       → has_goal (search_rule width goal link) run ≡ b
       → IsAnswer width goal link shown start (answered width height goal link shown start run b)
   by_end [] e b h = absurd e.is_run

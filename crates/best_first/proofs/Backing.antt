@@ -119,8 +119,10 @@ module _ {layout : Layout} {width height : ℕ} {start goal : Cell} {link : Link
       let in_full = among from.by (there x (y ∷ earlier) from.member) in
       let rest = back_of (y ∷ earlier) is.0 (λ v j. among v (there x (y ∷ earlier) j)) from.by from.member
       n.parent p order.keeps.parent_is at_p in
-      let moved = fit.posed.links.moves from.by.parent from.by.state x.state from.offered.step from.offered.linked in
-      let priced = fit.posed.links.priced from.by.parent from.by.state x.state from.offered.step from.offered.linked in
+      let moved = fit.posed.links.moves from.by.parent from.by.state x.state from.offered.step
+      from.offered.linked in
+      let priced = fit.posed.links.priced from.by.parent from.by.state x.state from.offered.step
+      from.offered.linked in
       let cost : add_costs from.by.cost (estimate (node_cell p) (node_cell n)) ≡ x.cost =
       grind (arith, nat_tests, cell_is) in
       let less : rank_left goal p < rank_left goal n

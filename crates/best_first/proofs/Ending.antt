@@ -65,7 +65,8 @@ module _ (width height : ℕ) (goal : Cell) (link : Links) (links : AreLinks wid
     run_ends = made_ends (search_rule width goal link) is_same_state-state is_same_state-itself
         (start_at start) (states_on_map width height) covered
 
-    pub ended_is_run : (run : List (Taken State)) → IsEndedRun (search_rule width goal link) (start_at start) run
+    pub ended_is_run : (run : List (Taken State))
+        → IsEndedRun (search_rule width goal link) (start_at start) run
         → run ≡ run_of (search_rule width goal link) (states_on_map width height) (start_at start)
     ended_is_run = ended_is_made (search_rule width goal link) is_same_state-state is_same_state-itself
         (start_at start) (states_on_map width height) covered (numbers_tell width height goal link links)

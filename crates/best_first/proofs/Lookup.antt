@@ -1,8 +1,7 @@
 -- Where a state's node is found.
 use Rattle.std.proofs.lemmas.Bool.Decides.{nat_tests}
 use Rattle.std.proofs.lemmas.Grind.{common_steps}
-use Rattle.std.proofs.Common.{arith}
-use Rattle.std.proofs.Common.{◌≡◌, ℕ, suc, refl, subst, Bool, List, [], ◌∷◌}
+use Rattle.std.proofs.Common.{arith, ◌≡◌, ℕ, suc, refl, subst, Bool, List, [], ◌∷◌}
 use Rattle.std.specs.Prelude.{Option, Some, None, option_map, if◌then◌else◌, slice_get}
 use Rattle.std.proofs.lemmas.Option.{same_Some}
 use Rattle.best_first.specs.declared.node.Node.{Node}

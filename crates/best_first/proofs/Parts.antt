@@ -1,6 +1,5 @@
 -- The parts of a space stay in order.
-use Rattle.std.proofs.Common.{◌≡◌, ℕ, suc, ◌≤◌, length, List, [], ◌∷◌, ◌++◌, ap, sym, ◌∙◌, subst, true}
-use Rattle.std.proofs.Common.{arith}
+use Rattle.std.proofs.Common.{◌≡◌, ℕ, suc, ◌≤◌, length, List, [], ◌∷◌, ◌++◌, ap, sym, ◌∙◌, subst, true, arith}
 use Rattle.std.specs.Prelude.{Some, None, slice_get, slice_set}
 use Rattle.grid_moves.specs.declared.Cell.{Cell}
 use Rattle.grid_moves.specs.Grid.{cell_number}
@@ -60,7 +59,8 @@ module _ {layout : Layout} {width : ℕ} {nodes : List Node} {heads : List ℕ} 
       (suc (length nodes)) = rw (← entry_is) (rw (state, in_cell layout s) put) in
       record {
         exact = rw after_is (exact_added a.exact n at_state
-            (rw state (seen_cell layout width (length heads) s p)) (rw state new) (l ∙ ap (λ (k : ℕ). records_for layout k) entry_is));
+            (rw state (seen_cell layout width (length heads) s p)) (rw state new)
+            (l ∙ ap (λ (k : ℕ). records_for layout k) entry_is));
         few_cells = (let e = put.as_many in let f = a.few_cells in omega arith);
       }
 

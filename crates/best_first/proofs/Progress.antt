@@ -89,7 +89,8 @@ module _ {layout : Layout} {width height : ℕ} {start goal : Cell} {link : Link
         numbered =
             ap (λ (ns : List ℕ). ns ++ number ∷ []) h.numbered
             ∙ ap (λ (n : ℕ). numbers_of width link (h.last ∷ h.earlier) ++ n ∷ [])
-            (shown on.0.parent led ∙ ap (λ (s : State). state_number width (link.arrived on.0.parent s)) state)
+            (shown on.0.parent led
+            ∙ ap (λ (s : State). state_number width (link.arrived on.0.parent s)) state)
             ∙ sym (numbers-next width link on.0 (h.last ∷ h.earlier));
       }
 

@@ -1,6 +1,5 @@
 -- What an offer leaves as it was.
-use Rattle.std.proofs.Common.{◌≡◌, ℕ, ◌-◌, ◌<◌, ◌≤◌, length, List}
-use Rattle.std.proofs.Common.{Bool, true, false, arith}
+use Rattle.std.proofs.Common.{◌≡◌, ℕ, ◌-◌, ◌<◌, ◌≤◌, length, List, Bool, true, false, arith}
 use Rattle.std.specs.Prelude.{Option, Some, None, slice_get, slice_index_or}
 use Rattle.std.proofs.lemmas.Bool.Decides.{nat_tests}
 use Rattle.std.proofs.lemmas.Grind.{common_steps}
@@ -10,8 +9,7 @@ use Rattle.best_first.specs.declared.node.Node.{Node}
 use Rattle.best_first.specs.declared.node.Offer.{Offer}
 use Rattle.best_first.specs.declared.state.Layout.{Layout}
 use Rattle.best_first.specs.Index.{entry_for}
-use Rattle.best_first.specs.Table.{Table, node_for, is_bettered, offered}
-use Rattle.best_first.specs.Table.{ClosedBelow}
+use Rattle.best_first.specs.Table.{Table, node_for, is_bettered, offered, ClosedBelow}
 use Rattle.std.proofs.lemmas.List.{length-set}
 use Rattle.open_list.proofs.Changes.{get-append_left}
 use Rattle.best_first.proofs.Lists.{got-added, get-set_other, got-set}
@@ -46,7 +44,8 @@ module _ (layout : Layout) (goal : Cell) (o : Offer) (k : Table) where
 -- a node of a greater key is open
 pub open_of : (key : ℕ) (k : Table) → ClosedBelow key k → (id : ℕ) (n : Node) → slice_get k.nodes id ≡ Some n
     → key < n.key → slice_get k.open_at id ≡ Some true
-open_of key k c id n h l = by_flag (slice_index_or k.open_at id false) (slice_get-get_or k.open_at id false within)
+open_of key k c id n h l = by_flag (slice_index_or k.open_at id false)
+    (slice_get-get_or k.open_at id false within)
   where
     within : id < length k.open_at
     within = let b = slice_get_within k.nodes id n h in let e = c.flags in omega arith

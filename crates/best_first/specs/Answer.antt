@@ -29,7 +29,8 @@ module _ (width : ℕ) (goal : Cell) (link : Links) (shown : List Cell → List 
   IsAnswer f =
       MatchOption f.walk (IsExhausted width goal link start f.taken) (λ w. IsFound w.points w.cost f.taken)
 
--- of each two cells this tells an answer: that of the run, which is right where the start is free, and the only one
+-- of each two cells this tells an answer: that of the run,
+-- which is right where the start is free, and the only one
 pub record AnswersAre (IsOf : GridData → Cell → Cell → Found → Type 0)
     (found : GridData → Cell → Cell → Found) : Type 0 where
   pub run : (g : GridData) (s t : Cell) → IsOf g s t (found g s t)

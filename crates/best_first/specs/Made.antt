@@ -1,4 +1,5 @@
--- The answer of a search as a function: of the map's sides, the goal, the links, how a way is shown, and the start.
+-- The answer of a search as a function: of the map's sides, the goal, the links,
+-- how a way is shown, and the start.
 use Rattle.std.specs.Prelude.{ℕ, zero, suc, Bool, true, false, List, [], ◌∷◌, ◌++◌, map, Option, Some, None}
 use Rattle.grid_moves.specs.declared.Cell.{Cell}
 use Rattle.grid_moves.specs.declared.Dir.{Dir}

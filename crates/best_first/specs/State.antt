@@ -33,8 +33,8 @@ abbrev pub state_in : Layout → State → State
 state_in ByCell s = start_at s.cell
 state_in ByArrival s = s
 
--- the direction in which the second cell lies from the first; where it lies neither straight nor diagonally from
--- it, the diagonal between, in which no run leads there
+-- the direction in which the second cell lies from the first; where it lies neither straight nor diagonally
+-- from it, the diagonal between, in which no run leads there
 abbrev pub heading : Cell → Cell → Option Dir
 heading u v =
     if nat_lt u.x v.x

@@ -4,11 +4,14 @@
 //! entry of its node. Where it has one for each arrival, each node has a record beside it: its own state, and
 //! the entry of the node of its cell that came before it, or 0. The head is the entry of its latest node.
 //! In a new search these heads may be any numbers, as a head counts only where it leads to a record of its
-//! cell, so none is set back. Briggs and Torczon, "An efficient representation for sparse sets", ACM Letters on
-//! Programming Languages and Systems 2, 1993; there the heads of a new set are memory that was not written.
+//! cell, so none is set back. Briggs and Torczon, "An efficient representation for sparse sets", ACM Letters
+//! on Programming Languages and Systems 2, 1993;
+//! there the heads of a new set are memory that was not written.
 
-ghost use Rattle.std.specs.Prelude.{◌≡◌, suc, [], ◌<◌, ◌≤◌, ◌+◌, ◌-◌, ◌*◌, ◌/◌, length, IfOk, vec_len, vec_capacity};
-ghost use Rattle.best_first.specs.Index.{entry_in, entry_of, tag_of, latest_of, records_for, AreLinked, IsHead, AreRecords, AreHeads, AreBlank, IsPut};
+ghost use Rattle.std.specs.Prelude.{◌≡◌, suc, [], ◌<◌, ◌≤◌, ◌+◌, ◌-◌, ◌*◌, ◌/◌, length, IfOk, vec_len};
+ghost use Rattle.std.specs.Prelude.{vec_capacity};
+ghost use Rattle.best_first.specs.Index.{entry_in, entry_of, tag_of, latest_of, records_for, AreLinked};
+ghost use Rattle.best_first.specs.Index.{IsHead, AreRecords, AreHeads, AreBlank, IsPut};
 ghost use Rattle.best_first.specs.Space.{HasRoomFor};
 ghost use Rattle.best_first.specs.State.{state_in, arrival_number};
 
@@ -152,7 +155,8 @@ impl Index {
         requires heads { AreHeads self.old.layout self.old.heads.items self.old.records.items }
         requires within { cell < length self.old.heads.items }
         requires few { length self.old.heads.items ≤ 16777216 }
-        requires room { HasRoomFor self.old.layout 1 (vec_len self.old.records) (vec_capacity self.old.records) }
+        requires room { HasRoomFor self.old.layout 1 (vec_len self.old.records)
+            (vec_capacity self.old.records) }
         requires some { 1 ≤ entry }
         requires next { length self.old.records.items ≡ records_for self.old.layout (entry - 1) }
         ensures put { IsPut self.old.layout self.old.heads.items self.new.heads.items self.old.records.items

@@ -75,8 +75,8 @@ impl Ranked for Node {
 }
 
 // The rank of what so many columns and rows cost where nothing is in the way. Each move along the longer side
-// counts as a straight one, and each along the shorter side makes one of them diagonal: so there is no branch, and
-// fewer choices than where straight and diagonal moves are told apart first.
+// counts as a straight one, and each along the shorter side makes one of them diagonal: so there is no
+// branch, and fewer choices than where straight and diagonal moves are told apart first.
 #[inline(always)]
 fn octile_rank(dx: u32, dy: u32) -> u64
     requires wide { dx < 65536 }

@@ -1,11 +1,13 @@
 //! The memory of a search: its nodes, and an index from states to nodes.
 
-ghost use Rattle.std.specs.Prelude.{◌≡◌, ℕ, ◌+◌, ◌-◌, ◌*◌, ◌<◌, ◌≤◌, ◌^◌, [], ◌∷◌, length, true, false, Some, None, OnOk, IsOk, IfOk, IfNone, IfSome, vec_len, vec_capacity, slice_get};
+ghost use Rattle.std.specs.Prelude.{◌≡◌, ℕ, ◌+◌, ◌-◌, ◌*◌, ◌<◌, ◌≤◌, ◌^◌, [], ◌∷◌, length, true, false, Some};
+ghost use Rattle.std.specs.Prelude.{None, OnOk, IsOk, IfOk, IfNone, IfSome, vec_len, vec_capacity, slice_get};
 ghost use Rattle.best_first.specs.Index.{entry_for, cell_of_node, AreBlank, AreReset, AreLed, IsExact};
 ghost use Rattle.best_first.specs.Node.{state_of};
 ghost use Rattle.best_first.specs.Space.{SpaceData, IsPlaced, KeepsShape, HasRoomFor, HasRoom, layout_by};
 ghost use Rattle.best_first.specs.State.{state_in, state_of_place, place_of};
-ghost use Rattle.best_first.specs.Table.{lookup, node_for, added, replaced, is_bettered, offered, begun, closed_at, IsFirstNode, NoneOpen, ClosedBelow};
+ghost use Rattle.best_first.specs.Table.{lookup, node_for, added, replaced, is_bettered, offered, begun};
+ghost use Rattle.best_first.specs.Table.{closed_at, IsFirstNode, NoneOpen, ClosedBelow};
 ghost use Rattle.grid_moves.specs.Grid.{cell_number};
 
 use crate::index::Index;
@@ -183,8 +185,8 @@ impl Space {
     }
 
     /// Begins a search on a map of this width, which has at most as many cells as this space: forgets
-    /// the nodes of the last one, and takes the start, whose node has the number 0. Where memory is refused the
-    /// space keeps its layout and its places, which is all that a next search asks of it.
+    /// the nodes of the last one, and takes the start, whose node has the number 0. Where memory is refused
+    /// the space keeps its layout and its places, which is all that a next search asks of it.
     pub fn begin<L: Ledger>(
         &mut self,
         width: u16,

@@ -9,8 +9,7 @@ use Rattle.grid_moves.specs.declared.Cell.{Cell}
 use Rattle.grid_moves.specs.Grid.{GridData, IsGrid, is_free, is_inside, grid_with}
 use Rattle.grid_moves.proofs.Edited.{is_free-with_same, is_free-with_other}
 use Rattle.grid_moves.specs.Bits.{is_set}
-use Rattle.bit_grid.specs.Bits.{LineData, BitData, Shows, AreBitsOf, IsOnMap, with_cell}
-use Rattle.bit_grid.specs.Bits.{is_free_from_one}
+use Rattle.bit_grid.specs.Bits.{LineData, BitData, Shows, AreBitsOf, IsOnMap, with_cell, is_free_from_one}
 
 -- the eight words of a block, and of the same block in the line before and in the one after
 pub block_inside : (lines blocks line index start : ℕ) (words : List ℕ) → length words ≡ lines * (blocks * 8)

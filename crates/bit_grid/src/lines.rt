@@ -1,6 +1,7 @@
 //! Lines of bits.
 
-ghost use Rattle.std.specs.Prelude.{◌≡◌, ℕ, ◌+◌, ◌-◌, ◌*◌, ◌<◌, ◌≤◌, Bool, false, IfOk, length, slice_index_or, nat_eq, if◌then◌else◌};
+ghost use Rattle.std.specs.Prelude.{◌≡◌, ℕ, ◌+◌, ◌-◌, ◌*◌, ◌<◌, ◌≤◌, Bool, false, IfOk, length};
+ghost use Rattle.std.specs.Prelude.{slice_index_or, nat_eq, if◌then◌else◌};
 ghost use Rattle.bit_grid.specs.Pack.{is_free_in};
 ghost use Rattle.grid_moves.specs.Bits.{is_set};
 ghost use Rattle.bit_grid.specs.Bits.{Shows, with_cell};
@@ -180,8 +181,8 @@ impl Lines {
         )
     }
 
-    /// A block of a line and the same of the two lines beside it, as `lane` hands them out, by one product. It
-    /// counts three steps.
+    /// A block of a line and the same of the two lines beside it, as `lane` hands them out, by one product.
+    /// It counts three steps.
     #[inline(always)]
     pub fn three_lanes<L: Ledger>(
         &self,

@@ -1,6 +1,7 @@
 //! Cells packed to words of bits, 64 bytes to a word.
 
-ghost use Rattle.std.specs.Prelude.{◌≡◌, ℕ, suc, ◌+◌, ◌*◌, ◌<◌, ◌≤◌, Bool, IfOk, OnOk, length, slice_index_or, nat_eq};
+ghost use Rattle.std.specs.Prelude.{◌≡◌, ℕ, suc, ◌+◌, ◌*◌, ◌<◌, ◌≤◌, Bool, IfOk, OnOk, length};
+ghost use Rattle.std.specs.Prelude.{slice_index_or, nat_eq};
 ghost use Rattle.std.specs.Int.Bits.{bit_and};
 ghost use Rattle.grid_moves.specs.Bits.{is_set};
 ghost use Rattle.bit_grid.specs.Pack.{AreFlags, IsBordered, ArePacked};

@@ -4,7 +4,8 @@ ghost use Rattle.std.specs.Prelude.{true, ◌≡◌, ◌≤◌, ℕ, List, [], �
 ghost use Rattle.io_edge.specs.Causes.{NoneFell};
 ghost use Rattle.io_edge.specs.Whole.{IsWhole, IsLonger};
 ghost use Rattle.call_files.specs.FaultLines.{long_line as line_of_long};
-ghost use Rattle.call_files.specs.Reading.{AreBothRead, IsFirst, IsMade, IsRead, Reads, ReadsText, open_stops, read_stops};
+ghost use Rattle.call_files.specs.Reading.{AreBothRead, IsFirst, IsMade, IsRead, Reads, ReadsText};
+ghost use Rattle.call_files.specs.Reading.{open_stops, read_stops};
 ghost use Rattle.call_files.specs.Kinds.{kind_for, kind_word, limit_of};
 ghost use Rattle.call_files.specs.Files.{file_of};
 ghost use Rattle.map_text.specs.Faults.{plain};
@@ -49,7 +50,8 @@ pub trait Text: Drop + Sized {
     /// The value that the text spells.
     fn of_text(alloc: Global, text: Vec<u8>, context: &Self::Context) -> Result<Self, Stop>
         requires { length text.items ≤ limit_of (kind_of_text context.now) }
-        ensures { ReadsText (is_behind context.now) (spells context.now) (kind_of_text context.now) text.items result };
+        ensures { ReadsText (is_behind context.now) (spells context.now) (kind_of_text context.now)
+            text.items result };
 }
 
 impl Text for MapText {
@@ -284,7 +286,8 @@ pub fn read_map_file<F: Files, M: OfMap>(
     name: &str,
     settings: Settings,
 ) -> Result<M, Stop>
-    ensures read { Reads IsFirst (IsMade (M.is_of_map settings)) (kind_for (M.extent_of settings)) ((F.disk files.old).holds name.now)
+    ensures read { Reads IsFirst (IsMade (M.is_of_map settings)) (kind_for (M.extent_of settings))
+        ((F.disk files.old).holds name.now)
         ((F.disk files.old).faults name.now) ((F.disk files.new).faults name.now) result }
     ensures unchanged { (F.disk files.new).holds ≡ (F.disk files.old).holds }
     ensures later { NoneFell (F.disk files.old).faults (F.disk files.new).faults }
@@ -304,7 +307,8 @@ pub fn open_one<F: Files, M: OfMap>(
 ) -> Result<M, Stop>
     ensures read { EndsOrStops (IsRead (IsMade (M.is_of_map settings)) [] (kind_for (M.extent_of settings))
         ((F.disk files.old).holds map.now))
-        (open_stops (F.disk files.old) (F.disk files.new) (file_of (kind_for (M.extent_of settings)) map.now ∷ []))
+        (open_stops (F.disk files.old) (F.disk files.new)
+        (file_of (kind_for (M.extent_of settings)) map.now ∷ []))
         result }
     ensures unchanged { (F.disk files.new).holds ≡ (F.disk files.old).holds }
     ensures later { NoneFell (F.disk files.old).faults (F.disk files.new).faults }
@@ -328,7 +332,8 @@ pub fn open_two<F: Files, M: OfMap, T: Text>(
         (F.disk files.old).holds
         (file_of (kind_for (M.extent_of settings)) map.now) (file_of (T.kind_of_text context.now) second.now))
         (open_stops (F.disk files.old) (F.disk files.new)
-        (file_of (kind_for (M.extent_of settings)) map.now ∷ file_of (T.kind_of_text context.now) second.now ∷ [])) result }
+        (file_of (kind_for (M.extent_of settings)) map.now
+        ∷ file_of (T.kind_of_text context.now) second.now ∷ [])) result }
     ensures unchanged { (F.disk files.new).holds ≡ (F.disk files.old).holds }
 {
     let made: M = read_map_file(alloc, files, map, settings)?;

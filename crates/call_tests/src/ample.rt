@@ -102,8 +102,8 @@ fn check_endless(
     Ok(())
 }
 
-// Each file of each command without an end, by each engine and under each rule. `endless` are all commands with
-// a map, that of `x`.
+// Each file of each command without an end, by each engine and under each rule. `endless` are all commands
+// with a map, that of `x`.
 pub(crate) const LONG: &str = "
 map long | endless => 3 jps: map long
 script long | solve m x engine=each rule=any => 3 jps: script long
@@ -210,7 +210,7 @@ fn help_comes_whole_and_a_failing_line_changes_no_status(rt: HostRuntime) -> Res
     let usage = b"usage: jps COMMAND ...\n  jps query MAP SX SY GX GY ";
     let last = b"\n  jps: read, jps: write, jps: memory\n";
     check_endless(alloc, &rt, "--help", 1, 0, (usage, last), b"")?;
-    check_endless(alloc, &rt, "--version", 1, 0, (b"jps 1.2.0", b"\n"), b"")?;
+    check_endless(alloc, &rt, "--version", 1, 0, (b"jps 1.3.0", b"\n"), b"")?;
     check_endless(alloc, &rt, "--hepl", 1, 2, (b"", b""), b"")?;
-    check_writes(alloc, &rt, on_map("--version", b""), b"jps 1.2.0\n")
+    check_writes(alloc, &rt, on_map("--version", b""), b"jps 1.3.0\n")
 }

@@ -500,7 +500,8 @@ fn check_refused(
     Ok(())
 }
 
-// A word that is no text stands where the row's next word would, or first of all; then the stream fails at once.
+// A word that is no text stands where the row's next word would, or first of all;
+// then the stream fails at once.
 #[test]
 fn words_that_are_no_text_are_named(rt: HostRuntime) -> Result<(), Fail> {
     check_refused(rt.alloc(), &rt, "query m 0", 0, b"jps: word 4\n")?;

@@ -38,7 +38,7 @@ tables, streams | tables m rule=any | ... | | % => 0 %
 water tables | tables m rule=any | .WW | | %water => 0 %
 make, streams | make 7 3 2 0 => 0 type octile/height 2/width 3/map/.../...
 make | make 0 2 1 100 => 0 type octile/height 1/width 2/map/@@
-version, streams | --version => 0 jps 1.2.0
+version, streams | --version => 0 jps 1.3.0
 ";
 
 #[test]

@@ -186,8 +186,8 @@ fn each_kind_of_outcome_has_a_row_or_a_reason(rt: HostRuntime) -> Result<(), Fai
     Ok(())
 }
 
-// The kinds whose name stands in a row's lines, before their sum. `lengths` prints nothing of what it leaves out,
-// and a certificate that claims that there is no walk may be refused.
+// The kinds whose name stands in a row's lines, before their sum. `lengths` prints nothing of what it leaves
+// out, and a certificate that claims that there is no walk may be refused.
 const PRINTED: &str =
     "walk, none, outside, blocked, ok, same, agree, near, off, scale, accepted, refused, least, \
     size, ends, start, goal, move, open, large, M1, M2, M3, M4, M5, M6, C1, C2, C3, C4, T1, T2, K1, K2, P1, P2, F1, \
@@ -245,8 +245,8 @@ fn each_command_has_one_line(rt: HostRuntime) {
     }
 }
 
-// A new engine, another number of states of a cell and a new rule have no place until they are named here, and
-// are then missed until their words stand in `PICKS` and `RULES`.
+// A new engine, another number of states of a cell and a new rule have no place until they are named here,
+// and are then missed until their words stand in `PICKS` and `RULES`.
 fn place_of_pick(pick: Pick, states: States) -> usize
     ensures { result < 9 }
 {

@@ -1,8 +1,8 @@
 //! Whole calls on maps as wide, as high and as large as real ones, and output of several pieces.
 //!
-//! Want of memory may be answered at any time, so no clause tells a body that gives up by size from a right one:
-//! these calls do. Nothing is stored of their maps, a rule tells each byte. Along a map stands a wall in each 64th
-//! column, open in row 0 and in row 16 in turn, and the last corner is closed in:
+//! Want of memory may be answered at any time, so no clause tells a body that gives up by size from a right
+//! one: these calls do. Nothing is stored of their maps, a rule tells each byte. Along a map stands a wall in
+//! each 64th column, open in row 0 and in row 16 in turn, and the last corner is closed in:
 //!
 //! ```text
 //! .. 31 32 33 .. 95 96 97 ..
@@ -11,8 +11,9 @@
 //!     .  #  .     .  .  .       row 16
 //! ```
 //!
-//! All walks go through all openings. From one to the next are 64 columns and 16 rows, so 48 straight moves and 16
-//! diagonal ones under each rule: each wall is left straight ahead. The high map is the wide one, turned over.
+//! All walks go through all openings. From one to the next are 64 columns and 16 rows, so 48 straight moves
+//! and 16 diagonal ones under each rule: each wall is left straight ahead.
+//! The high map is the wide one, turned over.
 
 ghost use Rattle.std.specs.Prelude.{None};
 ghost use Rattle.io_edge.specs.Known.{unknown};
@@ -27,7 +28,8 @@ use std::sync::ledger::Blank;
 use std::test::Fail;
 
 // A map: its text before the cells, its sides, and whether its walls lie along rows. Three cells are given
-// as text, column and row: the first opening, a goal, and the cell that is closed in. The cost is that of (0,0) to the goal.
+// as text, column and row: the first opening, a goal, and the cell that is closed in. The cost is that of
+// (0,0) to the goal.
 #[derive(Clone, Copy)]
 struct Plan {
     head: &'static [u8],
@@ -40,8 +42,8 @@ struct Plan {
     cost: &'static str,
 }
 
-// 64 walls: 32 straight moves to the first opening, 63 times from one to the next, and to the goal 23 straight
-// moves and 8 diagonal ones.
+// 64 walls: 32 straight moves to the first opening, 63 times from one to the next, and to the goal 23
+// straight moves and 8 diagonal ones.
 const WIDE: Plan = Plan {
     head: b"type octile\nheight 17\nwidth 4096\nmap\n",
     width: 4096,
@@ -222,8 +224,8 @@ fn output_of(alloc: Global, rt: &impl Abort, made: Made<'_>, words: &str) -> Res
     Ok(out)
 }
 
-// By each engine and under each rule of their sets the output of these words begins and ends so, and has at least
-// so many bytes.
+// By each engine and under each rule of their sets the output of these words begins and ends so, and has at
+// least so many bytes.
 fn check_ends(
     alloc: Global,
     rt: &impl Abort,

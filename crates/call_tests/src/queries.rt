@@ -100,9 +100,9 @@ fn queries_are_answered_by_each_engine_under_each_rule(rt: HostRuntime) -> Resul
     check_table(rt.alloc(), &rt, QUERIES)
 }
 
-// A script goes to `solve` as a file and to `live` and `serve` as what comes in, with the same lines; with its trace to
-// the first two alone. On the water of
-// `W.W/WWW` the land cell is flooded, the cell under it blocked, and a corner made land:
+// A script goes to `solve` as a file and to `live` and `serve` as what comes in, with the same lines; with
+// its trace to the first two alone. On the water of `W.W/WWW` the land cell is flooded, the cell under it
+// blocked, and a corner made land:
 //
 // ```text
 // W . W    W W W    W W W    . W W

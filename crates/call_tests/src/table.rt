@@ -8,11 +8,12 @@
 //! ```
 //!
 //! A row stands for a call by each engine and under each rule of the sets that its words name, and all of
-//! them have the same outcome. An engine that jumps counts twice, with one state for each direction of arrival
-//! at a cell, and with one for each cell (`states=cell`). The first file is `m`: rows of cells, or a whole text
-//! where it begins with `type`. The second is `s`, and what comes in to `live` and `serve`; the third is `t`. A line `~N` is
-//! N blanks. `%` is the table file of three cells under the row's rule, `%water` that of `.WW`; `%P=B`
-//! has the byte B at place P, `%cut` lacks the last byte. A line `jps: ..` goes to standard error, all others are the output.
+//! them have the same outcome. An engine that jumps counts twice, with one state for each direction of
+//! arrival at a cell, and with one for each cell (`states=cell`). The first file is `m`: rows of cells, or a
+//! whole text where it begins with `type`. The second is `s`, and what comes in to `live` and `serve`; the
+//! third is `t`. A line `~N` is N blanks. `%` is the table file of three cells under the row's rule, `%water`
+//! that of `.WW`; `%P=B` has the byte B at place P, `%cut` lacks the last byte. A line `jps: ..` goes to
+//! standard error, all others are the output.
 
 use crate::calls::{Call, ENGINES, RULES, check, check_reads};
 use crate::commands::{SHORE_CELLS, THREE_CELLS};
@@ -169,8 +170,8 @@ pub(crate) fn rules_of(words: &str) -> &'static [&'static str] {
     &[""]
 }
 
-// The commands that answer commands, those that do with their trace, and those with a table file; each takes the
-// engines and the rules of its own set.
+// The commands that answer commands, those that do with their trace, and those with a table file; each takes
+// the engines and the rules of its own set.
 const SCRIPTED: [&str; 3] = ["solve m s", "live m", "serve m"];
 
 const TRACED: [&str; 2] = ["solve m s", "live m"];
@@ -212,7 +213,8 @@ fn each_with(alloc: Global, commands: &[&str], settings: &str) -> Result<Vec<Str
     Ok(calls)
 }
 
-// The words of the calls of the row: those of a group, those of the commands that answer commands, or its own.
+// The words of the calls of the row: those of a group,
+// those of the commands that answer commands, or its own.
 pub(crate) fn calls_of(alloc: Global, row: Row<'_>) -> Result<Vec<String>, AllocError> {
     match row.words {
         "mapped" => return calls_showing(alloc, "map faults"),

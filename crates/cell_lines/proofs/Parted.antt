@@ -1,6 +1,7 @@
 -- The words of a text that one byte parts, and the number that the first of them spells, byte by byte.
-use Rattle.std.proofs.Common.{◌≡◌, ℕ, suc, ◌+◌, ◌*◌, ◌-◌, ◌^◌, ◌<◌, ◌≤◌, ◌==◌, arith, refl, ap, sym, ◌∙◌, Bool}
-use Rattle.std.proofs.Common.{true, false, not, ◌||◌, List, [], ◌∷◌, ◌++◌, length, append_assoc, inl, inr, get_or, take, drop}
+use Rattle.std.proofs.Common.{◌≡◌, ℕ, suc, ◌+◌, ◌*◌, ◌-◌, ◌^◌, ◌<◌, ◌≤◌, ◌==◌, arith, refl, ap, sym, ◌∙◌}
+use Rattle.std.proofs.Common.{Bool, true, false, not, ◌||◌, List, [], ◌∷◌, ◌++◌, length, append_assoc, inl}
+use Rattle.std.proofs.Common.{inr, get_or, take, drop}
 use Rattle.std.specs.Prelude.{Option, Some, None, nat_eq, if◌then◌else◌}
 use Rattle.std.specs.Borrow.{Bor}
 use Rattle.std.specs.Char.{is_ascii_digit}
@@ -71,7 +72,8 @@ module _ (byte most : ℕ) (other : is_ascii_digit byte ≡ false) where
       (nat_eq (length digits) most || not (is_ascii_digit b)) refl
     where
       by_byte : ((more : List ℕ) → list_all is_ascii_digit more ≡ true → length more ≤ most
-          → read_on byte most (length more) (value_of more) text ≡ first_number most (parts byte (more ++ text)))
+          → read_on byte most (length more) (value_of more) text
+          ≡ first_number most (parts byte (more ++ text)))
           → (cut : Bool) → (b == byte) ≡ cut → (stops : Bool)
           → (nat_eq (length digits) most || not (is_ascii_digit b)) ≡ stops
           → read_on byte most (length digits) (value_of digits) (b ∷ text)
@@ -113,7 +115,8 @@ module _ (byte most : ℕ) (other : is_ascii_digit byte ≡ false) (text : List 
   left : (more : List ℕ) → drop count text ≡ more
       → first_number most (parts byte text) ≡ read_on byte most count value more
   left more is =
-      sym (number_read byte most other text) ∙ so_far ∙ ap (λ (l : List ℕ). read_on byte most count value l) is
+      sym (number_read byte most other text) ∙ so_far
+      ∙ ap (λ (l : List ℕ). read_on byte most count value l) is
 
   -- at the end
   pub at_end : length text ≤ count → (count ≡ 0 → ⊥)

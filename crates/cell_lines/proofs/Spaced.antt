@@ -57,7 +57,8 @@ line_parts line all =
 plain_word : (word : List ℕ) → list_all is_filled word ≡ true → list_all is_plain word ≡ true
 plain_word = all_weaker is_filled is_plain (λ b filled. (and_parts (is_plain b) (not (b == 32)) filled).0)
 
-pub line_plain : (line : List ℕ × List (List ℕ)) → is_spaced line ≡ true → list_all is_plain (line_of line) ≡ true
+pub line_plain : (line : List ℕ × List (List ℕ)) → is_spaced line ≡ true
+    → list_all is_plain (line_of line) ≡ true
 line_plain line all =
     let each = and_parts (list_all is_filled line.0) (list_all (list_all is_filled) line.1) all in
     plain_both line.0 (texts_of (λ word. 32 ∷ word) line.1) (plain_word line.0 each.0)

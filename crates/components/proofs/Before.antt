@@ -13,7 +13,8 @@ use Rattle.components.proofs.Telling.{tells_alike}
 
 -- a row
 pub row_told : (g : GridData) (eight : Bool) (class : Cell → ℕ) (y width : ℕ) → width ≡ g.width
-    → TellsLinked eight (is_free_before g y width) class → TellsLinked eight (is_free_before g (y + 1) 0) class
+    → TellsLinked eight (is_free_before g y width) class
+    → TellsLinked eight (is_free_before g (y + 1) 0) class
 row_told g eight class y width e tells =
     tells_alike eight (is_free_before g y width) (is_free_before g (y + 1) 0) class same tells
   where

@@ -1,6 +1,5 @@
 -- Chains of linked cells, and what becomes of them where a cell is freed or blocked.
-use Rattle.std.proofs.Common.{◌≡◌, ◌≢◌, ℕ, ◌⊎◌, inl, inr, refl, ap, sym, ◌∙◌, subst}
-use Rattle.std.proofs.Common.{Bool, true, false}
+use Rattle.std.proofs.Common.{◌≡◌, ◌≢◌, ℕ, ◌⊎◌, inl, inr, refl, ap, sym, ◌∙◌, subst, Bool, true, false}
 use Rattle.grid_moves.specs.declared.Cell.{Cell}
 use Rattle.grid_moves.specs.Move.{is_same}
 use Rattle.grid_moves.proofs.Legal.{is_same-cell, is_same-itself}
@@ -59,7 +58,8 @@ module _ (eight : Bool) (free : Cell → Bool) where
   chain_more wide all t _ (more u v f l rest) = more u v (all u f) l (chain_more wide all t v rest)
 
 -- a cell is freed
-module _ (eight : Bool) (free wide : Cell → Bool) (c : Cell) (shut : free c ≡ false) (now_free : wide c ≡ true)
+module _ (eight : Bool) (free wide : Cell → Bool) (c : Cell) (shut : free c ≡ false)
+    (now_free : wide c ≡ true)
     (others : (u : Cell) → u ≢ c → wide u ≡ free u) (before later : Cell → ℕ)
     (tells : TellsLinked eight free before) (adds : Adds eight c before later) where
   all : (u : Cell) → free u ≡ true → wide u ≡ true
@@ -137,7 +137,8 @@ module _ (eight : Bool) (free wide : Cell → Bool) (c : Cell) (shut : free c �
 -- a cell is blocked, and those around it stay joined
 module _ (eight : Bool) (free less : Cell → Bool) (c : Cell) (shut : less c ≡ false)
     (others : (u : Cell) → u ≢ c → less u ≡ free u) (before later : Cell → ℕ)
-    (tells : TellsLinked eight free before) (none : later c ≡ 0) (kept : (u : Cell) → u ≢ c → later u ≡ before u)
+    (tells : TellsLinked eight free before) (none : later c ≡ 0)
+    (kept : (u : Cell) → u ≢ c → later u ≡ before u)
     (around : (u v : Cell) → free u ≡ true → free v ≡ true → IsLink eight c u → IsLink eight c v
     → Chain eight less v u) where
   without : (t u : Cell) → t ≢ c → u ≢ c → Chain eight free t u → Chain eight less t u

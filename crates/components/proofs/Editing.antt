@@ -6,26 +6,21 @@ use Rattle.std.proofs.lemmas.Bool.Decides.{nat_tests}
 use mathlib.Core.Bool.{beq}
 use Rattle.grid_moves.specs.declared.Cell.{Cell}
 use Rattle.grid_moves.specs.declared.Corner.{Corner}
-use Rattle.grid_moves.specs.declared.Dir.{Dir}
-use Rattle.grid_moves.specs.declared.ring.Ring.{Ring}
 use Rattle.grid_moves.specs.Grid.{GridData, IsGrid, grid_with, is_free, is_inside}
-use Rattle.grid_moves.specs.Move.{beyond, may_slip}
-use Rattle.grid_moves.specs.Ring.{is_free_on}
-use Rattle.grid_moves.proofs.Legal.{free_inside}
+use Rattle.grid_moves.specs.Move.{may_slip}
 use Rattle.grid_moves.proofs.Places.{inside_from}
 use Rattle.joined_cells.specs.Joined.{label_of}
 use Rattle.components.proofs.Cases.{true_or_false}
 use Rattle.components.specs.declared.shape.Shape.{Shape}
-use Rattle.components.specs.Around.{is_whole}
 use Rattle.components.specs.Classes.{root_of}
 use Rattle.components.specs.Kept.{KeptLabels, Tells}
-use Rattle.components.specs.Links.{Adds, TellsLinked}
+use Rattle.components.specs.Walls.{AreJoined, is_labelled}
+use Rattle.components.specs.Links.{Adds, IsLink, TellsLinked}
 use Rattle.components.specs.Stored.{AreKept, AreStored, class_in, classes_in, labels_in}
-use Rattle.components.proofs.Chains.{blocked, freed, link_apart}
-use Rattle.components.proofs.Offsets.{among_linked, any_dir, link_off, no_offset, offset, stands, stands_itself}
-use Rattle.components.proofs.Rounds.{joined_around}
+use Rattle.components.proofs.Chains.{blocked, chain_more, freed, link_apart, one_or_other}
+use Rattle.components.proofs.Walking.{label_some, labelled}
 use Rattle.components.proofs.Roots.{root-some}
-use Rattle.components.proofs.Storing.{label_low, labelled_inside, put, put_elsewhere, put_here, seen_class}
+use Rattle.components.proofs.Storing.{label_low, put, put_elsewhere, put_here, seen_class}
 use Rattle.components.proofs.Telling.{edited_as_is, edited_grid, edited_here, edited_others, tells_alike}
 use Rattle.components.proofs.Telling.{tells_links, tells_walks}
 
@@ -75,7 +70,8 @@ module _ (shape : Shape) (corner : Corner) (used : ℕ) (labels classes : List �
       (class_in shape labels_now classes_now))
       → Tells (grid_with g c free) (seen shape corner labels_now classes_now fresh_now)
   edited free labels_now classes_now fresh_now told = seen_tells (grid_with g c free) shape corner labels_now
-      classes_now fresh_now (edited_grid g tells.grid c inside free) tells.made_for.width tells.made_for.height
+      classes_now fresh_now (edited_grid g tells.grid c inside free) tells.made_for.width
+      tells.made_for.height
       tells.made_for.corner kept.eight told
 
   pub edited_stale : (free : Bool) (labels_now classes_now : List ℕ)
@@ -121,7 +117,8 @@ module _ (shape : Shape) (corner : Corner) (used : ℕ) (labels classes : List �
           ∙ sym (ap (λ (b : Bool). not b) h)
 
   -- a cell is freed
-  pub edited_freed : fresh ≡ true → label_of (labels_in shape labels) c ≡ 0 → (labels_now classes_now : List ℕ)
+  pub edited_freed : fresh ≡ true → label_of (labels_in shape labels) c ≡ 0
+      → (labels_now classes_now : List ℕ)
       → Adds shape.eight c (class_in shape labels classes) (class_in shape labels_now classes_now)
       → Tells (grid_with g c true) (seen shape corner labels_now classes_now fresh)
   edited_freed f none labels_now classes_now adds = edited true labels_now classes_now fresh (λ h.
@@ -136,67 +133,42 @@ module _ (shape : Shape) (corner : Corner) (used : ℕ) (labels classes : List �
       ]
 
   -- a cell is blocked
-  module _ (f : fresh ≡ true) (ring : Ring)
-      (reads : (d : Dir) → is_free_on ring d ≡ not (nat_eq (label_of (labels_in shape labels) (beyond d c)) 0))
-    where
-      not_zero : (n : ℕ) → not (nat_eq n 0) ≡ true → n ≢ 0
-      not_zero n h z = grind (arith, nat_tests)
+  module _ (f : fresh ≡ true) where
+    abbrev left : Cell → Bool
+    left = is_labelled (labels_in shape (put shape labels stored.whole c column row 0))
 
-      is_not_zero : (n : ℕ) → n ≢ 0 → not (nat_eq n 0) ≡ true
-      is_not_zero n h = grind (arith, nat_tests)
+    shut : is_free (grid_with g c false) c ≡ false
+    shut = edited_here g tells.grid c inside false
 
-      on_ring : (d : Dir) → is_free_on ring d ≡ true → label_of (labels_in shape labels) (beyond d c) ≢ 0
-      on_ring d h = not_zero (label_of (labels_in shape labels) (beyond d c)) (sym (reads d) ∙ h)
+    left_free : (u : Cell) → left u ≡ true → is_free (grid_with g c false) u ≡ true
+    left_free u h =
+        let n = label_some (labels_in shape (put shape labels stored.whole c column row 0)) u h in
+        elim (one_or_other u c) [
+          | inl e ↦ absurd (n (ap (λ (v : Cell).
+              label_of (labels_in shape (put shape labels stored.whole c column row 0)) v) e
+              ∙ put_here shape labels stored.whole c column row 0))
+          | inr o ↦ edited_others g tells.grid c inside false u o
+              ∙ labelled_free f u (λ z. n (put_elsewhere shape labels stored.whole c column row 0 u o ∙ z))
+        ]
 
-      apart : (d : Dir) → label_of (labels_in shape labels) (beyond d c) ≢ 0 → beyond d c ≢ c
-      apart d n e =
-          let on = labelled_inside (labels_in shape labels) (beyond d c) n in
-          let x : (beyond d c).x < shape.width = on.column in
-          let y : (beyond d c).y < shape.height = on.row in
-          let w : shape.width ≤ 4096 = stored.sides.narrow in
-          let h : shape.height ≤ 4096 = stored.sides.low in
-          link_apart true c (beyond d c) (link_off true c c (beyond d c) no_offset (offset d) (stands_itself c)
-          (stands c d (omega arith) (omega arith)) (among_linked true d (any_dir d))) (sym e)
+    free_left : (u : Cell) → is_free g u ≡ true → IsLink shape.eight c u → left u ≡ true
+    free_left u p k =
+        let o : u ≢ c = λ s. link_apart shape.eight c u k (sym s) in
+        labelled (labels_in shape (put shape labels stored.whole c column row 0)) u (λ z. free_labelled f u p
+        (sym (put_elsewhere shape labels stored.whole c column row 0 u o) ∙ z))
 
-      ring_free : (d : Dir) → is_free_on ring d ≡ true → is_free (grid_with g c false) (beyond d c) ≡ true
-      ring_free d h =
-          let n = on_ring d h in
-          edited_others g tells.grid c inside false (beyond d c) (apart d n) ∙ labelled_free f (beyond d c) n
-
-      shut : is_free (grid_with g c false) c ≡ false
-      shut = edited_here g tells.grid c inside false
-
-      ring_tells : (d : Dir) → is_free (grid_with g c false) (beyond d c) ≡ true → is_free_on ring d ≡ true
-      ring_tells d h =
-          let other : beyond d c ≢ c = λ e. let x : true ≡ false = sym h
-          ∙ ap (λ (v : Cell). is_free (grid_with g c false) v) e ∙ shut in absurd (cc) in
-          reads d ∙ is_not_zero (label_of (labels_in shape labels) (beyond d c)) (free_labelled f (beyond d c)
-          (sym (edited_others g tells.grid c inside false (beyond d c) other) ∙ h))
-
-      on_map : (v : Cell) → is_free (grid_with g c false) v ≡ true → (v.x < 4096) × (v.y < 4096)
-      on_map v h =
-          let i = free_inside (grid_with g c false) v h in
-          let x : v.x < g.width = i.0 in
-          let y : v.y < g.height = i.1 in
-          let w : g.width ≤ 4096 = tells.grid.sides.narrow in
-          let k : g.height ≤ 4096 = tells.grid.sides.low in
-          (omega arith, omega arith)
-
-      none : class_in shape (put shape labels stored.whole c column row 0) classes c ≡ 0
-      none = ap (λ (l : ℕ). root_of classes l) (put_here shape labels stored.whole c column row 0)
-
-      pub edited_blocked : (whole : Bool) → whole ≡ is_whole shape.eight ring
-          → Tells (grid_with g c false)
-          (seen shape corner (put shape labels stored.whole c column row 0) classes whole)
-      edited_blocked whole e = edited false (put shape labels stored.whole c column row 0) classes whole (λ h.
-          blocked shape.eight (is_free g) (is_free (grid_with g c false)) c shut
-          (edited_others g tells.grid c inside false) (class_in shape labels classes)
-          (class_in shape (put shape labels stored.whole c column row 0) classes) (links f) none
-          (λ u o. ap (λ (l : ℕ). root_of classes l) (put_elsewhere shape labels stored.whole c column row 0 u o))
-          (λ u v p q k l. joined_around shape.eight (is_free (grid_with g c false)) c ring ring_free on_map
-          (sym e ∙ h) ring_tells u v
-          (edited_others g tells.grid c inside false u (λ s. link_apart shape.eight c u k (sym s)) ∙ p)
-          (edited_others g tells.grid c inside false v (λ s. link_apart shape.eight c v l (sym s)) ∙ q) k l))
+    pub edited_blocked : (whole : Bool) → (whole ≡ true → AreJoined shape.eight left c)
+        → Tells (grid_with g c false)
+        (seen shape corner (put shape labels stored.whole c column row 0) classes whole)
+    edited_blocked whole joined = edited false (put shape labels stored.whole c column row 0) classes whole
+        (λ h. blocked shape.eight (is_free g) (is_free (grid_with g c false)) c shut
+        (edited_others g tells.grid c inside false) (class_in shape labels classes)
+        (class_in shape (put shape labels stored.whole c column row 0) classes) (links f)
+        (ap (λ (l : ℕ). root_of classes l) (put_here shape labels stored.whole c column row 0))
+        (λ u o. ap (λ (l : ℕ). root_of classes l)
+        (put_elsewhere shape labels stored.whole c column row 0 u o))
+        (λ u v p q k l. chain_more shape.eight left (is_free (grid_with g c false)) left_free v u
+        (joined h u v (free_left u p k) (free_left v q l) k l)))
 
 -- the test of an edit that changes nothing
 pub same_bools : (a b : Bool) → beq a b ≡ true → a ≡ b
@@ -206,7 +178,8 @@ same_bools false true e = absurd (let x : false ≡ true = e in cc)
 same_bools false false e = refl
 
 pub differ : (free : Bool) (label : ℕ) → free ≡ true → beq free (not (nat_eq label 0)) ≡ false → label ≡ 0
-differ free label f e = by_test (nat_eq label 0) refl (subst (λ (b : Bool). beq b (not (nat_eq label 0)) ≡ false) f e)
+differ free label f e = by_test (nat_eq label 0) refl
+    (subst (λ (b : Bool). beq b (not (nat_eq label 0)) ≡ false) f e)
   where
     is_zero : (n : ℕ) → nat_eq n 0 ≡ true → n ≡ 0
     is_zero n h = grind (arith, nat_tests)

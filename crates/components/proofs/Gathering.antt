@@ -186,7 +186,8 @@ module _ (eight : Bool) (c : Cell) (at at_now : Cell → ℕ) (before now : ℕ 
       → Adds eight c (λ u. before (at u)) (λ u. now (at_now u))
   adds_met is some none own_some now_some =
       let here : now (at_now c) ≡ now label = ap (λ (l : ℕ). now l) (at_c ∙ is) in
-      let there : (u : Cell) → u ≢ c → now (at_now u) ≡ now (at u) = λ u o. ap (λ (l : ℕ). now l) (elsewhere u o)
+      let there : (u : Cell) → u ≢ c → now (at_now u)
+      ≡ now (at u) = λ u o. ap (λ (l : ℕ). now l) (elsewhere u o)
       in
       record {
         own = λ z. own_some (sym here ∙ z);

@@ -5,6 +5,7 @@ pub mod Offsets
 pub mod Gathering
 pub mod Rounds
 pub mod Storing
+pub mod Walking
 pub mod Telling
 pub mod Before
 pub mod Editing

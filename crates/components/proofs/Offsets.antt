@@ -62,7 +62,8 @@ stands c NW h k = record {
 abbrev pub are_linked : Bool → Offset → Offset → Bool
 are_linked eight o p = nat_le (o.east + p.west) (p.east + o.west + 1)
     && nat_le (p.east + o.west) (o.east + p.west + 1)
-    && nat_le (o.south + p.north) (p.south + o.north + 1) && nat_le (p.south + o.north) (o.south + p.north + 1)
+    && nat_le (o.south + p.north) (p.south + o.north + 1)
+    && nat_le (p.south + o.north) (o.south + p.north + 1)
     && not (nat_eq (o.east + p.west) (p.east + o.west) && nat_eq (o.south + p.north) (p.south + o.north))
     && (nat_eq (o.east + p.west) (p.east + o.west) || nat_eq (o.south + p.north) (p.south + o.north) || eight)
 

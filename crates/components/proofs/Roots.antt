@@ -305,7 +305,8 @@ module _ (old between cs : List ℕ) (forest : IsForest cs) (first : SameRoots o
   united low = record {
     falls = forest-put cs forest q p q_below low (λ n. root_some a p of_a a_below a_some);
     merged = merged-after old cs (root_of (set cs q p)) a b all_same
-        (linked-merged cs forest p q low q_below (λ n. root_some a p of_a a_below a_some) (root_alone a p of_a)
+        (linked-merged cs forest p q low q_below (λ n. root_some a p of_a a_below a_some)
+        (root_alone a p of_a)
         (root_alone b q of_b) a b of_a of_b);
   }
 
@@ -314,6 +315,7 @@ module _ (old between cs : List ℕ) (forest : IsForest cs) (first : SameRoots o
     falls = forest-put cs forest p q p_below low (λ n. root_some b q of_b b_below b_some);
     merged = merged-after old cs (root_of (set cs p q)) a b all_same
         (merged-turned (root_of cs) (root_of (set cs p q)) b a
-        (linked-merged cs forest q p low p_below (λ n. root_some b q of_b b_below b_some) (root_alone b q of_b)
+        (linked-merged cs forest q p low p_below (λ n. root_some b q of_b b_below b_some)
+        (root_alone b q of_b)
         (root_alone a p of_a) b a of_b of_a));
   }

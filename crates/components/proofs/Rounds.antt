@@ -165,10 +165,11 @@ module _ (eight : Bool) (free : Cell → Bool) (c : Cell) (ring : Ring)
   link d e near p q =
       let i = inside (beyond d c) (ring_free d p) in
       let j = inside (beyond e c) (ring_free e q) in
-      link_off eight c (beyond d c) (beyond e c) (offset d) (offset e) (stands c d i.0 i.1) (stands c e j.0 j.1)
+      link_off eight c (beyond d c) (beyond e c) (offset d) (offset e) (stands c d i.0 i.1)
+      (stands c e j.0 j.1)
       near
 
-  diagonal : (d e : Dir) → are_linked true (offset d) (offset e) ≡ true → eight ≡ true
+  pub diagonal : (d e : Dir) → are_linked true (offset d) (offset e) ≡ true → eight ≡ true
       → is_free_on ring d ≡ true → is_free_on ring e ≡ true → IsLink eight (beyond d c) (beyond e c)
   diagonal d e near is p q = link d e
       (ap (λ (b : Bool). are_linked b (offset d) (offset e)) is ∙ near) p q

@@ -44,7 +44,8 @@ label_inside p c x y = rw (on c.x c.y p.width p.height x y) refl
     on x y w h a b = grind (arith, nat_tests)
 
 -- the neighbours that have labels are linked
-pub labelled_link : (shape : Shape) (labels : List ℕ) → AreSides shape.width shape.height → (c : Cell) (d : Dir)
+pub labelled_link : (shape : Shape) (labels : List ℕ) → AreSides shape.width shape.height
+    → (c : Cell) (d : Dir)
     → is_among d (linked_dirs shape.eight) ≡ true → label_of (labels_in shape labels) (beyond d c) ≢ 0
     → IsLink shape.eight c (beyond d c)
 labelled_link shape labels sides c d i n =
@@ -78,7 +79,8 @@ module _ (shape : Shape) (labels : List ℕ) (whole : length labels ≡ shape.he
       (let b : cell_number shape.width c < shape.height * shape.width
       = number_below shape.width shape.height c column row in omega arith)
 
-  pub put_elsewhere : (u : Cell) → u ≢ c → label_of (labels_in shape put) u ≡ label_of (labels_in shape labels) u
+  pub put_elsewhere : (u : Cell) → u ≢ c → label_of (labels_in shape put) u
+      ≡ label_of (labels_in shape labels) u
   put_elsewhere u o = by_test (nat_lt u.x shape.width && nat_lt u.y shape.height) refl
     where
       on : (x y w h : ℕ) → (nat_lt x w && nat_lt y h) ≡ true → x < w
@@ -108,7 +110,8 @@ module _ (shape : Shape) (labels : List ℕ) (whole : length labels ≡ shape.he
         omega arith
   ]
 
-pub label_low : (shape : Shape) (labels : List ℕ) (most : ℕ) → ((k : ℕ) → get_or labels k 0 ≤ most) → (c : Cell)
+pub label_low : (shape : Shape) (labels : List ℕ) (most : ℕ)
+    → ((k : ℕ) → get_or labels k 0 ≤ most) → (c : Cell)
     → label_of (labels_in shape labels) c ≤ most
 label_low shape labels most below c = by_test (nat_lt c.x shape.width && nat_lt c.y shape.height)
   where
@@ -169,8 +172,10 @@ module _ (shape : Shape) (used : ℕ) (labels classes later : List ℕ)
       now_some
 
   -- it is a new one
-  pub adds_another : label ≡ 0 → used + 1 < length classes → Adds shape.eight c (class_in shape labels classes)
-      (class_in shape (put shape labels stored.whole c column row (used + 1)) (set later (used + 1) (used + 1)))
+  pub adds_another : label ≡ 0 → used + 1 < length classes
+      → Adds shape.eight c (class_in shape labels classes)
+      (class_in shape (put shape labels stored.whole c column row (used + 1))
+      (set later (used + 1) (used + 1)))
   adds_another none room =
       let within : used + 1 < length later = omega arith in
       let some : used + 1 ≢ 0 = λ z. omega arith in

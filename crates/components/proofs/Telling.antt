@@ -37,7 +37,8 @@ module _ (g : GridData) where
   slips = may_slip g.corner
 
   -- free cells that are linked are joined by a move
-  link_legal : (u v : Cell) → is_free g u ≡ true → is_free g v ≡ true → IsLink slips u v → is_legal g u v ≡ true
+  link_legal : (u v : Cell) → is_free g u ≡ true → is_free g v ≡ true → IsLink slips u v
+      → is_legal g u v ≡ true
   link_legal u v f h l = is_legal-from g u v (record {
     source = f;
     target = h;
@@ -55,7 +56,8 @@ module _ (g : GridData) where
     differ = l.differ;
   })
     where
-      straight : {a b : Cell} → corner_of u v ≡ a → corner_of v u ≡ b → is_free g a ≡ true → is_free g b ≡ true
+      straight : {a b : Cell} → corner_of u v ≡ a → corner_of v u ≡ b → is_free g a ≡ true
+          → is_free g b ≡ true
           → is_passable g.corner (is_free g (corner_of u v)) (is_free g (corner_of v u)) ≡ true
       straight e k p q = rw (ap (λ (c : Cell). is_free g c) e ∙ p, ap (λ (c : Cell). is_free g c) k ∙ q)
           (passable-both g.corner)
@@ -68,38 +70,39 @@ module _ (g : GridData) where
       | inl e ↦ one (inr (inl e))
       | inr y ↦ elim (true_or_false slips) [
         | inl e ↦ one (inr (inr e))
-        | inr e ↦ elim (one_free g.corner e (is_free g (corner_of u v)) (is_free g (corner_of v u)) l.passes) [
-          | inl f ↦ over (corner_of u v) f (record {
-            x_low = omega arith;
-            x_high = omega arith;
-            y_low = l.y_low;
-            y_high = l.y_high;
-            differ = λ a b. y b;
-            lined = inl refl;
-          }) (record {
-            x_low = l.x_low;
-            x_high = l.x_high;
-            y_low = omega arith;
-            y_high = omega arith;
-            differ = λ a b. x a;
-            lined = inr (inl refl);
-          })
-          | inr f ↦ over (corner_of v u) f (record {
-            x_low = l.x_low;
-            x_high = l.x_high;
-            y_low = omega arith;
-            y_high = omega arith;
-            differ = λ a b. x a;
-            lined = inr (inl refl);
-          }) (record {
-            x_low = omega arith;
-            x_high = omega arith;
-            y_low = l.y_low;
-            y_high = l.y_high;
-            differ = λ a b. y b;
-            lined = inl refl;
-          })
-        ]
+        | inr e ↦ elim (one_free g.corner e (is_free g (corner_of u v))
+            (is_free g (corner_of v u)) l.passes) [
+              | inl f ↦ over (corner_of u v) f (record {
+                x_low = omega arith;
+                x_high = omega arith;
+                y_low = l.y_low;
+                y_high = l.y_high;
+                differ = λ a b. y b;
+                lined = inl refl;
+              }) (record {
+                x_low = l.x_low;
+                x_high = l.x_high;
+                y_low = omega arith;
+                y_high = omega arith;
+                differ = λ a b. x a;
+                lined = inr (inl refl);
+              })
+              | inr f ↦ over (corner_of v u) f (record {
+                x_low = l.x_low;
+                x_high = l.x_high;
+                y_low = omega arith;
+                y_high = omega arith;
+                differ = λ a b. x a;
+                lined = inr (inl refl);
+              }) (record {
+                x_low = omega arith;
+                x_high = omega arith;
+                y_low = l.y_low;
+                y_high = l.y_high;
+                differ = λ a b. y b;
+                lined = inl refl;
+              })
+            ]
       ]
     ]
   ]
@@ -117,7 +120,8 @@ module _ (g : GridData) where
         lined = e;
       })
 
-      over : (w : Cell) → is_free g w ≡ true → IsLink slips u w → IsLink slips w v → Chain slips (is_free g) v u
+      over : (w : Cell) → is_free g w ≡ true → IsLink slips u w → IsLink slips w v
+          → Chain slips (is_free g) v u
       over w f a b = chain_on slips (is_free g) v w u (chain_one slips (is_free g) w v f l.target b)
           (chain_one slips (is_free g) u w l.source f a)
 

@@ -16,7 +16,8 @@ pub record AreFor (g : GridData) (p : KeptLabels) : Type 0 where
   pub height : p.labels.height ≡ g.height
   pub corner : p.corner ≡ g.corner
 
--- where they are fresh they are right: two cells have one label exactly where a walk leads from one to the other
+-- where they are fresh they are right: two cells have one label exactly
+-- where a walk leads from one to the other
 pub record Tells (g : GridData) (p : KeptLabels) : Type 0 where
   pub grid : IsGrid g
   pub made_for : AreFor g p

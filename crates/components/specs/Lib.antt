@@ -4,4 +4,5 @@ pub mod Links
 pub mod Meeting
 pub mod Stored
 pub mod Around
+pub mod Walls
 pub mod Labelling

@@ -1,6 +1,6 @@
--- Neighbours that are joined where both are free: those on a column or a row, and where a move may pass between
--- two blocked cells, those on a diagonal. Under the other rules a diagonal move passes beside a free cell, over
--- which two straight moves lead. No public clause cites this module.
+-- Neighbours that are joined where both are free: those on a column or a row, and where a move may pass
+-- between two blocked cells, those on a diagonal. Under the other rules a diagonal move passes beside a free
+-- cell, over which two straight moves lead. No public clause cites this module.
 use Rattle.std.specs.Prelude.{◌≡◌, ◌≢◌, ℕ, ◌+◌, ◌≤◌, ◌⊎◌, Bool, true, false}
 use Rattle.grid_moves.specs.declared.Cell.{Cell}
 
@@ -30,7 +30,8 @@ pub record Touches (eight : Bool) (c : Cell) (class : Cell → ℕ) (u : Cell) :
   pub link : IsLink eight c beside
   pub same : class beside ≡ class u
 
--- a cell of no class comes to have one: that of the neighbours that it is linked with, which are one from then on
+-- a cell of no class comes to have one: that of the neighbours that it is linked with,
+-- which are one from then on
 pub record Adds (eight : Bool) (c : Cell) (before later : Cell → ℕ) : Type 0 where
   pub own : later c ≢ 0
   pub some : (u : Cell) → u ≢ c → before u ≢ 0 → later u ≢ 0

@@ -1,7 +1,7 @@
 //! Whether the cells around one are joined without it.
 //!
-//! Once around, from each cell that is linked to the next: where that way ends at one place at most, all cells on it
-//! are joined (the crossing number of digital topology: Rutovitz, 1966; Yokoi, 1975).
+//! Once around, from each cell that is linked to the next: where that way ends at one place at most, all
+//! cells on it are joined (the crossing number of digital topology: Rutovitz, 1966; Yokoi, 1975).
 
 ghost use Rattle.std.specs.Prelude.{◌≡◌, ◌*◌, ◌<◌, ◌≤◌, length, nat_eq, not};
 ghost use Rattle.grid_moves.specs.Grid.{AreSides};

@@ -1,7 +1,7 @@
 //! Labels of which some are one class: disjoint sets.
 //!
-//! Each label leads to a lesser one of its class, or stands for the class itself (Galler and Fischer, 1964). On
-//! the way to that one each second step is shortened (path halving: Tarjan and van Leeuwen, 1984).
+//! Each label leads to a lesser one of its class, or stands for the class itself (Galler and Fischer, 1964).
+//! On the way to that one each second step is shortened (path halving: Tarjan and van Leeuwen, 1984).
 
 ghost use Rattle.std.specs.Prelude.{◌≡◌, ◌≢◌, ◌<◌, length};
 ghost use Rattle.components.specs.Classes.{AreMerged, IsForest, SameRoots, root_of};

@@ -7,11 +7,11 @@ ghost use Rattle.components.specs.Classes.{IsForest};
 ghost use Rattle.components.specs.Kept.{AreFor, KeptLabels, Tells};
 
 use crate::NoMemory;
-use crate::around::{is_whole, ring_of};
 use crate::classes::root;
 use crate::labelling::relabel;
 use crate::meeting::add;
 use crate::shape::{Shape, label_at};
+use crate::walls::stays_joined;
 use grid_moves::{Cell, Corner, Terrain, may_slip, number_of};
 use std::alloc::Global;
 use std::marker::Model;
@@ -35,8 +35,8 @@ fn part_all(classes: &mut [u32])
 
 /// Which cells of a grid are joined by walks, kept while cells are blocked and freed.
 ///
-/// It keeps eight bytes for each cell. Contracts see a label for each cell, by which two cells that are joined have
-/// one, and whether these are fresh.
+/// It keeps eight bytes for each cell. Contracts see a label for each cell, by which two cells that are
+/// joined have one, and whether these are fresh.
 #[derive(Drop)]
 pub struct Components {
     shape: Shape,
@@ -130,8 +130,8 @@ impl Components {
         self.fresh = true;
     }
 
-    /// Whether both cells are free and a walk leads from one to the other, where the labels are fresh. No memory is
-    /// taken.
+    /// Whether both cells are free and a walk leads from one to the other, where the labels are fresh. No
+    /// memory is taken.
     pub fn joined(&self, s: Cell, t: Cell) -> bool
         ensures { result ≡ are_joined self.now.labels s t }
     {
@@ -139,8 +139,8 @@ impl Components {
         label != 0 && label == self.label(t)
     }
 
-    /// The label of a cell, which those of its part share, where the labels are fresh: 0 where it is not free or lies
-    /// outside the map. No memory is taken.
+    /// The label of a cell, which those of its part share, where the labels are fresh: 0 where it is not free
+    /// or lies outside the map. No memory is taken.
     pub fn label(&self, c: Cell) -> u32
         ensures { result ≡ label_of self.now.labels c }
     {
@@ -149,8 +149,9 @@ impl Components {
 
     /// Makes a cell of the map free, or blocked, as the grid's `set` does. No memory is taken.
     ///
-    /// The labels stay fresh but where a blocked cell leaves some around it that are joined by no way around it,
-    /// and where more cells were freed with nothing beside them than there is room for.
+    /// The labels stay fresh but where a blocked cell leaves some around it of which neither the cells around
+    /// nor ways of bounded length along the walls show that they are joined, and where more cells were freed
+    /// with nothing beside them than there is room for.
     pub fn set(&mut self, c: Cell, free: bool)
         requires column { c.x < self.old.labels.width }
         requires row { c.y < self.old.labels.height }
@@ -163,8 +164,9 @@ impl Components {
             return;
         }
         if !free {
-            self.fresh = is_whole(self.shape.eight, ring_of(self.shape, &self.labels, c));
-            self.labels[number_of(self.shape.width, c) as usize] = 0;
+            let place = number_of(self.shape.width, c) as usize;
+            self.labels[place] = 0;
+            self.fresh = stays_joined(self.shape, &self.labels, c);
             return;
         }
         if self.used as usize + 1 == self.classes.len() {

@@ -12,7 +12,8 @@ use crate::meeting::add;
 use crate::shape::Shape;
 use grid_moves::{Cell, Terrain};
 
-// Labels the free cells of a row, where those of the rows above are labelled. Returns how many labels are used.
+// Labels the free cells of a row, where those of the rows above are labelled.
+// Returns how many labels are used.
 fn label_row<T: Terrain>(
     t: &T,
     shape: Shape,

@@ -12,8 +12,8 @@ use crate::classes::unite;
 use crate::shape::{Shape, label_at};
 use grid_moves::{Cell, Dir, beyond, number_of};
 
-// What a label comes to that meets the neighbour's in this direction: the neighbour's where it is none itself,
-// else both are made one.
+// What a label comes to that meets the neighbour's in this direction: the neighbour's where it is none
+// itself, else both are made one.
 #[inline(always)]
 fn meet(shape: Shape, c: Cell, d: Dir, label: u32, labels: &[u32], classes: &mut [u32]) -> u32
     requires fit { AreFit shape labels.now classes.old }
@@ -62,8 +62,8 @@ fn gather(shape: Shape, c: Cell, labels: &[u32], classes: &mut [u32]) -> u32
     meet(shape, c, Dir::NW, label, labels, classes)
 }
 
-/// Gives a cell without a label one: that of the neighbours that it is linked with, which become one class, or a new
-/// one where there are none. Returns how many labels are used.
+/// Gives a cell without a label one: that of the neighbours that it is linked with, which become one class,
+/// or a new one where there are none. Returns how many labels are used.
 #[inline(always)]
 pub(crate) fn add(shape: Shape, c: Cell, used: u32, labels: &mut [u32], classes: &mut [u32]) -> u32
     requires stored { AreStored shape used labels.old classes.old }
@@ -72,7 +72,8 @@ pub(crate) fn add(shape: Shape, c: Cell, used: u32, labels: &mut [u32], classes:
     requires blank { label_of (labels_in shape labels.old) c ≡ 0 }
     requires room { used + 1 < length classes.old }
     ensures stored { AreStored shape result labels.new classes.new }
-    ensures adds { Adds shape.eight c (class_in shape labels.old classes.old) (class_in shape labels.new classes.new) }
+    ensures adds { Adds shape.eight c (class_in shape labels.old classes.old)
+        (class_in shape labels.new classes.new) }
     ensures few { result ≤ used + 1 }
 {
     let label = gather(shape, c, labels, classes);

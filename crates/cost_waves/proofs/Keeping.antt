@@ -1,6 +1,5 @@
 -- What one offer keeps.
-use Rattle.std.proofs.Common.{◌≡◌, ℕ, ◌+◌, ◌*◌, ◌<◌, ◌≤◌, arith, refl, Bool}
-use Rattle.std.proofs.Common.{true, false, length, get_or, set}
+use Rattle.std.proofs.Common.{◌≡◌, ℕ, ◌+◌, ◌*◌, ◌<◌, ◌≤◌, arith, refl, Bool, true, false, length, get_or, set}
 use Rattle.std.specs.Prelude.{nat_lt, nat_eq, bit_or, if◌then◌else◌}
 use Rattle.std.proofs.lemmas.Bool.Decides.{nat_tests}
 use Rattle.root2_cost.specs.Rank.{straight_rank, diagonal_rank}

@@ -1,6 +1,5 @@
 -- Walks with one more move, and what a move counts.
-use Rattle.std.proofs.Common.{◌≡◌, ℕ, ◌+◌, ◌≤◌, arith, refl, ap, ◌∙◌, true}
-use Rattle.std.proofs.Common.{List, [], ◌∷◌, ◌++◌}
+use Rattle.std.proofs.Common.{◌≡◌, ℕ, ◌+◌, ◌≤◌, arith, refl, ap, ◌∙◌, true, List, [], ◌∷◌, ◌++◌}
 use Rattle.std.specs.Prelude.{Some}
 use Rattle.root2_cost.specs.Rank.{rank_of, straight_rank, diagonal_rank}
 use Rattle.root2_cost.proofs.Sums.{add_costs-no_cost_right}

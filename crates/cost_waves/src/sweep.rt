@@ -1,6 +1,7 @@
 //! All waves of a pass.
 
-ghost use Rattle.std.specs.Prelude.{◌≡◌, ◌+◌, ◌*◌, ◌<◌, ◌^◌, ◌==◌, ◌&&◌, [], ℕ, true, length, slice_index_or, OnOk};
+ghost use Rattle.std.specs.Prelude.{◌≡◌, ◌+◌, ◌*◌, ◌<◌, ◌^◌, ◌==◌, ◌&&◌, [], ℕ, true, length, slice_index_or};
+ghost use Rattle.std.specs.Prelude.{OnOk};
 ghost use Rattle.grid_moves.specs.Grid.{IsGrid, is_free};
 ghost use Rattle.cost_waves.specs.Rank.{far};
 ghost use Rattle.cost_waves.specs.Shape.{front_of};

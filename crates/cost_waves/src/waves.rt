@@ -1,6 +1,7 @@
 //! The memory of passes, and what the last of them found.
 
-ghost use Rattle.std.specs.Prelude.{◌≡◌, ◌*◌, ◌<◌, ℕ, true, length, map, slice_index_or, replicate, IfOk, OnOk, OnErr};
+ghost use Rattle.std.specs.Prelude.{◌≡◌, ◌*◌, ◌<◌, ℕ, true, length, map, slice_index_or, replicate, IfOk};
+ghost use Rattle.std.specs.Prelude.{OnOk, OnErr};
 ghost use Rattle.grid_moves.specs.Grid.{AreSides, is_free};
 ghost use Rattle.cost_waves.specs.Rank.{far};
 ghost use Rattle.cost_waves.specs.Rank as spec;

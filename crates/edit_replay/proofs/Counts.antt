@@ -42,7 +42,8 @@ but_the_last fewest old new (suc n) some rose =
     let less : suc n - 1 ≡ n = omega arith in
     rw less (omega arith)
 
-pub rose_away : (l : Layout) (g : GridData) (s t : Cell) (walk : Option Walk) (taken : List ℕ) (fewest old new : ℕ)
+pub rose_away : (l : Layout) (g : GridData) (s t : Cell) (walk : Option Walk) (taken : List ℕ)
+    (fewest old new : ℕ)
     → MatchOption walk (IsExhausted l g s t taken) (λ v. IsFound l g s t v.points v.cost taken)
     → MatchOption walk (old + length taken * fewest ≤ new) (λ _. old + length taken * fewest ≤ new + fewest)
     → RoseByStates fewest old new (reply_with walk taken)

@@ -27,10 +27,12 @@ none_counted (Plus l) ls n = record {
 
 module _ (d : SessionData) (e : Edit) (are : AreLayers d.layers) where
   -- the reply, where it is known whether the cell lies on the map, and whether it is as asked
-  reply_by : (on same : Bool) → is_on_map d.layers e.cell ≡ on → is_ground (ground_at d.layers e.cell) e.to ≡ same
+  reply_by : (on same : Bool) → is_on_map d.layers e.cell ≡ on
+      → is_ground (ground_at d.layers e.cell) e.to ≡ same
       → edit_reply d.layers e ≡ if on then if same then Same else Done else Outside
   reply_by on same h k =
-      ap (λ (b : Bool). if b then if is_ground (ground_at d.layers e.cell) e.to then Same else Done else Outside) h
+      ap (λ (b : Bool). if b then if is_ground (ground_at d.layers e.cell) e.to then Same
+      else Done else Outside) h
       ∙ ap (λ (b : Bool). if on then if b then Same else Done else Outside) k
 
   pub edits_outside : (n : ℕ) → is_on_map d.layers e.cell ≡ false → HasEdited d e Outside d n n

@@ -10,7 +10,8 @@ use Rattle.best_first.specs.declared.found.Found.{Found}
 use Rattle.edit_replay.specs.Found.{reply_with}
 use Rattle.edit_replay.specs.Replies.{answer_of, Exhausts, IsRunReply}
 use Rattle.edit_replay.specs.Session.{SessionData}
-use Rattle.edit_replay.specs.ReplyOf.{IsReplyOf, found_with, reply_finding, reply_of, reply_of_ends, states_of}
+use Rattle.edit_replay.specs.ReplyOf.{IsReplyOf, found_with, reply_finding, reply_of, reply_of_ends}
+use Rattle.edit_replay.specs.ReplyOf.{states_of}
 use Rattle.edit_replay.specs.declared.reply.Reply.{Reply}
 use Rattle.edit_replay.specs.declared.reply.Reply.TheVariants.{Walk, None, Outside, Blocked}
 use Rattle.edit_replay.proofs.Grounds.{ends_free, ends_on}
@@ -24,7 +25,8 @@ module _ (d : SessionData) (are : AreLayers d.layers) (s t : Cell) where
   searched : (f : Found) → IsFoundBy d.engine (query_grid d.layers s) s t f
       → reply_with f.walk f.taken ≡ reply_with found.walk found.taken
   searched f is =
-      ap (λ (h : Found). reply_with h.walk h.taken) ((founds_are d.engine).only (query_grid d.layers s) s t f is)
+      ap (λ (h : Found). reply_with h.walk h.taken)
+      ((founds_are d.engine).only (query_grid d.layers s) s t f is)
 
   by_layer : (ms : List ℕ) (one : Bool)
       → MatchBool one (Exhausts d.engine (query_grid d.layers s) s t ms) (ms ≡ [])

@@ -15,13 +15,15 @@ use Rattle.search_core.proofs.Answering as jumping
 use Rattle.edit_replay.specs.Found.{reply_with}
 use Rattle.edit_replay.specs.Replies.{Exhausts, Finds, IsRunReply, answer_of}
 use Rattle.edit_replay.specs.Session.{SessionData}
-use Rattle.edit_replay.specs.ReplyOf.{IsReplyOf, found_with, reply_finding, reply_of, reply_of_ends, states_of}
+use Rattle.edit_replay.specs.ReplyOf.{IsReplyOf, found_with, reply_finding, reply_of, reply_of_ends}
+use Rattle.edit_replay.specs.ReplyOf.{states_of}
 use Rattle.edit_replay.specs.declared.engine.Engine.{Engine}
 use Rattle.edit_replay.specs.declared.engine.Engine.TheVariants as engine
 
 -- the answer and the taken states are those of the engine's run
 abbrev pub IsFoundBy : Engine → GridData → Cell → Cell → Found → Type 0
-IsFoundBy e g s t f = MatchOption f.walk (Exhausts e g s t f.taken) (λ w. Finds e g s t w.points w.cost f.taken)
+IsFoundBy e g s t f = MatchOption f.walk (Exhausts e g s t f.taken)
+    (λ w. Finds e g s t w.points w.cost f.taken)
 
 pub founds_are : (e : Engine) → AnswersAre (IsFoundBy e) (found_with (states_of e))
 founds_are engine.Plain = plainly.answers_are

@@ -11,5 +11,6 @@ is_wall byte = byte == 64 || byte == 79 || byte == 84
 -- the bytes of a map are those that stand for land or water, and these; and these are its blocked ones
 abbrev pub TerrainHasGrounds : Type 0
 TerrainHasGrounds = (byte : ℕ)
-    → (is_terrain byte ≡ (is_ground Land (ground_of byte) || is_ground Water (ground_of byte) || is_wall byte))
+    → (is_terrain byte ≡ (is_ground Land (ground_of byte)
+    || is_ground Water (ground_of byte) || is_wall byte))
     × (is_wall byte ≡ (is_terrain byte && is_ground Blocked (ground_of byte)))

@@ -4,7 +4,8 @@ use Rattle.std.specs.Prelude as option
 use Rattle.grid_moves.specs.declared.Cell.{Cell}
 use Rattle.grid_moves.specs.declared.Ground.TheVariants as ground
 use Rattle.grid_moves.specs.Grid.{GridData}
-use Rattle.grid_moves.specs.Layers.{AreLayers, Layers, in_one_layer, is_on_map, layers_with, query_grid, shore}
+use Rattle.grid_moves.specs.Layers.{AreLayers, Layers, in_one_layer, is_on_map, layers_with, query_grid}
+use Rattle.grid_moves.specs.Layers.{shore}
 use Rattle.grid_moves.specs.Reply.{IsRight, are_free_ends}
 use Rattle.best_first.specs.declared.found.Found.{Found}
 use Rattle.best_first.specs.declared.state.Layout.{Layout}
@@ -23,8 +24,8 @@ abbrev pub found_with : Option Layout → GridData → Cell → Cell → Found
 found_with option.None g s t = plain_found g s t
 found_with (option.Some layout) g s t = jump_found layout g s t
 
--- the reply by whether both ends lie on the map, whether both are free, whether they lie in one layer, and what
--- is found there
+-- the reply by whether both ends lie on the map, whether both are free, whether they lie in one layer, and
+-- what is found there
 abbrev pub reply_of_ends : Bool → Bool → Bool → Found → Reply
 reply_of_ends false free one f = Outside
 reply_of_ends true false one f = Blocked

@@ -62,7 +62,8 @@ pub(crate) fn space_of(alloc: Global, layout: Layout, grid: &Grid) -> Result<Spa
 
 // The bits of both grids, which have one rule.
 fn bits_of(alloc: Global, layers: &Layers) -> Result<Both<BitGrid>, NoMemory>
-    ensures { IfOk result (λ bits. AreBitsOf bits.land layers.now.land × AreBitsOf bits.water layers.now.water) }
+    ensures { IfOk result
+        (λ bits. AreBitsOf bits.land layers.now.land × AreBitsOf bits.water layers.now.water) }
 {
     let (land, water) = layers.both();
     let land = BitGrid::of_grid(alloc, land)?;

@@ -9,8 +9,9 @@ pub fn replies_exist()
     ensures { RepliesExist }
 {}
 
-/// On the layers of one map no other reply is right and the run of the session's engine. Of the engine the function
-/// asks no more than whether it jumps, and with which states: so `jps`, `block` and `plus` have one reply.
+/// On the layers of one map no other reply is right and the run of the session's engine. Of the engine the
+/// function asks no more than whether it jumps, and with which states:
+/// so `jps`, `block` and `plus` have one reply.
 pub fn none_else_replies()
     ensures { NoneElseReplies }
 {}

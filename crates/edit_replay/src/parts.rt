@@ -30,14 +30,15 @@ pub(crate) struct Parts {
     pub kept: Kept,
 }
 
-// Makes tables those of the grid, which were right when this cell was free, or was not (`was`). Where it is as it
-// was, nothing is done.
+// Makes tables those of the grid, which were right when this cell was free, or was not (`was`). Where it is
+// as it was, nothing is done.
 fn mend<L: Ledger>(tables: &mut Tables, grid: &Grid, c: Cell, was: bool, steps: &mut Steps<L>)
     requires whole { IsGrid grid.now }
     requires inside { is_inside grid.now c ≡ true }
     requires before { AreTablesOf tables.old (grid_with grid.now c was) }
     ensures tables { AreTablesOf tables.new grid.now }
-    ensures counted { (n : ℕ) × MendsWithin (grid_with grid.now c was) grid.now n × (steps.new ≤ steps.old + n) }
+    ensures counted { (n : ℕ) × MendsWithin (grid_with grid.now c was) grid.now n
+        × (steps.new ≤ steps.old + n) }
     ensures later { steps.old ≤ steps.new }
 {
     if grid.free(c) == was {
@@ -81,7 +82,8 @@ impl Parts {
         }
     }
 
-    /// Makes the cell of this column and row blocked, land or water, where it lies on the map and is not so already.
+    /// Makes the cell of this column and row blocked, land or water,
+    /// where it lies on the map and is not so already.
     pub(crate) fn edit<L: Ledger>(
         &mut self,
         x: u32,
@@ -119,7 +121,8 @@ impl Parts {
         ensures run { IfOk result (IsRunOn (engine_of self.old.kept)
             (query_grid self.old.layers ends.from) ends.from ends.to) }
         ensures most { IfOk result (RoseWithin (most_of (engine_of self.old.kept)) steps.old steps.new) }
-        ensures fewest { IfOk result (RoseByStates (fewest_of (engine_of self.old.kept)) steps.old steps.new) }
+        ensures fewest { IfOk result
+            (RoseByStates (fewest_of (engine_of self.old.kept)) steps.old steps.new) }
         ensures uncounted { engine_of self.old.kept ≡ Engine.Plain → steps.new ≡ steps.old }
         ensures layers { self.new.layers ≡ self.old.layers }
         ensures engine { engine_of self.new.kept ≡ engine_of self.old.kept }
@@ -148,7 +151,8 @@ impl Parts {
     ) -> Result<Reply, NoMemory>
         requires { AreKept self.old }
         ensures right { IfOk result (λ reply.
-            IsRight self.old.layers (record { x = sx; y = sy }) (record { x = gx; y = gy }) (answer_of reply)) }
+            IsRight self.old.layers (record { x = sx; y = sy }) (record { x = gx; y = gy })
+            (answer_of reply)) }
         ensures run { IfOk result
             (IsRunReply (stands_for self.old) (record { x = sx; y = sy }) (record { x = gx; y = gy })) }
         ensures function { IfOk result (λ reply. reply ≡ reply_of (engine_of self.old.kept) self.old.layers
@@ -157,7 +161,8 @@ impl Parts {
         ensures unchanged { stands_for self.new ≡ stands_for self.old }
         ensures kept { AreKept self.new }
         ensures most { IfOk result (RoseWithin (most_of (engine_of self.old.kept)) steps.old steps.new) }
-        ensures fewest { IfOk result (RoseByStates (fewest_of (engine_of self.old.kept)) steps.old steps.new) }
+        ensures fewest { IfOk result
+            (RoseByStates (fewest_of (engine_of self.old.kept)) steps.old steps.new) }
         ensures uncounted { engine_of self.old.kept ≡ Engine.Plain → steps.new ≡ steps.old }
     {
         match self.layers.ends(sx, sy, gx, gy) {

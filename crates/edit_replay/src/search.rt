@@ -90,8 +90,10 @@ pub(crate) fn jump<L: Ledger>(
     requires places { HasPlaces grid.now space.old }
     ensures right { IfOk result (IsRightOn grid.now from to) }
     ensures run { IfOk result (IsJumpReply space.old.layout grid.now from to) }
-    ensures most { IfOk result (RoseWithin (most_of (engine_with finder.now space.old.layout)) steps.old steps.new) }
-    ensures fewest { IfOk result (RoseByStates (fewest_of (engine_with finder.now space.old.layout)) steps.old steps.new) }
+    ensures most { IfOk result
+        (RoseWithin (most_of (engine_with finder.now space.old.layout)) steps.old steps.new) }
+    ensures fewest { IfOk result
+        (RoseByStates (fewest_of (engine_with finder.now space.old.layout)) steps.old steps.new) }
     ensures layout { space.new.layout ≡ space.old.layout }
     ensures places { HasPlaces grid.now space.new }
 {

@@ -171,7 +171,8 @@ impl Session {
         ensures run { IfOk result
             (IsRunReply self.old (record { x = sx; y = sy }) (record { x = gx; y = gy })) }
         ensures function { IfOk result (λ reply. reply
-            ≡ reply_of self.old.engine self.old.layers (record { x = sx; y = sy }) (record { x = gx; y = gy })) }
+            ≡ reply_of self.old.engine self.old.layers (record { x = sx; y = sy })
+            (record { x = gx; y = gy })) }
         ensures short { IfOk result (λ reply. IsShort (answer_of reply)) }
         ensures unchanged { self.new ≡ self.old }
         ensures most { IfOk result (RoseWithin (most_of self.old.engine) steps.old steps.new) }

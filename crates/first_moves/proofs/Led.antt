@@ -17,8 +17,7 @@ use Rattle.path_points.specs.Corners.{corners}
 use Rattle.path_points.specs.declared.points.Walk.{Walk}
 use Rattle.cost_waves.specs.Begin.{IsCostTo, IsLeastCost}
 use Rattle.plain_search.specs.Costs.{begins, least_cost}
-use Rattle.plain_search.proofs.LeastCosts.{one_least}
-use Rattle.plain_search.proofs.LeastCosts.{begins_is, cost_is}
+use Rattle.plain_search.proofs.LeastCosts.{one_least, begins_is, cost_is}
 use Rattle.first_moves.specs.First.{FirstMovesAre, IsFirstMove, first_move}
 use Rattle.first_moves.specs.Follow.{AreFirst, IsFollowed, IsLedOrNone, LeadsTo, LedWalksAre}
 use Rattle.first_moves.specs.Follow.{led_at, led_cells, led_walk}

@@ -31,7 +31,8 @@ module _ (g : GridData) (s : Cell) (free : is_free g s ≡ true) where
   move_at : (k : ℕ) → k < g.height * g.width
       → get_or (moves_from g s) k None ≡ first_move g s (cell_numbered g.width k)
   move_at k below =
-      get_or-map-range_with_len (λ j. first_move g s (cell_numbered g.width j)) 0 (g.height * g.width) k k None
+      get_or-map-range_with_len (λ j. first_move g s (cell_numbered g.width j)) 0
+      (g.height * g.width) k k None
       below (omega arith)
 
   row_is : IsRow g s (row_of g s)
@@ -57,12 +58,14 @@ module _ (g : GridData) (s : Cell) (free : is_free g s ≡ true) where
           let low : k < g.height * g.width = subst (λ (n : ℕ). k < n) as_many below in
           let c : Cell = cell_numbered g.width k in
           let one : get_or ms (cell_number g.width c) None ≡ first_move g s c =
-          (moves_are g s c free).only (get_or ms (cell_number g.width c) None) (are c (lies_inside g k low)) in
+          (moves_are g s c free).only (get_or ms (cell_number g.width c) None)
+          (are c (lies_inside g k low)) in
           get_or_default ms k d None below
           ∙ ap (λ (n : ℕ). get_or ms n None) (sym (number_is g.width k)) ∙ one ∙ sym (move_at k low)
           ∙ get_or_default (moves_from g s) k None d (subst (λ (n : ℕ). k < n) (sym many) low)
 
-pub row_only : (g : GridData) (s : Cell) (row : List Run) → is_free g s ≡ true → IsRow g s row → row ≡ row_of g s
+pub row_only : (g : GridData) (s : Cell) (row : List Run) → is_free g s ≡ true
+    → IsRow g s row → row ≡ row_of g s
 unfolding row_of
 row_only g s row free is =
     is.cut ∙ ap (λ (ms : List (Option Dir)). runs_of ms) (members_are g s free is.members is.whole is.moves)

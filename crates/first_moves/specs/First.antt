@@ -8,11 +8,8 @@ use Rattle.grid_moves.specs.declared.Dir.TheVariants.{E}
 use Rattle.grid_moves.specs.Grid.{GridData, grid_of, is_free}
 use Rattle.grid_moves.specs.Move.{all_dirs, dir_number}
 use Rattle.grid_moves.specs.Walk.{NoWalk}
-use Rattle.search_run.specs.Made.{run_of}
-use Rattle.best_first.specs.Made.{found_of, states_at, states_in_row, states_on_map}
 use Rattle.cost_waves.specs.Begin.{Begins}
 use Rattle.cost_waves.specs.Stored.{has_dir}
-use Rattle.plain_search.specs.Answer.{plain_found}
 use Rattle.plain_search.specs.Costs.{begins, least_cost}
 use Rattle.plain_search.specs.One.{IsTheOne}
 
@@ -45,10 +42,10 @@ nothing_first = refl
 -- on the map `...` the first move from left to right is to the right, and none leads on where the goal is
 pub to_the_right : first_move (grid_of 3 1 (codes "...") Never) (record { x = 0; y = 0 })
     (record { x = 2; y = 0 }) ≡ Some E
-unfolding begins least_cost plain_found found_of run_of states_at states_in_row states_on_map
+unfolding begins least_cost
 to_the_right = refl
 
 pub none_at_the_goal : first_move (grid_of 3 1 (codes "...") Never) (record { x = 1; y = 0 })
     (record { x = 1; y = 0 }) ≡ None
-unfolding begins least_cost plain_found found_of run_of states_at states_in_row states_on_map
+unfolding begins least_cost
 none_at_the_goal = refl

@@ -1,6 +1,6 @@
 -- The walk of first moves.
-use Rattle.std.specs.Prelude.{◌≡◌, ◌+◌, ℕ, zero, suc, true, refl, codes, List, [], ◌∷◌, Option, Some, None, ◌⊎◌}
-use Rattle.std.specs.Prelude.{MatchOption}
+use Rattle.std.specs.Prelude.{◌≡◌, ◌+◌, ℕ, zero, suc, true, refl, codes, List, [], ◌∷◌, Option, Some, None}
+use Rattle.std.specs.Prelude.{◌⊎◌, MatchOption}
 use Rattle.std.specs.Option.{option_and_then, option_map, option_map_or}
 use Rattle.root2_cost.specs.declared.Cost.{Cost}
 use Rattle.grid_moves.specs.declared.Cell.{Cell}
@@ -11,9 +11,6 @@ use Rattle.grid_moves.specs.Move.{legal_ahead}
 use Rattle.grid_moves.specs.Walk.{IsLeastWalk, NoWalk, cost_of}
 use Rattle.path_points.specs.declared.points.Walk.{Walk}
 use Rattle.path_points.specs.Corners.{corners}
-use Rattle.search_run.specs.Made.{run_of}
-use Rattle.best_first.specs.Made.{found_of, states_at, states_in_row, states_on_map}
-use Rattle.plain_search.specs.Answer.{plain_found}
 use Rattle.plain_search.specs.Costs.{begins, least_cost}
 use Rattle.plain_search.specs.One.{IsTheOne}
 use Rattle.first_moves.specs.First.{IsFirstMove, first_move}
@@ -75,5 +72,5 @@ pub straight_on : led_walk (grid_of 3 1 (codes "...") Never) (record { x = 0; y 
       points = record { x = 0; y = 0 } ∷ record { x = 2; y = 0 } ∷ [];
       cost = record { a = 2; b = 0 };
     })
-unfolding led_walk begins least_cost plain_found found_of run_of states_at states_in_row states_on_map
+unfolding led_walk begins least_cost
 straight_on = refl

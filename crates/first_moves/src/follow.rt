@@ -32,7 +32,8 @@ fn walk_by<G: Guide, T: Terrain, L: Ledger>(
     requires to { is_free (T.grid t.now) to ≡ true }
     ensures walk { IfOk result (λ o. MatchOption o (NoWalk (T.grid t.now) from to)
         (λ w. IsFollowed (T.grid t.now) from to w.points w.cost)) }
-    ensures stands { IfOk result (λ o. IfSome o (λ w. StandsForLeast (T.grid t.now) from to w.points w.cost)) }
+    ensures stands { IfOk result
+        (λ o. IfSome o (λ w. StandsForLeast (T.grid t.now) from to w.points w.cost)) }
     ensures steps { IfOk result (λ o. MatchOption o (steps.new ≡ steps.old + 1)
         (λ w. steps.new ≡ steps.old + (w.cost.a + w.cost.b))) }
 {
@@ -81,7 +82,8 @@ impl Moves {
         requires to { is_free (T.grid t.now) to ≡ true }
         ensures walk { IfOk result (λ o. MatchOption o (NoWalk (T.grid t.now) from to)
             (λ w. IsFollowed (T.grid t.now) from to w.points w.cost)) }
-        ensures stands { IfOk result (λ o. IfSome o (λ w. StandsForLeast (T.grid t.now) from to w.points w.cost)) }
+        ensures stands { IfOk result
+            (λ o. IfSome o (λ w. StandsForLeast (T.grid t.now) from to w.points w.cost)) }
         ensures steps { IfOk result (λ o. MatchOption o (steps.new ≡ steps.old + 1)
             (λ w. steps.new ≡ steps.old + (w.cost.a + w.cost.b))) }
     {
@@ -104,7 +106,8 @@ pub fn follow_by_pass<T: Terrain, L: Ledger>(
     requires to { is_free (T.grid t.now) to ≡ true }
     ensures walk { IfOk result (λ o. MatchOption o (NoWalk (T.grid t.now) from to)
         (λ w. IsFollowed (T.grid t.now) from to w.points w.cost)) }
-    ensures stands { IfOk result (λ o. IfSome o (λ w. StandsForLeast (T.grid t.now) from to w.points w.cost)) }
+    ensures stands { IfOk result
+        (λ o. IfSome o (λ w. StandsForLeast (T.grid t.now) from to w.points w.cost)) }
     ensures steps { IfOk result (λ o. MatchOption o (steps.new ≡ steps.old + 1)
         (λ w. steps.new ≡ steps.old + (w.cost.a + w.cost.b))) }
 {

@@ -1,6 +1,8 @@
 //! The first moves from one cell, cut into runs.
 
-ghost use Rattle.std.specs.Prelude.{◌≡◌, ◌+◌, ◌*◌, ◌<◌, ◌≤◌, ◌++◌, ◌∷◌, ◌⊎◌, [], true, List, Option, None, map, length, slice_get, Some, slice_index_or, if◌then◌else◌, IfOk, OnOk, OnErr};
+ghost use Rattle.std.specs.Prelude.{◌≡◌, ◌+◌, ◌*◌, ◌<◌, ◌≤◌, ◌++◌, ◌∷◌, ◌⊎◌, [], true, List, Option, None};
+ghost use Rattle.std.specs.Prelude.{map, length, slice_get, Some, slice_index_or, if◌then◌else◌, IfOk, OnOk};
+ghost use Rattle.std.specs.Prelude.{OnErr};
 ghost use Rattle.grid_moves.specs.declared.Cell.{Cell};
 ghost use Rattle.grid_moves.specs.declared.Dir.{Dir};
 ghost use Rattle.grid_moves.specs.Grid.{GridData, is_free, is_inside};

@@ -17,7 +17,8 @@ unfolding boxed_found
 is_run g s t = record {
   box = box_of g;
   tells = tells_boxes g;
-  run = found_answers g.width g.height t (boxed_links g (box_of g) t) (boxed_are_links g (box_of g) t) corners s;
+  run = found_answers g.width g.height t (boxed_links g (box_of g) t)
+      (boxed_are_links g (box_of g) t) corners s;
 }
 
 pub answers_are : AnswersAre IsBoxedRunOn boxed_found

@@ -15,8 +15,7 @@ use Rattle.cost_waves.specs.Begin.{Begins}
 use Rattle.cost_waves.specs.Stored.{WaveData, begins_with, Tells}
 use Rattle.goal_boxes.specs.declared.area.Area.{Area}
 use Rattle.goal_boxes.specs.Box.{IsAreaOf, IsBox, IsLeastArea, box_in, holds, widened, with_cell}
-use Rattle.goal_boxes.specs.Wide.{Scanned, IsReached, Met, NoneReached, IsFirstReached}
-use Rattle.goal_boxes.specs.Wide.{IsLastReached}
+use Rattle.goal_boxes.specs.Wide.{Scanned, IsReached, Met, NoneReached, IsFirstReached, IsLastReached}
 
 -- what it is to lie in a rectangle
 pub record LiesIn (a : Area) (c : Cell) : Type 0 where

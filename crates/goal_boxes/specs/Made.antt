@@ -6,10 +6,8 @@ use Rattle.grid_moves.specs.declared.Dir.{Dir}
 use Rattle.grid_moves.specs.declared.Dir.TheVariants.{E, W}
 use Rattle.grid_moves.specs.Grid.{GridData, grid_of, is_free}
 use Rattle.path_points.specs.Corners.{corners}
-use Rattle.search_run.specs.Made.{run_of}
 use Rattle.best_first.specs.declared.found.Found.{Found}
-use Rattle.best_first.specs.Made.{found_of, states_at, states_in_row, states_on_map}
-use Rattle.plain_search.specs.Answer.{plain_found}
+use Rattle.best_first.specs.Made.{found_of}
 use Rattle.plain_search.specs.Costs.{begins, least_cost}
 use Rattle.plain_search.specs.One.{IsTheOne}
 use Rattle.goal_boxes.specs.declared.area.Area.{Area}
@@ -29,7 +27,8 @@ abbrev pub over_rows : (Cell → Bool) → ℕ → ℕ → Option Area
 over_rows has width zero = None
 over_rows has width (suc y) = over_columns has y width (over_rows has width y)
 
--- the box of u in direction d: over all cells to which some least walk from u begins with a move in direction d
+-- the box of u in direction d: over all cells to which some least walk from u begins
+-- with a move in direction d
 unfoldable pub box_of : GridData → Cell → Dir → Option Area
 box_of g u d = over_rows (λ (t : Cell). begins g u t d) g.width g.height
 
@@ -44,9 +43,9 @@ boxed_found g s t = found_of g.width g.height t (boxed_links g (box_of g) t) cor
 -- worked rows on the map `...`: from the left cell the two others lie to the right, and none to the left
 pub right_of_it : box_of (grid_of 3 1 (codes "...") Never) (record { x = 0; y = 0 }) E
     ≡ Some (record { x0 = 1; y0 = 0; x1 = 2; y1 = 0 })
-unfolding box_of begins least_cost plain_found found_of run_of states_at states_in_row states_on_map
+unfolding box_of begins least_cost
 right_of_it = refl
 
 pub none_left_of_it : box_of (grid_of 3 1 (codes "...") Never) (record { x = 0; y = 0 }) W ≡ None
-unfolding box_of begins least_cost plain_found found_of run_of states_at states_in_row states_on_map
+unfolding box_of begins least_cost
 none_left_of_it = refl

@@ -6,7 +6,8 @@ ghost use Rattle.best_first.specs.Table.{node_for, ClosedBelow};
 ghost use Rattle.best_first.specs.Trace.{node_cell};
 ghost use Rattle.plain_search.specs.Offers.{offer_to};
 ghost use Rattle.goal_boxes.specs.Box.{box_in};
-ghost use Rattle.goal_boxes.specs.Offers.{Agree, toward, offered_over, all_offered, MayOffer, MayExpand, HasExpanded};
+ghost use Rattle.goal_boxes.specs.Offers.{Agree, toward, offered_over, all_offered, MayOffer, MayExpand};
+ghost use Rattle.goal_boxes.specs.Offers.{HasExpanded};
 ghost use Rattle.goal_boxes.specs.Rule.{is_toward};
 
 use crate::around::CellBoxes;

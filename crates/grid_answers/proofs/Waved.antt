@@ -1,7 +1,8 @@
 -- The lines of costs.
-use Rattle.std.proofs.Common.{◌≡◌, ◌≤◌, ◌<◌, ◌+◌, ◌-◌, zero, suc, refl, sym, ap, ◌∙◌, subst, List, [], ◌∷◌, ◌++◌}
-use Rattle.std.proofs.Common.{ℕ, Bool, true, false, inl, inr, map, append-nil, append_assoc, arith}
-use Rattle.std.specs.Prelude.{◌≢◌, ◌&&◌, nat_lt, if◌then◌else◌, codes, OnOk, Option, Some, None, Result, Ok, Err}
+use Rattle.std.proofs.Common.{◌≡◌, ◌≤◌, ◌<◌, ◌+◌, ◌-◌, zero, suc, refl, sym, ap, ◌∙◌, subst, List, [], ◌∷◌}
+use Rattle.std.proofs.Common.{◌++◌, ℕ, Bool, true, false, inl, inr, map, append-nil, append_assoc, arith}
+use Rattle.std.specs.Prelude.{◌≢◌, ◌&&◌, nat_lt, if◌then◌else◌, codes, OnOk, Option, Some, None, Result, Ok}
+use Rattle.std.specs.Prelude.{Err}
 use Rattle.std.specs.Global.{Vec}
 use Rattle.std.proofs.lemmas.Bool.Decides.{nat_tests}
 use Rattle.std.proofs.lemmas.List.{map-append, map-id}
@@ -14,7 +15,8 @@ use Rattle.grid_moves.specs.declared.Cell.{Cell}
 use Rattle.grid_moves.specs.Grid.{GridData, is_free}
 use Rattle.grid_moves.proofs.Legal.{free_inside}
 use Rattle.grid_moves.specs.Layers.{Layers, is_free_ground, query_grid}
-use Rattle.grid_answers.specs.Distances.{cost_field, costs_answer, row_line, cost_lines, line_of_costs, fields_to}
+use Rattle.grid_answers.specs.Distances.{cost_field, costs_answer, row_line, cost_lines, line_of_costs}
+use Rattle.grid_answers.specs.Distances.{fields_to}
 use Rattle.plain_search.specs.Costs.{least_cost}
 use Rattle.plain_search.proofs.LeastCosts.{costs_are}
 use Rattle.move_field.specs.Field.{field_text}
@@ -114,7 +116,8 @@ fields-same p q (suc n) same =
 -- what a pass from a free cell stores are its least costs
 module _ (g : GridData) (s : Cell) (free : is_free g s ≡ true) (w : WaveData) (tells : Tells g s w)
     (wide : w.width ≡ g.width) (high : w.height ≡ g.height) where
-  cost-is : (y x : ℕ) → y < g.height → x < g.width → row_costs w y x ≡ least_cost g s (record { x = x; y = y })
+  cost-is : (y x : ℕ) → y < g.height → x < g.width → row_costs w y x
+      ≡ least_cost g s (record { x = x; y = y })
   cost-is y x low near =
       let c : Cell = record { x = x; y = y } in
       within (nat_lt x w.width) (nat_lt y w.height) (cost_at w c)
@@ -178,7 +181,8 @@ rows-next line n start at now before put =
   where
     concat-snoc : (ls : List (List ℕ)) (l : List ℕ) → concat (ls ++ l ∷ []) ≡ concat ls ++ l
     concat-snoc [] l = append-nil l
-    concat-snoc (k ∷ ls) l = ap (λ (t : List ℕ). k ++ t) (concat-snoc ls l) ∙ sym (append_assoc k (concat ls) l)
+    concat-snoc (k ∷ ls) l = ap (λ (t : List ℕ). k ++ t) (concat-snoc ls l)
+        ∙ sym (append_assoc k (concat ls) l)
 
 -- a word with the sides, and all rows
 pub framed-rows : (ls : Layers) (s : Cell) (w : WaveData) (g : GridData) (h : ℕ) (frame text : List ℕ)

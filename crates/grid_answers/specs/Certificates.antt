@@ -6,23 +6,31 @@ use Rattle.grid_moves.specs.declared.Cell.{Cell}
 use Rattle.grid_moves.specs.Layers.{Layers, in_one_layer, is_on_map, query_grid, shore}
 use Rattle.grid_moves.specs.Reply.{are_free_ends}
 use Rattle.cell_lines.specs.Cells.{cell_text}
+use Rattle.path_points.specs.declared.points.Walk.{Walk}
 use Rattle.potential_check.specs.declared.verdict.Proof.{Proof}
 use Rattle.potential_check.specs.declared.verdict.Proof.TheVariants as proof
 use Rattle.potential_check.specs.declared.verdict.Reject.{Reject}
 use Rattle.potential_check.specs.declared.verdict.Reject.TheVariants as reject
-use Rattle.potential_make.specs.Made.{made_certificate}
+use Rattle.potential_make.specs.Made.{certificate_on, made_certificate}
 
--- the line that says why nothing is proved of the walks from s to t: an end lies outside, or is neither land nor
--- water, or one is land and the other water
+-- the line that says why nothing is proved of the walks from s to t: an end lies outside, or is neither land
+-- nor water, or one is land and the other water
 abbrev pub why_unproved : Layers → Cell → Cell → Option (List ℕ)
 why_unproved ls s t = if is_on_map ls s && is_on_map ls t
     then (if are_free_ends ls s t
     then (if in_one_layer ls s t then None else Some (codes "apart\n")) else Some (codes "blocked\n"))
     else Some (codes "outside\n")
 
--- what is printed for a query from s to t: that line, or else the certificate on the grid of the query
+-- what is printed for a query from s to t, where this walk was found on its grid, or none: that line, or else
+-- the certificate
+abbrev pub proof_by : Layers → Cell → Cell → Option Walk → List ℕ
+proof_by ls s t walk = option_map_or (λ line. line) (why_unproved ls s t)
+    (certificate_on (query_grid ls s) s t walk)
+
+-- and where the plain engine finds it
 unfoldable pub proof_answer : Layers → Cell → Cell → List ℕ
-proof_answer ls s t = option_map_or (λ line. line) (why_unproved ls s t) (made_certificate (query_grid ls s) s t)
+proof_answer ls s t = option_map_or (λ line. line) (why_unproved ls s t)
+    (made_certificate (query_grid ls s) s t)
 
 -- and the status
 unfoldable pub proof_status : Layers → Cell → Cell → ℕ

@@ -23,7 +23,8 @@ fields_to costs (suc n) = fields_to costs n ++ codes " " ++ cost_field (costs (s
 abbrev pub line_of_costs : ℕ → (ℕ → Option Cost) → List ℕ
 line_of_costs width costs = fields_to costs (width - 1) ++ codes "\n"
 
--- the line of a row: for each of its cells what a least walk from s to it costs, or `-`, where none leads there
+-- the line of a row: for each of its cells what a least walk from s to it costs, or `-`,
+-- where none leads there
 abbrev pub row_line : GridData → Cell → ℕ → List ℕ
 row_line g s y = line_of_costs g.width (λ x. least_cost g s (record { x = x; y = y }))
 

@@ -1,5 +1,5 @@
--- What a session prints of the costs from a cell, and of the first moves to it: a line with the map's sides, and the
--- lines of its rows.
+-- What a session prints of the costs from a cell, and of the first moves to it: a line with the map's sides,
+-- and the lines of its rows.
 use Rattle.std.specs.Prelude.{ℕ, List, ◌++◌, codes, decimal}
 use Rattle.std.specs.List.{concat}
 use Rattle.grid_moves.specs.declared.Cell.{Cell}

@@ -1,6 +1,5 @@
 -- How far the lines of costs have come, and what is written of them.
-use Rattle.std.specs.Prelude.{◌≡◌, ℕ, nat_lt, ◌&&◌, if◌then◌else◌, List, map}
-use Rattle.std.specs.Prelude.{Option, None}
+use Rattle.std.specs.Prelude.{◌≡◌, ℕ, nat_lt, ◌&&◌, if◌then◌else◌, List, map, Option, None}
 use Rattle.root2_cost.specs.declared.Cost.{Cost}
 use Rattle.cost_waves.specs.Stored.{WaveData, cost_at}
 use Rattle.grid_moves.specs.declared.Cell.{Cell}

@@ -1,6 +1,5 @@
 -- What `moves` prints.
-use Rattle.std.specs.Prelude.{◌≡◌, ◌%◌, ◌/◌, ℕ, List, ◌++◌, codes, decimal, Option, Some, None}
-use Rattle.std.specs.Prelude.{refl}
+use Rattle.std.specs.Prelude.{◌≡◌, ◌%◌, ◌/◌, ℕ, List, ◌++◌, codes, decimal, Option, Some, None, refl}
 use Rattle.first_moves.specs.declared.row.Run.{Run}
 use Rattle.first_moves.specs.Row.{row_of}
 use Rattle.grid_moves.specs.declared.Cell.{Cell}

@@ -46,7 +46,8 @@ fn put_box(out: &mut Vec<u8>, boxes: CellBoxes, d: Dir) -> Result<(), NoMemory>
 
 // Appends a line for each of these directions.
 fn put_boxes(out: &mut Vec<u8>, boxes: CellBoxes, dirs: &[Dir]) -> Result<(), NoMemory>
-    ensures { OnOk result (out.new.items ≡ out.old.items ++ texts_of (spec.box_line (box_in boxes)) dirs.now) }
+    ensures { OnOk result
+        (out.new.items ≡ out.old.items ++ texts_of (spec.box_line (box_in boxes)) dirs.now) }
 {
     for d in dirs {
         put_box(out, boxes, *d)?;

@@ -10,7 +10,8 @@ use grid_moves::{Cell, Layers};
 /// of it.
 pub(crate) fn free_cell(layers: &Layers, x: u32, y: u32) -> Result<Cell, &'static [u8]>
     ensures { MatchResult result
-        (λ c. (c ≡ record { x = x; y = y }) × (is_free_ground layers.now c ≡ true) × (why_untold layers.now c ≡ None))
+        (λ c. (c ≡ record { x = x; y = y }) × (is_free_ground layers.now c ≡ true)
+        × (why_untold layers.now c ≡ None))
         (λ line. why_untold layers.now (record { x = x; y = y }) ≡ Some line.now) }
 {
     match layers.cell_at(x, y) {

@@ -77,8 +77,8 @@ fn reject_line(alloc: Global, reject: Reject) -> Result<Vec<u8>, NoMemory>
     }
 }
 
-/// The line of a certificate on a grid, and the status: by what the certificate comes to, which is right by the
-/// laws of potential_check.
+/// The line of a certificate on a grid, and the status: by what the certificate comes to, which is right by
+/// the laws of potential_check.
 pub fn verdict(alloc: Global, grid: &Grid, certificate: &Certificate) -> Result<Printed, NoMemory>
     ensures text { IfOk result (λ p. p.text.items ≡
         spec.verdict_line (certificate_answer grid.now (plain certificate.now))) }

@@ -1,5 +1,5 @@
-//! The costs from a cell, or the field of first moves to it, as one text, for a session: the map's sides first, so
-//! that who reads knows how many lines follow.
+//! The costs from a cell, or the field of first moves to it, as one text, for a session: the map's sides
+//! first, so that who reads knows how many lines follow.
 
 ghost use Rattle.std.specs.Prelude.{◌≡◌, ◌++◌, true, IfOk, OnOk, map, None};
 ghost use Rattle.std.specs.List.{concat, range_with_len};
@@ -55,7 +55,8 @@ fn costs_text(alloc: Global, layers: &Layers, from: Cell) -> Result<Vec<u8>, NoM
     Ok(text)
 }
 
-/// The costs from the cell of this column and row, by one pass over the grid of the cell, or why there are none.
+/// The costs from the cell of this column and row, by one pass over the grid of the cell,
+/// or why there are none.
 pub fn framed_costs(alloc: Global, layers: &Layers, x: u32, y: u32) -> Result<Vec<u8>, NoMemory>
     ensures { IfOk result (λ text. text.items ≡ spec.framed_costs layers.now (record { x = x; y = y })) }
 {
@@ -82,8 +83,8 @@ fn field_to(alloc: Global, layers: &Layers, to: Cell) -> Result<Vec<u8>, NoMemor
     Ok(text)
 }
 
-/// The field of first moves to the cell of this column and row, by one pass over the grid of the cell, or why there
-/// is none.
+/// The field of first moves to the cell of this column and row, by one pass over the grid of the cell,
+/// or why there is none.
 pub fn framed_field(alloc: Global, layers: &Layers, x: u32, y: u32) -> Result<Vec<u8>, NoMemory>
     ensures { IfOk result (λ text. text.items ≡ spec.framed_field layers.now (record { x = x; y = y })) }
 {

@@ -40,9 +40,11 @@ fn proof_between(alloc: Global, layers: &Layers, from: Cell, to: Cell) -> Result
 
 /// What is printed for a query: the certificate, or the line that says why there is none.
 pub fn proof_of(alloc: Global, layers: &Layers, ends: AskedEnds) -> Result<Printed, NoMemory>
-    ensures text { IfOk result (λ p. p.text.items ≡ proof_answer layers.now (record { x = ends.sx; y = ends.sy })
+    ensures text { IfOk result
+        (λ p. p.text.items ≡ proof_answer layers.now (record { x = ends.sx; y = ends.sy })
         (record { x = ends.gx; y = ends.gy })) }
-    ensures status { IfOk result (λ p. p.status ≡ proof_status layers.now (record { x = ends.sx; y = ends.sy })
+    ensures status { IfOk result
+        (λ p. p.status ≡ proof_status layers.now (record { x = ends.sx; y = ends.sy })
         (record { x = ends.gx; y = ends.gy })) }
 {
     match proved_ends(layers, ends) {

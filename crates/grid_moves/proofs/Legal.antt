@@ -1,13 +1,11 @@
 -- What the test of a legal move says.
-use Rattle.std.proofs.Common.{◌≡◌, ℕ, ◌+◌, ◌<◌, ◌≤◌, arith, Bool, true, false, refl, ap, ◌∙◌, ◌&&◌}
-use Rattle.std.proofs.Common.{◌||◌}
+use Rattle.std.proofs.Common.{◌≡◌, ℕ, ◌+◌, ◌<◌, ◌≤◌, arith, Bool, true, false, refl, ap, ◌∙◌, ◌&&◌, ◌||◌}
 use Rattle.std.proofs.lemmas.Bool.Decides.{nat_tests}
 use Rattle.grid_moves.specs.declared.Cell.{Cell}
 use Rattle.grid_moves.specs.declared.Corner.{Corner}
 use Rattle.grid_moves.specs.declared.Corner.TheVariants.{Never, One, Both}
 use Rattle.grid_moves.specs.Grid.{GridData, is_free}
-use Rattle.grid_moves.specs.Move.{is_legal, is_same, are_neighbours, corner_of, is_passable}
-use Rattle.grid_moves.specs.Move.{may_cut}
+use Rattle.grid_moves.specs.Move.{is_legal, is_same, are_neighbours, corner_of, is_passable, may_cut}
 
 pub record IsLegal (g : GridData) (u v : Cell) : Type 0 where
   pub source : is_free g u ≡ true

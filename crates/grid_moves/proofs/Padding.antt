@@ -1,12 +1,12 @@
 -- A grid with a border of blocked cells: what stands at its places.
 use Rattle.std.proofs.lemmas.Bool.Decides.{nat_tests}
 use Rattle.std.proofs.lemmas.Bool.{cases_eq, cases_lt, cases_order}
-use Rattle.std.proofs.lemmas.List.{ext_get_or, get_or-map, get_or-replicate, get_or_default, get_or_past, length-replicate}
-use Rattle.std.proofs.lemmas.List.{get_or-take, get_or-drop}
+use Rattle.std.proofs.lemmas.List.{ext_get_or, get_or-map, get_or-replicate, get_or_default, get_or_past}
+use Rattle.std.proofs.lemmas.List.{length-replicate, get_or-take, get_or-drop}
 use Rattle.std.proofs.lemmas.Nat.{div-add-mod', div_below, mod_below, row_fits, same_from_place}
-use Rattle.std.proofs.Common.{◌≡◌, ℕ, zero, suc, ◌+◌, ◌*◌, ◌/◌, ◌%◌, ◌<◌, ◌≤◌, ◌⊎◌, inl, inr, arith, refl, ap, sym}
-use Rattle.std.proofs.Common.{subst, ◌∙◌, Bool, true, false, ◌&&◌, List, length, get_or, set, replicate, take, drop}
-use Rattle.std.proofs.Common.{get_or-set_other, get_or-set_same, length-set}
+use Rattle.std.proofs.Common.{◌≡◌, ℕ, zero, suc, ◌+◌, ◌*◌, ◌/◌, ◌%◌, ◌<◌, ◌≤◌, ◌⊎◌, inl, inr, arith, refl, ap}
+use Rattle.std.proofs.Common.{sym, subst, ◌∙◌, Bool, true, false, ◌&&◌, List, length, get_or, set, replicate}
+use Rattle.std.proofs.Common.{take, drop, get_or-set_other, get_or-set_same, length-set}
 use Rattle.std.specs.Prelude.{Option, Some, None, slice_index_or, nat_le}
 use borrow.Rule.Slice.PartMut.{put_mid}
 use Rattle.grid_moves.specs.declared.Cell.{Cell}
@@ -14,11 +14,11 @@ use Rattle.grid_moves.specs.declared.Corner.{Corner}
 use Rattle.grid_moves.specs.declared.Dir.{Dir}
 use Rattle.grid_moves.specs.declared.Dir.TheVariants.{N, NE, E, SE, S, SW, W, NW}
 use Rattle.grid_moves.specs.declared.Ground.{Ground}
-use Rattle.grid_moves.specs.Grid.{GridData, AreCells, is_free, is_inside, is_ground, ground_of, layer_of, grid_with}
+use Rattle.grid_moves.specs.Grid.{GridData, AreCells, is_free, is_inside, is_ground, ground_of, layer_of}
+use Rattle.grid_moves.specs.Grid.{grid_with}
 use Rattle.grid_moves.specs.Move.{ahead, is_open, is_same}
 use Rattle.grid_moves.specs.Padded.{place_of, places, stored, column_of, row_of, listed, inner, grid_in}
-use Rattle.grid_moves.specs.Padded.{AreStored}
-use Rattle.grid_moves.specs.Padded.{IsPadded}
+use Rattle.grid_moves.specs.Padded.{AreStored, IsPadded}
 use Rattle.grid_moves.proofs.Edited.{is_free-with_same, is_free-with_other, is_grid-with}
 use Rattle.grid_moves.proofs.Legal.{is_same-cell}
 use Rattle.grid_moves.proofs.Layering.{is_grid-layer}
@@ -40,10 +40,12 @@ place_below w x y r h k = let f = row_fits y (w + 1) r (w + 1) k (omega arith) i
 
 -- each column and row has a place
 pub place_inside : (w h x y : ℕ) → x ≤ w + 1 → y ≤ h + 1 → place_of w x y < places w h
-place_inside w h x y k l = let f = row_fits y (w + 1) (h + 2) (w + 1) (omega arith) (omega arith) in omega arith
+place_inside w h x y k l = let f = row_fits y (w + 1) (h + 2) (w + 1) (omega arith)
+    (omega arith) in omega arith
 
 -- on the map
-on_map : (g : GridData) (x y : ℕ) → x < g.width → y < g.height → (b : Bool) → (is_inside g (record { x = x; y = y }) && b) ≡ b
+on_map : (g : GridData) (x y : ℕ) → x < g.width → y < g.height → (b : Bool)
+    → (is_inside g (record { x = x; y = y }) && b) ≡ b
 on_map g x y h k b = rw (inside_from g (record { x = x; y = y }) h k) refl
 
 -- the cells by number are those of the grid
@@ -238,7 +240,8 @@ none_filled w n free cells e x y h =
       where
         by_order : (i < n) ⊎ (n ≤ i) → get_or (replicate n false) i false ≡ false
         by_order (inl l) = get_or-replicate n i false false l
-        by_order (inr l) = get_or_past (replicate n false) i false (let k = length-replicate n false in omega arith)
+        by_order (inr l) = get_or_past (replicate n false) i false
+            (let k = length-replicate n false in omega arith)
 
     shut : (x y : ℕ) → false ≡ (nat_le y 0 && stored free x y)
     shut zero zero = refl

@@ -1,7 +1,6 @@
 -- A least walk comes to no cell twice, so it has fewer steps than the map has cells.
-use Rattle.std.proofs.Common.{◌≡◌, ℕ, suc, ◌+◌, ◌*◌, ◌^◌, ◌<◌, ◌≤◌, arith, length, List, [], ◌∷◌}
-use Rattle.std.proofs.Common.{Bool, true, false, ◌||◌, map, eqb, refl, ap, sym, subst}
-use Rattle.std.proofs.Common.{mul-le-mul}
+use Rattle.std.proofs.Common.{◌≡◌, ℕ, suc, ◌+◌, ◌*◌, ◌^◌, ◌<◌, ◌≤◌, arith, length, List, [], ◌∷◌, Bool, true}
+use Rattle.std.proofs.Common.{false, ◌||◌, map, eqb, refl, ap, sym, subst, mul-le-mul}
 use Rattle.std.specs.List.{IsDistinct, AllByRecursion, list_any}
 use Rattle.std.proofs.lemmas.Map.Steps.{length-le_from_distinct_below}
 use Rattle.std.proofs.lemmas.Bool.{ne_eqb}

@@ -30,8 +30,8 @@ IsUnsearched ls s t Outside = (is_on_map ls s && is_on_map ls t) ≡ false
 IsUnsearched ls s t Blocked = ((is_on_map ls s && is_on_map ls t) ≡ true) × (are_free_ends ls s t ≡ false)
 IsUnsearched ls s t (Apart ends) = AreApart ls s t ends
 
--- worked rows on the map `.WW/.WW`: along its land, from its land to its water, onto a block, outside, and from
--- outside onto a block
+-- worked rows on the map `.WW/.WW`: along its land, from its land to its water, onto a block, outside, and
+-- from outside onto a block
 abbrev pub land_and_water : Ends
 land_and_water = record { from = record { x = 0; y = 0 }; to = record { x = 1; y = 1 } }
 
@@ -42,7 +42,8 @@ down_the_land = record { from = refl; to = refl; on = refl; free = refl; one = r
 pub from_land_to_water : IsUnsearched shore land_and_water.from land_and_water.to (Apart land_and_water)
 from_land_to_water = record { from = refl; to = refl; on = refl; free = refl; two = refl }
 
-pub onto_a_block : IsUnsearched (layers_with shore (record { x = 1; y = 1 }) ground.Blocked) land_and_water.from
+pub onto_a_block : IsUnsearched
+    (layers_with shore (record { x = 1; y = 1 }) ground.Blocked) land_and_water.from
     land_and_water.to Blocked
 onto_a_block = (refl, refl)
 

@@ -1,9 +1,9 @@
 -- Legal moves: eight directions, and a corner rule.
 -- No corner is cut: Harabor and Grastien, SoCS 2012. One blocked cell may be passed: their AAAI 2011. Two may
 -- be: Godot's grid unless set otherwise.
-use Rattle.std.specs.Prelude.{◌≡◌, ℕ, zero, suc, ◌+◌, ◌-◌, Option, Some, None, Bool, true, false, nat_le, nat_eq}
-use Rattle.std.specs.Prelude.{not, ◌&&◌, ◌||◌, refl, List, [], ◌∷◌, if◌then◌else◌, option_and_then, unwrap_or}
-use Rattle.std.specs.Prelude.{codes, slice_get}
+use Rattle.std.specs.Prelude.{◌≡◌, ℕ, zero, suc, ◌+◌, ◌-◌, Option, Some, None, Bool, true, false, nat_le}
+use Rattle.std.specs.Prelude.{nat_eq, not, ◌&&◌, ◌||◌, refl, List, [], ◌∷◌, if◌then◌else◌, option_and_then}
+use Rattle.std.specs.Prelude.{unwrap_or, codes, slice_get}
 use Rattle.root2_cost.specs.declared.Cost.{Cost}
 use Rattle.grid_moves.specs.declared.Cell.{Cell}
 use Rattle.grid_moves.specs.declared.Dir.{Dir}
@@ -163,10 +163,6 @@ row_after NW k y = y - k
 -- the cell after so many moves, where they do not lead off the map's upper or left side
 abbrev pub cell_after : Dir → ℕ → Cell → Cell
 cell_after d k c = record { x = column_after d k c.x; y = row_after d k c.y }
-
--- the cell behind, from which a move in this direction comes, if there is one
-abbrev pub behind : Dir → Cell → Option Cell
-behind d c = ahead (opposite d) c
 
 -- the cell is free, if there is one
 abbrev pub is_free_cell : GridData → Option Cell → Bool

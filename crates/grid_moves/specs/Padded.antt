@@ -1,6 +1,6 @@
--- How a grid lies in memory: with a border of blocked cells around it. What a `Grid` stands for is told by it.
--- Columns and rows are counted from 1 here, and the border stands before the first ones and behind the last
--- ones. What stands behind the last column is the place before the first one of the next row.
+-- How a grid lies in memory: with a border of blocked cells around it. What a `Grid` stands for is told by
+-- it. Columns and rows are counted from 1 here, and the border stands before the first ones and behind the
+-- last ones. What stands behind the last column is the place before the first one of the next row.
 use Rattle.std.specs.Prelude.{◌≡◌, ℕ, zero, suc, ◌+◌, ◌*◌, ◌/◌, ◌%◌, ◌≤◌, Bool, false, List, [], ◌∷◌}
 use Rattle.std.specs.Prelude.{length, slice_index_or, true, refl}
 use Rattle.grid_moves.specs.declared.Cell.{Cell}

@@ -84,8 +84,8 @@ fn is_open_past<T: Terrain>(t: &T, c: Cell, d: Dir, passes: bool) -> bool
     passes & t.open(c, d)
 }
 
-/// The legal moves from a free cell, with the cells around it read once. These are no `Ring` here: its eight flags
-/// would be packed into a word, and a plain search would take a sixth more instructions.
+/// The legal moves from a free cell, with the cells around it read once. These are no `Ring` here: its eight
+/// flags would be packed into a word, and a plain search would take a sixth more instructions.
 #[inline(always)]
 pub fn moves_around<T: Terrain>(t: &T, c: Cell) -> Around
     requires free { is_free (T.grid t.now) c ≡ true }

@@ -1,6 +1,7 @@
 //! A grid in memory.
 
-ghost use Rattle.std.specs.Prelude.{◌≡◌, ◌≢◌, ℕ, suc, ◌+◌, ◌*◌, ◌<◌, IfOk, IsTrue, false, length, replicate, slice_index_or};
+ghost use Rattle.std.specs.Prelude.{◌≡◌, ◌≢◌, ℕ, suc, ◌+◌, ◌*◌, ◌<◌, IfOk, IsTrue, false, length, replicate};
+ghost use Rattle.std.specs.Prelude.{slice_index_or};
 ghost use Rattle.grid_moves.specs.Grid as spec;
 ghost use Rattle.grid_moves.specs.Padded as padded;
 
@@ -117,7 +118,8 @@ impl Model for Grid {
 }
 
 impl Grid {
-    ghost use Rattle.grid_moves.specs.Grid.{AreCells, grid_of, grid_with, is_free, is_ground, is_inside, layer_of};
+    ghost use Rattle.grid_moves.specs.Grid.{AreCells, grid_of, grid_with, is_free, is_ground, is_inside};
+    ghost use Rattle.grid_moves.specs.Grid.{layer_of};
 
     /// The land grid of a map: `.`, `G` and `S` are free, all other bytes blocked.
     ///

@@ -4,8 +4,8 @@
 //! free, as in Harabor and Grastien's work from SoCS 2012 on, or at least one of the two, as in their paper
 //! of AAAI 2011, or none of them, as in Godot's grid unless set otherwise. A map has two grids, its land and
 //! its water. The definitions that every answer of `jps` rests on stand in this crate's specs: map and grids,
-//! legal move, walk and its cost, least walk, unfolding of points, right reply. They know lists of cells, moves
-//! and sums only.
+//! legal move, walk and its cost, least walk, unfolding of points, right reply. They know lists of cells,
+//! moves and sums only.
 #![tactic(auto)]
 
 mod around;
@@ -24,8 +24,7 @@ pub use ends::{Ends, Unsearched};
 pub use grid::{Grid, ground_of};
 pub use layers::Layers;
 pub use moves::{
-    before, beyond, cell_ahead, cell_behind, dir_number, dir_of_number, estimate, move_cost,
-    opposite,
+    before, beyond, cell_ahead, dir_number, dir_of_number, estimate, move_cost, opposite,
 };
 pub use ring::Ring;
 pub use ruled::{Ruled, rule_of_number};

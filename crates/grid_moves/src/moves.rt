@@ -1,4 +1,4 @@
-//! Directions, what lies ahead of a cell and behind it, and costs of moves.
+//! Directions, what lies ahead of a cell, and costs of moves.
 
 ghost use Rattle.std.specs.Prelude.{◌≡◌, ◌<◌, unwrap_or};
 ghost use Rattle.grid_moves.specs.Move as spec;
@@ -143,14 +143,4 @@ pub fn beyond(c: Cell, d: Dir) -> Cell
         Dir::W => Cell { x: left, y: c.y },
         Dir::NW => Cell { x: left, y: up },
     }
-}
-
-/// The cell that lies behind, from which a move in this direction comes, if there is one. It may lie
-/// outside the map, to the right or below.
-pub fn cell_behind(d: Dir, c: Cell) -> Option<Cell>
-    requires column { c.x < 65535 }
-    requires row { c.y < 65535 }
-    ensures { result ≡ spec.behind d c }
-{
-    cell_ahead(opposite(d), c)
 }

@@ -19,10 +19,10 @@ mod real;
 mod sure;
 mod whole;
 
-/// Want of memory.
 pub use memory::{MemFiles, MemSink, MemSource};
 pub use outside::{Failed, Files, Sink, Source};
 pub use real::{RealFiles, RealIn, RealOut};
+/// Want of memory.
 pub use std::alloc::AllocError as NoMemory;
 pub use sure::{SureFiles, SureSink, SureSource};
 pub use whole::{ReadStop, WriteFault, read_whole, write_whole};

@@ -19,8 +19,8 @@ use std::{fs, io, rt};
 // The system opens no file of a longer name.
 const LONGEST_NAME: usize = 4096;
 
-/// The files of the system, of which the one that was read last stays open until its end was read. One count of
-/// faults serves for every name.
+/// The files of the system, of which the one that was read last stays open until its end was read. One count
+/// of faults serves for every name.
 #[derive(Drop)]
 pub struct RealFiles<'a, R: rt::Files> {
     rt: &'a R,
@@ -84,8 +84,8 @@ fn read_once<R: rt::Files>(
 }
 
 impl<'a, R: rt::Files> RealFiles<'a, R> {
-    // The file that is open, where it is the one of this name and more than its first bytes are asked for. So a
-    // file is opened for its first byte, and then read on, though another one may have taken its name.
+    // The file that is open, where it is the one of this name and more than its first bytes are asked for. So
+    // a file is opened for its first byte, and then read on, though another one may have taken its name.
     fn opened(&mut self, name: &str, place: u64) -> Option<R::File>
         ensures { self.new ≡ self.old }
     {

@@ -1,7 +1,6 @@
 //! Objects that never fail.
 
-ghost use Rattle.std.specs.Prelude.{◌≡◌, ◌+◌, ◌-◌, ◌^◌, ◌<◌, ◌≤◌, min, length, IfOk};
-ghost use Rattle.std.specs.Prelude.{None, Some, Ok};
+ghost use Rattle.std.specs.Prelude.{◌≡◌, ◌+◌, ◌-◌, ◌^◌, ◌<◌, ◌≤◌, min, length, IfOk, None, Some, Ok};
 ghost use Rattle.std.specs.Io.KnownBytes.{WriteAppends};
 ghost use Rattle.io_edge.specs.Causes.{HasCause};
 ghost use Rattle.io_edge.specs.Memory.{held_surely};

@@ -118,7 +118,8 @@ fn read_behind<F: Files>(
     ensures bound { IfOk result (λ n. filled + n ≤ length bytes.old.items) }
     ensures bytes { ReadsAt ((F.disk files.old).holds name.now) filled result (drop filled bytes.new.items) }
     ensures unchanged { (F.disk files.new).holds ≡ (F.disk files.old).holds }
-    ensures fault { OnErr result (Rose ((F.disk files.old).faults name.now) ((F.disk files.new).faults name.now)) }
+    ensures fault { OnErr result
+        (Rose ((F.disk files.old).faults name.now) ((F.disk files.new).faults name.now)) }
     ensures later { NoneFell (F.disk files.old).faults (F.disk files.new).faults }
 {
     let buf = bytes.as_mut_slice();
@@ -131,7 +132,8 @@ fn read_behind<F: Files>(
 pub fn write_whole<S: Sink>(sink: &mut S, bytes: &[u8]) -> Result<(), WriteFault>
     ensures ok { OnOk result (Appends (S.outflow sink.old).written (S.outflow sink.new).written bytes.now) }
     ensures fault { OnErr result (Rose (S.outflow sink.old).faults (S.outflow sink.new).faults) }
-    ensures part { OnErr result (AppendsSome (S.outflow sink.old).written (S.outflow sink.new).written bytes.now) }
+    ensures part { OnErr result
+        (AppendsSome (S.outflow sink.old).written (S.outflow sink.new).written bytes.now) }
     ensures later { (S.outflow sink.old).faults ≤ (S.outflow sink.new).faults }
 {
     let mut count: usize = 0;

@@ -8,8 +8,7 @@ use Rattle.std.specs.Prelude.{Option, Some, None, nat_eq, if◌then◌else◌}
 use Rattle.std.proofs.lemmas.Bool.Decides.{nat_tests}
 use Rattle.std.proofs.lemmas.List.{get_or-set_same, get_or-set_other}
 use Rattle.std.proofs.lemmas.List.Elements.{Contains-append_left, Contains-append_right}
-use Rattle.std.proofs.lemmas.List.Elements.{Contains-append_cases}
-use Rattle.std.proofs.lemmas.List.Elements.{Contains-push, Contains-push_cases}
+use Rattle.std.proofs.lemmas.List.Elements.{Contains-append_cases, Contains-push, Contains-push_cases}
 use Rattle.std.proofs.lemmas.List.Sums.{sum_by-set}
 use Rattle.std.proofs.lemmas.Bool.{and_parts}
 use Rattle.grid_moves.specs.declared.Cell.{Cell}
@@ -18,8 +17,7 @@ use Rattle.grid_moves.specs.Grid.{GridData, cell_number, is_free, is_inside}
 use Rattle.grid_moves.specs.Move.{is_legal, legal_ahead, all_dirs}
 use Rattle.grid_moves.proofs.Ahead.{legal_ahead-is, legal_ahead-of}
 use Rattle.grid_moves.proofs.Legal.{legal_is}
-use Rattle.grid_moves.proofs.Places.{free_below}
-use Rattle.grid_moves.proofs.Places.{IsOn, is_on, free_on, same_or_apart}
+use Rattle.grid_moves.proofs.Places.{free_below, IsOn, is_on, free_on, same_or_apart}
 use Rattle.grid_moves.proofs.Dirs.{In, first, later, in_all}
 use Rattle.grid_moves.proofs.Turned.{legal_back}
 use Rattle.joined_cells.specs.Flood.{Flood, flood_of, reached, reached_by, spread}

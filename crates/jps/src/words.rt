@@ -103,8 +103,8 @@ mod tests {
         Ok(())
     }
 
-    // No words; an empty one; one in letters of two bytes; and words before one that is no text, the first one
-    // too.
+    // No words; an empty one; one in letters of two bytes; and words before one that is no text,
+    // the first one too.
     #[test]
     fn words_are_those_behind_the_name(rt: HostRuntime) -> Result<(), Fail> {
         let alloc = rt.alloc();

@@ -1,5 +1,5 @@
 -- The work on a call, from its files to its output.
-use Rattle.std.proofs.Common.{◌≡◌, ◌∙◌, ap, subst, ◌⊎◌, inl, inr, List, [], ◌∷◌, ℕ, arith}
+use Rattle.std.proofs.Common.{◌≡◌, ◌∙◌, ap, refl, subst, ◌⊎◌, inl, inr, List, [], ◌∷◌, ℕ, arith}
 use Rattle.std.specs.Prelude.{None, Some, Option, Result, IsErrAnd}
 use Rattle.io_edge.specs.Known.{Disk, Held, Inflow, Outflow}
 use Rattle.edit_replay.specs.Session.{SessionData}
@@ -14,7 +14,7 @@ use Rattle.jps_run.specs.Manner.{manner_of, session_by}
 use Rattle.jps_run.specs.Session.{session_replies, session_on}
 use Rattle.jps_run.specs.Who.{replies_by}
 use Rattle.jps_run.specs.Counting.{RoseForCall, none, read, searches, some}
-use Rattle.jps_run.specs.Ending.{WroteFirstLines}
+use Rattle.jps_run.specs.Ending.{IsUnread, WroteFirstLines}
 use Rattle.jps_run.specs.Heard.{Answering, WroteAll, WroteFirst, WroteLines, AnswerHeard, AnswerPending}
 use Rattle.jps_run.specs.Heard.{AnswerTaken}
 use Rattle.jps_run.specs.Live.{On, answers_on}
@@ -65,7 +65,8 @@ module _ (call : Call) (holds : List ℕ → Held) (server : LineServer) (l : Is
   -- its answers are those of the call
   serving_is : serving_by server ≡ serving_for replies_by call l.on.read
   serving_is =
-      ap (λ (d : SessionData). λ (lines : List FedLine). answers_to (session_replies d) server.show d.layers []
+      ap (λ (d : SessionData). λ (lines : List FedLine). answers_to (session_replies d)
+      server.show d.layers []
       (all_asked lines))
       l.on.such.session
       ∙ ap (λ (show : Show). λ (lines : List FedLine). answers_to (replies_by (session_by call.settings)) show
@@ -87,7 +88,8 @@ may-serve call holds server l =
     record { reads = l.reads; texts = l.on.text ∷ l.on.behind; accepted = l.on.accepted }
 
 -- of a server no steps are promised
-pub unsearched : (call : Call) (holds : List ℕ → Held) (server : LineServer) (input : Option (List ℕ)) (old new : ℕ)
+pub unsearched : (call : Call) (holds : List ℕ → Held) (server : LineServer)
+    (input : Option (List ℕ)) (old new : ℕ)
     → IsServer call holds server → RoseForCall call holds input old new
 unsearched call holds server input old new l = read (none (ap searches l.on.is))
 
@@ -104,14 +106,14 @@ module _ (call : Call) (disk disk_now : Disk) (input input_now : Inflow) (out ou
     (result : Result ℕ Stop) where
   -- the call was not opened
   pub unopened-ends : (stop : Stop) → StopsSo (open_stops disk disk_now (files_of call)) stop
-      → IsErrAnd result (λ s. s ≡ stop) → EndsCall call disk disk_now input input_now out out result
+      → IsErrAnd result (λ s. s ≡ stop) → EndsCall call disk disk_now input input out out result
   unopened-ends stop k m =
       passed _ (open_stops disk disk_now (files_of call))
-      (call_stops call disk disk_now input input_now out out) result stop m k (record {
+      (call_stops call disk disk_now input input out out) result stop m k (record {
         refused = λ line r. inl (r, nothing out.written);
         read = λ r. inl (r, nothing out.written);
         write = λ k. absurd k;
-        memory = λ k. inl (nothing out.written);
+        memory = λ k. inl (nothing out.written, λ serve. refl);
       })
 
   -- the work was done, or it stopped
@@ -169,11 +171,13 @@ module _ (call : Call) (disk disk_now : Disk) (input input_now : Inflow) (out ou
       ))
       (record {
         refused = λ line w. inr
-            (on-live call disk.holds job l (λ answers. WroteAll (AnswerHeard answers input.left (Some line)) out
+            (on-live call disk.holds job l
+            (λ answers. WroteAll (AnswerHeard answers input.left (Some line)) out
             out_now) w);
         read = λ w. inr (
           (l.reads, w.0),
-          inl (on-live call disk.holds job l (λ answers. WroteAll (AnswerPending answers input.left input_now.left)
+          inl (on-live call disk.holds job l
+              (λ answers. WroteAll (AnswerPending answers input.left input_now.left)
               out out_now) w.1),
         );
         write = λ w. (
@@ -199,7 +203,8 @@ module _ (call : Call) (disk disk_now : Disk) (input input_now : Inflow) (out ou
         (let good : status ≡ 0 = e.0 in omega arith),
         inr (
           e.0,
-          inr (on-serve call disk.holds server l (λ answers. WroteAll (ServeInput answers input.left) out out_now)
+          inr (on-serve call disk.holds server l
+              (λ answers. WroteAll (ServeInput answers input.left) out out_now)
               e.1),
         ),
       ))
@@ -212,15 +217,17 @@ module _ (call : Call) (disk disk_now : Disk) (input input_now : Inflow) (out ou
         );
         write = λ w. (
           w.0,
-          inr (inr (on-serve call disk.holds server l (λ answers. WroteFirst (ServeTaken answers input.left left) out
+          inr (inr (on-serve call disk.holds server l
+              (λ answers. WroteFirst (ServeTaken answers input.left left) out
               out_now) w.1)),
         );
         memory = by_memory;
       }) h
     where
-      by_memory : Wrote out out_now []
+      by_memory : (Wrote out out_now [] × (input_now.left ≡ input.left))
           ⊎ WroteAll (ServeEndless (serving_by server) input.left input_now.left) out out_now
-          → Wrote out out_now [] ⊎ WroteFirstLines replies_by disk.holds input input_now out out_now call
-      by_memory (inl nothing) = inl nothing
+          → (Wrote out out_now [] × IsUnread input input_now call)
+          ⊎ WroteFirstLines replies_by disk.holds input input_now out out_now call
+      by_memory (inl nothing) = inl (nothing.0, λ serve. nothing.1)
       by_memory (inr w) = inr (inr (inr (on-serve call disk.holds server l
           (λ answers. WroteAll (ServeEndless answers input.left input_now.left) out out_now) w)))

@@ -15,12 +15,10 @@ use Rattle.map_maker.specs.Words.{words_of}
 use Rattle.script_text.specs.declared.command.ScriptCommand.{ScriptCommand}
 use Rattle.jps_run.specs.Answering.{GoesOn}
 use Rattle.jps_run.specs.Answers.{edits_with}
-use Rattle.jps_run.specs.Drill.{drill_line, finding_on}
-use Rattle.jps_run.specs.Drill.{IsShortFinding, is_walk, is_none, is_blocked, is_done, is_same, straight_in}
-use Rattle.jps_run.specs.Drill.{diagonal_in}
+use Rattle.jps_run.specs.Drill.{drill_line, finding_on, IsShortFinding, is_walk, is_none, is_blocked, is_done}
+use Rattle.jps_run.specs.Drill.{is_same, straight_in, diagonal_in}
 use Rattle.jps_run.specs.Drilling.{HasDrilled, HasRoom, HaveCounted, IsDrilled, LeavesRoom, findings_by}
-use Rattle.jps_run.specs.Drilling.{sums_of}
-use Rattle.jps_run.specs.Drilling.{sums_text}
+use Rattle.jps_run.specs.Drilling.{sums_of, sums_text}
 use Rattle.jps_run.specs.Rising.{RoseForCommand}
 use Rattle.jps_run.specs.Session.{session_replies}
 use Rattle.line_work.specs.Working.{Adds, CanComplete, HasRoomForOne}

@@ -1,7 +1,7 @@
 -- How a call of `run` ends.
-use Rattle.std.proofs.Common.{◌≡◌, ◌∙◌, true, false, refl, sym, ap, subst, List, [], ◌∷◌, ℕ, ◌≤◌, ◌⊎◌, inl, inr, arith}
+use Rattle.std.proofs.Common.{◌≡◌, ◌∙◌, true, false, refl, sym, ap, subst, List, [], ◌∷◌, ℕ, ◌≤◌, ◌⊎◌, inl}
+use Rattle.std.proofs.Common.{inr, arith}
 use Rattle.std.specs.Prelude.{Err, Ok, OnOk, Option, Result, Some, None, unwrap_or}
-use Rattle.std.specs.List.{concat}
 use Rattle.std.specs.Option.{option_map, option_map_or}
 use Rattle.map_text.specs.Faults.{map_of}
 use Rattle.map_text.specs.Map.{Map}
@@ -17,10 +17,8 @@ use Rattle.word_list.specs.Request.{Call}
 use Rattle.word_list.specs.Rule.{IsBadWord}
 use Rattle.jps_run.specs.Counting.{RoseAsCalled, RoseForCall}
 use Rattle.jps_run.specs.Ending.{CanHear, Comes, EndsRight, Gets, HasFailed, HasLines, HasPart, InputRose}
-use Rattle.jps_run.specs.Ending.{NamedRose}
-use Rattle.jps_run.specs.Ending.{Fails, WroteFirstLines, WrotePart, ending_line, line_of, memory_line}
-use Rattle.jps_run.specs.Ending.{read_line}
-use Rattle.jps_run.specs.Ending.{status_of, write_line}
+use Rattle.jps_run.specs.Ending.{NamedRose, Fails, IsUnread, WroteFirstLines, WrotePart, ending_line}
+use Rattle.jps_run.specs.Ending.{line_of, memory_line, read_line, status_of, write_line}
 use Rattle.jps_run.specs.CallEnds.{EndsCall}
 use Rattle.line_work.specs.declared.stop.Stop.{Stop}
 use Rattle.line_work.specs.declared.stop.Stop.TheVariants as stop
@@ -51,7 +49,8 @@ unfolding outcome_of
 outcome-heard call text behind m input reads spelled = rw reads (value-read (map_of text) m _ spelled)
 
 -- so it is by one of these commands
-pub outcome-by : (command : Command) (call : Call) (text : List ℕ) (behind : List (List ℕ)) (m : Map) (input : List ℕ)
+pub outcome-by : (command : Command) (call : Call) (text : List ℕ) (behind : List (List ℕ))
+    (m : Map) (input : List ℕ)
     → reads_input command ≡ true → call.request.command ≡ command → map_of text ≡ Ok m
     → outcome_of replies_by call (text ∷ behind) input
     ≡ outcome_on command (manner_of replies_by call.settings) m input
@@ -210,7 +209,7 @@ word-ends words disk input out err err_now steps number status bad (inr six) pri
   read = λ e. absurd (omega arith);
   write = λ e. absurd (omega arith);
   part = λ e. absurd (omega arith);
-  memory = λ e. inl (nothing out.written);
+  memory = λ e. inl (nothing out.written, λ call spelled serve. refl);
   line = λ e. subst (λ n. Gets err err_now (ending_line n)) (sym six) (memory six);
   complete = λ named read wrote. inr six;
   unchanged = refl;
@@ -290,7 +289,8 @@ module _ (words : List (List ℕ)) (disk disk_now : Disk) (input input_now : Inf
   }
 
   -- a write failed
-  write-ends : Rose out.faults out_now.faults × WrotePart replies_by disk.holds input input_now out out_now call
+  write-ends : Rose out.faults out_now.faults
+      × WrotePart replies_by disk.holds input input_now out out_now call
       → Gets err err_now write_line
       → EndsAs words disk disk_now input input_now out out_now err err_now old new 5
   write-ends served printed = record {
@@ -308,7 +308,8 @@ module _ (words : List (List ℕ)) (disk disk_now : Disk) (input input_now : Inf
   }
 
   -- memory was refused
-  memory-ends : Wrote out out_now [] ⊎ WroteFirstLines replies_by disk.holds input input_now out out_now call
+  memory-ends : (Wrote out out_now [] × IsUnread input input_now call)
+      ⊎ WroteFirstLines replies_by disk.holds input input_now out out_now call
       → Gets err err_now memory_line
       → EndsAs words disk disk_now input input_now out out_now err err_now old new 6
   memory-ends served printed = record {
@@ -325,9 +326,14 @@ module _ (words : List (List ℕ)) (disk disk_now : Disk) (input input_now : Inf
     input_stays = stays-so;
   }
     where
-      by_lines : Wrote out out_now [] ⊎ WroteFirstLines replies_by disk.holds input input_now out out_now call
+      by_lines : (Wrote out out_now [] × IsUnread input input_now call)
+          ⊎ WroteFirstLines replies_by disk.holds input input_now out out_now call
           → HasLines replies_by words disk.holds input input_now out out_now
-      by_lines (inl nothing) = inl nothing
+      by_lines (inl nothing) = inl (
+        nothing.0,
+        λ other spells. subst (IsUnread input input_now)
+            (ap (λ (o : Option Call). unwrap_or o call) (sym spelled ∙ spells)) nothing.1,
+      )
       by_lines (inr lines) = inr (record { call = call; spelled = spelled; such = lines })
 
   -- so each call ends

@@ -79,7 +79,8 @@ rising-begun first feeder input start begun none = record {
 }
 
 module _ {first job : Answers} {feeder : LineFeeder} {input mid : Option (List ℕ)} {start at : ℕ}
-    (new : Answers) (left : Option (List ℕ)) (now : ℕ) (r : IsRising first job feeder input mid start at) where
+    (new : Answers) (left : Option (List ℕ)) (now : ℕ)
+    (r : IsRising first job feeder input mid start at) where
   -- a piece was heard whole
   pub rising-more : (feeder_now : LineFeeder) (count room : ℕ) (bytes piece : List ℕ)
       → Consumes mid left (take count bytes) → piece ≡ take (min count room) bytes → count ≤ room

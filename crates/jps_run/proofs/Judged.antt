@@ -1,7 +1,6 @@
 -- The rows of claimed walks.
 use Rattle.std.proofs.Common.{◌≡◌, refl, sym, ap, ◌∙◌, subst, List, [], ◌∷◌, ◌++◌, append_assoc, ℕ, zero, suc}
-use Rattle.std.proofs.Common.{◌+◌, ◌^◌, ◌<◌, ◌≤◌, length, length-append, drop, arith}
-use Rattle.std.proofs.Common.{true, false, Bool}
+use Rattle.std.proofs.Common.{◌+◌, ◌^◌, ◌<◌, ◌≤◌, length, length-append, drop, arith, true, false, Bool}
 use Rattle.std.specs.Prelude.{if◌then◌else◌, nat_eq, count_by}
 use Rattle.std.specs.Prelude.{Option, Some, Result, Ok, Err, OnOk, Vec, map, slice_get, zip}
 use Rattle.std.specs.Global.{Global}

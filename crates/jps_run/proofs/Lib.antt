@@ -6,6 +6,7 @@ pub mod Solving
 pub mod Rising
 pub mod Drilling
 pub mod Pictured
+pub mod Proved
 pub mod Hearing
 pub mod Listening
 pub mod Incomings

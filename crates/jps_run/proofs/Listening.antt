@@ -6,8 +6,7 @@ use Rattle.std.proofs.lemmas.Bool.Decides.{nat_tests}
 use Rattle.std.specs.List.{concat}
 use Rattle.std.specs.Option.{option_map, option_map_or}
 use Rattle.std.specs.Io.KnownBytes.{Consumes, IsAtEnd}
-use Rattle.std.proofs.lemmas.List.{append-nil, take_all, take-append-le, length-take}
-use Rattle.std.proofs.lemmas.List.{take-take}
+use Rattle.std.proofs.lemmas.List.{append-nil, take_all, take-append-le, length-take, take-take}
 use Rattle.std.proofs.Math.Seq.{take-append-add}
 use Rattle.script_text.specs.declared.command.ScriptCommand.{ScriptCommand}
 use Rattle.script_text.specs.declared.fault.ScriptFault.{ScriptFault}
@@ -18,9 +17,7 @@ use Rattle.call_files.specs.FaultLines.{long_line, script_line}
 use Rattle.call_files.specs.Kinds.{limit_of}
 use Rattle.call_files.specs.declared.kind.TextKind.TheVariants as kind
 use Rattle.jps_run.specs.Heard.{AnswerHeard, AnswerTaken, AreWhole, IsInput, WroteAll, WroteFirst}
-use Rattle.jps_run.specs.Heard.{heard_commands, heard_refusal}
-use Rattle.jps_run.specs.Heard.{is_long}
-use Rattle.jps_run.specs.Heard.{WroteLines, counted}
+use Rattle.jps_run.specs.Heard.{heard_commands, heard_refusal, is_long, WroteLines, counted}
 use Rattle.jps_run.specs.Hearing.{HasWritten}
 use Rattle.io_edge.specs.Known.{Outflow}
 use Rattle.line_work.specs.Sending.{Wrote, IsPart}

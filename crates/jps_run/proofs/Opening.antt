@@ -34,7 +34,8 @@ pub both-read : {V F X : Type 0} (text : List ℕ) (loaded : List (List ℕ)) (m
     → on_read (map_of text) (λ m. on_last (loaded ++ last ∷ []) (λ second. on_read (read second) (make m)))
     ≡ make m value
 both-read text loaded m last read value make e is =
-    value-read (map_of text) m (λ m. on_last (loaded ++ last ∷ []) (λ second. on_read (read second) (make m))) e
+    value-read (map_of text) m
+    (λ m. on_last (loaded ++ last ∷ []) (λ second. on_read (read second) (make m))) e
     ∙ last-read loaded last (λ second. on_read (read second) (make m))
     ∙ value-read (read last) value (make m) is
 
@@ -71,7 +72,8 @@ on-map p such = record {
 }
 
 -- what a command opens as its work is what the call is opened as
-pub opened-so : (call : Call) (disk disk_now : Disk) (work : Result Work Stop) → OpensWork call disk disk_now work
+pub opened-so : (call : Call) (disk disk_now : Disk) (work : Result Work Stop)
+    → OpensWork call disk disk_now work
     → Opens call disk disk_now (opened_as work)
 opened-so call disk disk_now (Ok work) opens = opens
 opened-so call disk disk_now (Err stop) opens = opens

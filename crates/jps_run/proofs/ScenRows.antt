@@ -6,8 +6,7 @@ use Rattle.std.proofs.lemmas.List.{append-nil, map-append}
 use Rattle.scen_text.specs.declared.entry.Entry.{Entry}
 use Rattle.jps_run.specs.Answerers.{CanAnswer, who_of}
 use Rattle.jps_run.specs.ScenRows.{HasRows, HasRoom, AreAllRows, rows_by}
-use Rattle.jps_run.specs.Rows.{row_for, row_line, row_lines, scen_status}
-use Rattle.jps_run.specs.Rows.{sum_line}
+use Rattle.jps_run.specs.Rows.{row_for, row_line, row_lines, scen_status, sum_line}
 use Rattle.word_list.specs.declared.request.Show.{Show}
 use Rattle.jps_run.specs.Tally.{IsSmall, tally_of, sum_text}
 use Rattle.jps_run.specs.Who.{replies_by}

@@ -1,7 +1,7 @@
 -- What a server wrote stands for the answers to the lines that came in, read by read.
-use Rattle.std.proofs.Common.{◌≡◌, refl, sym, ap, ◌∙◌, subst, List, [], ◌∷◌, ◌++◌, ℕ, ◌+◌, ◌<◌, ◌≤◌, inl, inr, length}
-use Rattle.std.proofs.Common.{length-append, take, min, map, arith, Bool}
-use Rattle.std.specs.Prelude.{Option, Some, None, Result, MatchResult, IsErrAnd, ◌^◌}
+use Rattle.std.proofs.Common.{◌≡◌, refl, sym, ap, ◌∙◌, subst, List, [], ◌∷◌, ◌++◌, ℕ, ◌+◌, ◌<◌, ◌≤◌, inl}
+use Rattle.std.proofs.Common.{length, length-append, take, min, map, arith, Bool}
+use Rattle.std.specs.Prelude.{Option, Some, None, ◌^◌}
 use Rattle.std.specs.List.{concat}
 use Rattle.std.specs.Io.KnownBytes.{Consumes, IsAtEnd, Keeps}
 use Rattle.std.proofs.lemmas.List.{append-nil, length-take, map-append}
@@ -21,11 +21,10 @@ use Rattle.line_server.specs.declared.server.LineServer.{LineServer}
 use Rattle.line_server.specs.Asked.{edits_by, may_want}
 use Rattle.line_server.specs.Answers.{AreAnswers, all_asked, answer_to, answers_to}
 use Rattle.line_server.specs.Served.{HasServed, HaveAnswered, HaveStopped}
-use Rattle.line_work.specs.Sending.{Wrote}
-use Rattle.line_work.proofs.Pieces.{nothing, part-more, rose-since}
+use Rattle.line_work.proofs.Pieces.{part-more, rose-since}
 use Rattle.jps_run.specs.Heard.{WroteAll, WroteFirst}
 use Rattle.jps_run.specs.ServeLoop.{AllIsServed, IsFresh, IsServing, serving_by}
-use Rattle.jps_run.specs.Serving.{AreTaken, ServeEndless, ServeLines, ServeTaken, ServeWhole, at_end, so_far}
+use Rattle.jps_run.specs.Serving.{ServeEndless, ServeLines, ServeTaken, ServeWhole, at_end, so_far}
 use Rattle.jps_run.specs.Standing.{StandFor}
 use Rattle.jps_run.proofs.Listening.{consumes-both, consumes-none, input-all}
 
@@ -38,7 +37,8 @@ stand-same (wanted ∷ wants) (line ∷ lines) = (inl refl, stand-same wants lin
 pub stand-more : (wants also : List Bool) (lines texts more : List (List ℕ)) → StandFor wants lines texts
     → StandFor (wants ++ also) (lines ++ more) (texts ++ more)
 stand-more [] also lines texts more h =
-    subst (λ (t : List (List ℕ)). StandFor also (lines ++ more) (t ++ more)) (sym h) (stand-same also (lines ++ more))
+    subst (λ (t : List (List ℕ)). StandFor also (lines ++ more) (t ++ more)) (sym h)
+    (stand-same also (lines ++ more))
 stand-more (wanted ∷ wants) also [] texts more h =
     subst (λ (t : List (List ℕ)). StandFor (wanted ∷ (wants ++ also)) more (t ++ more)) (sym h)
     (stand-same (wanted ∷ (wants ++ also)) more)
@@ -70,12 +70,14 @@ module _ (replies : Replies) (show : Show) (ls : Layers) where
   -- so more texts stand for them
   pub more-stand : (some others : List Asked) (texts : List (List ℕ))
       → StandFor (map may_want some) (answers_to replies show ls [] some) texts → (more : List (List ℕ))
-      × StandFor (map may_want (some ++ others)) (answers_to replies show ls [] (some ++ others)) (texts ++ more)
+      × StandFor (map may_want (some ++ others))
+      (answers_to replies show ls [] (some ++ others)) (texts ++ more)
   more-stand some others texts h =
       let more = answers-more [] some others in (
         more.0,
         rw (map-append may_want some others, more.1)
-            (stand-more (map may_want some) (map may_want others) (answers_to replies show ls [] some) texts more.0
+            (stand-more (map may_want some) (map may_want others)
+            (answers_to replies show ls [] some) texts more.0
             h),
       )
 
@@ -92,7 +94,8 @@ module _ (first : LineServer) where
   }
 
   -- or is a first part of what does
-  served-part : (lines : List FedLine) (before after : Outflow) → HaveStopped first (all_asked lines) before after
+  served-part : (lines : List FedLine) (before after : Outflow)
+      → HaveStopped first (all_asked lines) before after
       → Rose before.faults after.faults × WroteFirst (ServeLines (serving_by first) lines) before after
   served-part lines before after h =
       let replies = reply_of first.session.engine in
@@ -149,14 +152,16 @@ module _ {first old : LineServer} {input mid : Inflow} {buffer : List ℕ} {leas
       )
 
   -- nothing more came in
-  module _ (bytes : List ℕ) (read : Consumes mid.left now.left (take 0 bytes)) (ended : IsAtEnd now.left) where
+  module _ (bytes : List ℕ) (read : Consumes mid.left now.left (take 0 bytes))
+      (ended : IsAtEnd now.left) where
     all_consumed : Consumes input.left now.left h.text
     all_consumed = subst (λ (t : List ℕ). Consumes input.left now.left t) (append-nil h.text)
         (consumes-both input.left mid.left now.left h.text [] h.consumed read)
 
     -- and the last line is answered too
     pub end-served : (new : LineServer) (after : Outflow)
-        → HaveAnswered first new (all_asked (lines_of h.text)) before after → AllIsServed first input before after
+        → HaveAnswered first new (all_asked (lines_of h.text)) before after
+        → AllIsServed first input before after
     end-served new after answered =
         let w = served-all first new (lines_of h.text) before after answered in
         record {
@@ -197,7 +202,8 @@ module _ {first old : LineServer} {input mid : Inflow} {buffer : List ℕ} {leas
         (consumes-both input.left mid.left now.left h.text (take count bytes) h.consumed read)
 
     -- and the lines that they complete are answered
-    pub serving-more : (new : LineServer) (after : Outflow) (buffer_now : List ℕ) → 0 < count → count ≤ length bytes
+    pub serving-more : (new : LineServer) (after : Outflow) (buffer_now : List ℕ) → 0 < count
+        → count ≤ length bytes
         → mid.faults ≤ now.faults → 0 < length buffer_now
         → HasServed first new (h.text ++ piece) before after
         → IsServing first new input now buffer_now (least + 1) before after
@@ -216,7 +222,8 @@ module _ {first old : LineServer} {input mid : Inflow} {buffer : List ℕ} {leas
     }
 
     -- or a write failed
-    pub piece-failed : (after : Outflow) → HaveStopped first (all_asked (whole_lines (h.text ++ piece))) before after
+    pub piece-failed : (after : Outflow)
+        → HaveStopped first (all_asked (whole_lines (h.text ++ piece))) before after
         → Rose before.faults after.faults
         × WroteFirst (ServeTaken (serving_by first) input.left now.left) before after
     piece-failed after stopped =
@@ -237,7 +244,8 @@ module _ {first old : LineServer} {input mid : Inflow} {buffer : List ℕ} {leas
 
 -- more bytes came in than 64 bits count
 pub too-many : (first now : LineServer) (input input_now : Inflow) (buffer : List ℕ) (least : ℕ)
-    (before after : Outflow) → IsServing first now input input_now buffer least before after → 2 ^ 64 ≤ least + 1
+    (before after : Outflow) → IsServing first now input input_now buffer least before after
+    → 2 ^ 64 ≤ least + 1
     → WroteAll (ServeEndless (serving_by first) input.left input_now.left) before after
 too-many first now input input_now buffer least before after h much =
     let w = served-all first now (whole_lines h.text) before after h.served.answered in

@@ -12,7 +12,7 @@ use Rattle.edit_replay.proofs.Edits.{edited-nothing}
 use Rattle.script_text.specs.declared.command.ScriptCommand.{ScriptCommand}
 use Rattle.script_text.specs.declared.command.ScriptCommand.TheVariants.{Query}
 use Rattle.word_list.specs.declared.request.Show.{Show}
-use Rattle.jps_run.specs.Answers.{answer_line, edits_of, edits_with, in_turn}
+use Rattle.jps_run.specs.Answers.{answer_line, edits_with, in_turn}
 use Rattle.jps_run.specs.Answering.{GoesOn, HasAnswered, IsSolved}
 use Rattle.jps_run.specs.Session.{session_replies, session_after}
 use Rattle.line_work.specs.Working.{Adds, CanComplete, IsLeft}
@@ -27,7 +27,7 @@ query-goes-on (Ok done) old new command sx sy gx gy same is = record {
   engine = ap (λ (d : SessionData). d.engine) same;
   layers = λ m edits e.
       ap (λ (d : SessionData). d.layers) same ∙ e ∙ ap (λ (all : List Edit). edited m all)
-      (sym (ap (λ (c : ScriptCommand). edits ++ edits_of c) is ∙ append-nil edits));
+      (sym (ap (λ (c : ScriptCommand). edits_with edits c) is ∙ append-nil edits));
 }
 
 same_session : (d : SessionData) (engine : Engine) (layers : Layers) → d.engine ≡ engine → d.layers ≡ layers

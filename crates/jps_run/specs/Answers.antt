@@ -1,30 +1,22 @@
 -- The lines that answer commands.
 use Rattle.std.specs.Prelude.{◌≡◌, ℕ, List, [], ◌∷◌, ◌++◌, codes, refl}
-use Rattle.grid_moves.specs.declared.Cell.{Cell}
-use Rattle.grid_moves.specs.declared.Ground.TheVariants.{Blocked, Land, Water}
 use Rattle.grid_moves.specs.Layers.{Layers, layers_of}
 use Rattle.grid_moves.specs.declared.Corner.TheVariants.{Never}
-use Rattle.edit_replay.specs.Edited.{Edit, edit_at, edit_reply, edited, edited_layer}
+use Rattle.edit_replay.specs.Edited.{Edit, edited, edited_layer}
 use Rattle.edit_replay.specs.declared.reply.Reply.TheVariants.{None}
 use Rattle.script_text.specs.declared.command.ScriptCommand.{ScriptCommand}
-use Rattle.script_text.specs.declared.command.ScriptCommand.TheVariants.{Block, Free, Flood, Query}
+use Rattle.script_text.specs.declared.command.ScriptCommand.TheVariants.{Block, Free, Query}
 use Rattle.word_list.specs.declared.request.Show.{Show}
 use Rattle.word_list.specs.declared.request.Show.TheVariants.{Points}
-use Rattle.reply_lines.specs.Lines.{edit_line}
 pub use Rattle.reply_lines.specs.Replies.{query_line}
+use Rattle.line_server.specs.Asked.{edits_by, scripted}
+use Rattle.line_server.specs.Answers.{answer_to}
 use Rattle.jps_run.specs.Parts.{Output}
 use Rattle.jps_run.specs.Replies.{Replies}
 
--- the edits that a command makes
-abbrev pub edits_of : ScriptCommand → List Edit
-edits_of (Block x y) = edit_at x y Blocked ∷ []
-edits_of (Free x y) = edit_at x y Land ∷ []
-edits_of (Flood x y) = edit_at x y Water ∷ []
-edits_of (Query sx sy gx gy) = []
-
 -- these edits, and then those of the command
 abbrev pub edits_with : List Edit → ScriptCommand → List Edit
-edits_with edits command = edits ++ edits_of command
+edits_with edits command = edits ++ edits_by (scripted command)
 
 -- what each command gives on the grids as the edits before it leave them
 abbrev pub in_turn : {Y : Type 0} → (Layers → ScriptCommand → Y) → Layers → List Edit → List ScriptCommand
@@ -35,11 +27,7 @@ in_turn give ls edits (command ∷ commands) =
 
 -- the line that answers a command
 abbrev pub answer_line : Replies → Show → Layers → ScriptCommand → List ℕ
-answer_line replies show ls (Block x y) = edit_line (edit_reply ls (edit_at x y Blocked))
-answer_line replies show ls (Free x y) = edit_line (edit_reply ls (edit_at x y Land))
-answer_line replies show ls (Flood x y) = edit_line (edit_reply ls (edit_at x y Water))
-answer_line replies show ls (Query sx sy gx gy) =
-    query_line replies show ls (record { x = sx; y = sy }) (record { x = gx; y = gy })
+answer_line replies show ls command = answer_to replies show ls (scripted command)
 
 -- one line for each command, on the grids as the edits before it leave them
 abbrev pub answer_lines : Replies → Show → Layers → List ScriptCommand → List (List ℕ)

@@ -4,7 +4,7 @@ use Rattle.io_edge.specs.Causes.{Rose}
 use Rattle.io_edge.specs.Known.{Disk, Inflow, Outflow}
 use Rattle.word_list.specs.Request.{Call}
 use Rattle.call_files.specs.Files.{HasRefused}
-use Rattle.jps_run.specs.Ending.{Fails, WroteFirstLines, WrotePart}
+use Rattle.jps_run.specs.Ending.{Fails, IsUnread, WroteFirstLines, WrotePart}
 use Rattle.jps_run.specs.Live.{WroteHeard}
 use Rattle.jps_run.specs.Serving.{WroteServed}
 use Rattle.jps_run.specs.Calls.{files_of}
@@ -22,7 +22,8 @@ call_stops call disk disk_now input input_now out out_now = record {
   Read = Fails replies_by disk.holds input input_now out out_now disk disk_now call;
   Write = Rose out.faults out_now.faults
       × WrotePart replies_by disk.holds input input_now out out_now call;
-  Memory = Wrote out out_now [] ⊎ WroteFirstLines replies_by disk.holds input input_now out out_now call;
+  Memory = (Wrote out out_now [] × IsUnread input input_now call)
+      ⊎ WroteFirstLines replies_by disk.holds input input_now out out_now call;
 }
 
 -- the work on a call came to the call's output, or it stops

@@ -22,7 +22,7 @@ use Rattle.call_files.specs.Kinds.{first_text}
 use Rattle.call_files.specs.declared.kind.TextKind.TheVariants as kind
 use Rattle.call_files.specs.MapFiles.{map_files}
 use Rattle.grid_answers.specs.BoxLines.{boxes_answer}
-use Rattle.grid_answers.specs.Certificates.{proof_answer, proof_status, verdict_line, verdict_status}
+use Rattle.grid_answers.specs.Certificates.{verdict_line, verdict_status}
 use Rattle.grid_answers.specs.Distances.{costs_answer}
 use Rattle.grid_answers.specs.RunLines.{moves_answer}
 use Rattle.scen_maker.specs.Lengths.{length_lines, lengths_answer, lengths_status}
@@ -33,6 +33,7 @@ use Rattle.jps_run.specs.Parts.{Output, on_last, on_map, on_read, printed}
 use Rattle.jps_run.specs.Pictures.{drawing}
 use Rattle.call_files.specs.Layered.{grids_under}
 use Rattle.jps_run.specs.Manner.{Manner, manner_of}
+use Rattle.jps_run.specs.Proving.{proving}
 use Rattle.jps_run.specs.Replies.{By, Replies}
 use Rattle.jps_run.specs.Rows.{scen_output}
 use Rattle.jps_run.specs.Rulings.{judge_output}
@@ -125,9 +126,8 @@ task command.Problems words = record {
 task command.Prove words = record {
   name = codes "prove";
   files = λ set tables. file_of kind.Map (word_at words 0) ∷ [];
-  output = λ manner texts. on_map texts (λ m behind. Some (printed
-      (proof_answer (grids_under manner.rule m) (cell_at words 1) (cell_at words 3))
-      (proof_status (grids_under manner.rule m) (cell_at words 1) (cell_at words 3))));
+  output = λ manner texts. on_map texts (λ m behind.
+      Some (proving manner.plain (grids_under manner.rule m) (cell_at words 1) (cell_at words 3)));
 }
 task command.Check words = record {
   name = codes "check";

@@ -6,13 +6,15 @@ use Rattle.io_edge.specs.Causes.{Rose}
 use Rattle.word_list.specs.Calls.{is_call}
 use Rattle.word_list.specs.Request.{Call}
 use Rattle.word_list.specs.Rule.{StopsAt}
+use Rattle.word_list.specs.declared.rows.Command.TheVariants.{Live, Serve}
 use Rattle.call_files.specs.FaultLines.{word_line}
 use Rattle.call_files.specs.Files.{FileRose}
 use Rattle.jps_run.specs.Calls.{MayHear, files_of, reads_input}
 use Rattle.jps_run.specs.Outcome.{Spell, Outcome, IsOutcome, IsOutput}
 use Rattle.jps_run.specs.Replies.{AreRight, By, Replies}
-use Rattle.jps_run.specs.Live.{WrotePending, WroteSomeTaken, WroteLinesTaken}
-use Rattle.jps_run.specs.Serving.{WroteEndless, WroteSomeServed, WroteWhole}
+use Rattle.jps_run.specs.Heard.{AnswerPending, AnswerTaken, Answering, WroteAll, WroteFirst, WroteLines}
+use Rattle.jps_run.specs.Live.{On, lines_on}
+use Rattle.jps_run.specs.Serving.{ServeEndless, ServeTaken, ServeWhole, Serving, serving_for}
 use Rattle.jps_run.specs.Standing.{StandFor}
 use Rattle.io_edge.specs.Known.{Disk, Held, Inflow, Outflow}
 use Rattle.line_work.specs.Sending.{Wrote, WroteSome, IsPart, AreLines}
@@ -69,6 +71,10 @@ abbrev pub FailsToHear : Inflow → Inflow → Call → Type 0
 FailsToHear input input_now call =
     (reads_input call.request.command ≡ true) × Rose input.faults input_now.faults
 
+-- by `serve` nothing was read: from the first read on want of memory is an answer
+abbrev pub IsUnread : Inflow → Inflow → Call → Type 0
+IsUnread input input_now call = call.request.command ≡ Serve → input_now.left ≡ input.left
+
 -- so it is with the call that the words ask for
 abbrev pub InputRose : List (List ℕ) → Inflow → Inflow → Type 0
 InputRose words input input_now = OfCall words (FailsToHear input input_now)
@@ -76,31 +82,37 @@ InputRose words input input_now = OfCall words (FailsToHear input input_now)
 -- what is known where a call stops, by what its queries are replied
 module _ (replies : By → Replies) (holds : List ℕ → Held) (input input_now : Inflow)
     (out out_now : Outflow) where
+  -- this holds of what answers commands that come in, by `live`; or lines, by `serve`
+  abbrev pub OnInput : Call → (Answering → Type 0) → (Serving → Type 0) → Type 0
+  OnInput call Heard Served = On Live call holds (λ m. Heard (lines_on replies call m))
+      ⊎ On Serve call holds (λ m. Served (serving_for replies call m))
+
   -- a read failed: of a file, and nothing was written; or of the input, and exactly the lines of the whole
-  -- commands, or by `serve` what stands for the answers to the whole lines, among the bytes that were taken were
-  -- written
+  -- commands, none of which is refused, or by `serve` what stands for the answers to the whole lines, among
+  -- the bytes that were taken were written
   abbrev pub Fails : Disk → Disk → Call → Type 0
   Fails disk disk_now call = (FileRose (files_of call) disk disk_now × Wrote out out_now [])
       ⊎ (FailsToHear input input_now call
-      × (WrotePending replies call holds out out_now input.left input_now.left
-      ⊎ WroteWhole replies call holds out out_now input.left input_now.left))
+      × OnInput call (λ lines. WroteAll (AnswerPending lines input.left input_now.left) out out_now)
+      (λ answers. WroteAll (ServeWhole answers input.left input_now.left) out out_now))
 
   -- a first part of the call's output was written; where the input is read, of the lines of the whole
   -- commands, or by `serve` of what stands for the answers to the lines, among the bytes that were taken
   abbrev pub WrotePart : Call → Type 0
   WrotePart call = IsPart (IsOutput replies call holds) out out_now
-      ⊎ WroteSomeTaken replies call holds out out_now input.left input_now.left
-      ⊎ WroteSomeServed replies call holds out out_now input.left input_now.left
+      ⊎ OnInput call (λ lines. WroteFirst (AnswerTaken lines input.left input_now.left) out out_now)
+      (λ answers. WroteFirst (ServeTaken answers input.left input_now.left) out out_now)
 
   -- the first lines of the call's output were, each whole, and not all of them; where the input is read, the
-  -- first lines of the whole commands among the bytes that were taken. By `serve` nothing was, or what stands for
-  -- the answers to the whole lines among more bytes than 64 bits count
+  -- first lines of the whole commands among the bytes that were taken. By `serve` what stands for the answers
+  -- to the whole lines among more bytes than 64 bits count was
   abbrev pub WroteFirstLines : Call → Type 0
   WroteFirstLines call = AreLines (IsOutput replies call holds) out out_now
-      ⊎ WroteLinesTaken replies call holds out out_now input.left input_now.left
-      ⊎ WroteEndless replies call holds out out_now input.left input_now.left
+      ⊎ OnInput call (λ lines. WroteLines (AnswerTaken lines input.left input_now.left) out out_now)
+      (λ answers. WroteAll (ServeEndless answers input.left input_now.left) out out_now)
 
--- so it is with the call that the words ask for; for want of memory nothing may have been written
+-- so it is with the call that the words ask for; for want of memory nothing may have been written, by `serve`
+-- before the first read alone
 abbrev pub HasFailed : (By → Replies) → List (List ℕ) → Disk → Disk → Inflow → Inflow → Outflow → Outflow
     → Type 0
 HasFailed replies words disk disk_now input input_now out out_now =
@@ -114,7 +126,8 @@ HasPart replies words holds input input_now out out_now =
 abbrev pub HasLines : (By → Replies) → List (List ℕ) → (List ℕ → Held) → Inflow → Inflow → Outflow → Outflow
     → Type 0
 HasLines replies words holds input input_now out out_now =
-    Wrote out out_now [] ⊎ OfCall words (WroteFirstLines replies holds input input_now out out_now)
+    (Wrote out out_now [] × ((call : Call) → Spell words call → IsUnread input input_now call))
+    ⊎ OfCall words (WroteFirstLines replies holds input input_now out out_now)
 
 -- by replies of which each is right the outcome came about, or what is known where the call stopped does
 pub record EndsRight (words : List (List ℕ)) (disk disk_now : Disk) (input input_now : Inflow)

@@ -8,6 +8,7 @@ pub mod Answering
 pub mod Drill
 pub mod Drilling
 pub mod Pictures
+pub mod Proving
 pub mod Hearing
 pub mod HeardCounts
 pub mod Heard

@@ -1,4 +1,4 @@
--- What a call of `live` answers, and what was written of its lines at each stop.
+-- What a call of `live` answers, and that it was written.
 use Rattle.std.specs.Prelude.{◌≡◌, ℕ, List, [], ◌∷◌, Option, Ok}
 use Rattle.io_edge.specs.Known.{Held, Outflow}
 use Rattle.map_text.specs.Map.{Map}
@@ -9,14 +9,13 @@ use Rattle.word_list.specs.declared.rows.Command.TheVariants.{Live}
 use Rattle.call_files.specs.Files.{AreAccepted}
 use Rattle.jps_run.specs.Answers.{answer_lines}
 use Rattle.jps_run.specs.Calls.{files_of}
-use Rattle.jps_run.specs.Heard.{Answering, AnswerHeard, AnswerPending, AnswerTaken, WroteAll, WroteFirst}
-use Rattle.jps_run.specs.Heard.{WroteLines}
+use Rattle.jps_run.specs.Heard.{Answering, AnswerHeard, WroteAll}
 use Rattle.call_files.specs.Layered.{grids_under}
 use Rattle.jps_run.specs.Manner.{Manner, manner_of}
 use Rattle.jps_run.specs.Replies.{By, Replies}
 
--- the call is one of this command, which answers what comes in: each of its files is accepted, the map first, and of
--- the map this holds
+-- the call is one of this command, which answers what comes in: each of its files is accepted, the map first,
+-- and of the map this holds
 pub record On (command : Command) (call : Call) (holds : List ℕ → Held) (Such : Map → Type 0) : Type 0 where
   pub is : call.request.command ≡ command
   pub text : List ℕ
@@ -34,24 +33,8 @@ answers_on manner m commands = answer_lines manner.session manner.show (grids_un
 abbrev pub lines_on : (By → Replies) → Call → Map → Answering
 lines_on replies call = answers_on (manner_of replies call.settings)
 
--- its lines were written; exactly those of the whole commands among the bytes that were taken; a first part
--- of these; the first ones of these, each whole
+-- its lines were written
 abbrev pub WroteHeard : (By → Replies) → Call → (List ℕ → Held) → Outflow → Outflow → Option (List ℕ)
     → Option (List ℕ) → Type 0
 WroteHeard replies call holds out out_now input refusal =
     On Live call holds (λ m. WroteAll (AnswerHeard (lines_on replies call m) input refusal) out out_now)
-
-abbrev pub WrotePending : (By → Replies) → Call → (List ℕ → Held) → Outflow → Outflow → Option (List ℕ)
-    → Option (List ℕ) → Type 0
-WrotePending replies call holds out out_now input left =
-    On Live call holds (λ m. WroteAll (AnswerPending (lines_on replies call m) input left) out out_now)
-
-abbrev pub WroteSomeTaken : (By → Replies) → Call → (List ℕ → Held) → Outflow → Outflow → Option (List ℕ)
-    → Option (List ℕ) → Type 0
-WroteSomeTaken replies call holds out out_now input left =
-    On Live call holds (λ m. WroteFirst (AnswerTaken (lines_on replies call m) input left) out out_now)
-
-abbrev pub WroteLinesTaken : (By → Replies) → Call → (List ℕ → Held) → Outflow → Outflow → Option (List ℕ)
-    → Option (List ℕ) → Type 0
-WroteLinesTaken replies call holds out out_now input left =
-    On Live call holds (λ m. WroteLines (AnswerTaken (lines_on replies call m) input left) out out_now)

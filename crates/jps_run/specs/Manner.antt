@@ -40,11 +40,12 @@ picked_by set = by_of set.states set.pick
 abbrev pub session_by : Settings → By
 session_by set = by_session (engine_for set.states (session_engine set.pick))
 
--- how a call is answered: what is replied to its queries by the picked engine, and by a session; what is
--- shown of a reply; and the corner rule
+-- how a call is answered: what is replied to its queries by the picked engine, by a session, and by the plain
+-- engine, of whose walks `prove` writes; what is shown of a reply; and the corner rule
 pub record Manner : Type 0 where
   pub picked : Replies
   pub session : Replies
+  pub plain : Replies
   pub show : Show
   pub rule : Corner
 
@@ -52,6 +53,7 @@ abbrev pub manner_of : (By → Replies) → Settings → Manner
 manner_of replies set = record {
   picked = replies (picked_by set);
   session = replies (session_by set);
+  plain = replies (by_session engine.Plain);
   show = set.show;
   rule = set.rule;
 }

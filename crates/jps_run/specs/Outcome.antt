@@ -30,8 +30,8 @@ pub record IsOutput (replies : By → Replies) (call : Call) (holds : List ℕ �
   pub accepted : AreAccepted holds [] (files_of call) texts
   pub answered : output_of replies call texts ≡ Some (record { lines = lines; status = status })
 
--- the status; the lines that `out` gets, and for which of them memory may be wanted, so that `memory` may stand in
--- their place; and the line that `err` gets
+-- the status; the lines that `out` gets, and for which of them memory may be wanted, so that `memory` may
+-- stand in their place; and the line that `err` gets
 pub record Outcome : Type 0 where
   pub status : ℕ
   pub out : List (List ℕ)
@@ -79,7 +79,8 @@ pub data IsOutcome (replies : By → Replies) (words : List (List ℕ)) (holds :
     (input : Option (List ℕ))
     : Outcome → Type 0 where
   bad_word : (number : ℕ) → IsBadWord is_call words number
-      → IsOutcome replies words holds input (record { status = 2; out = []; wants = []; line = word_line number })
+      → IsOutcome replies words holds input
+      (record { status = 2; out = []; wants = []; line = word_line number })
   bad_text : (call : Call) (line : List ℕ) → Spell words call
       → HasRefused holds (files_of call) line
       → IsOutcome replies words holds input (record { status = 3; out = []; wants = []; line = line })

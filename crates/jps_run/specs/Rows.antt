@@ -30,7 +30,8 @@ row_of listed (reply.Walk points cost taken) = row.Judged (verdict_of listed cos
 -- the row of an entry: of another size, or what the reply to its query makes of it
 abbrev pub row_for : Replies → Layers → Entry → Row
 row_for replies ls entry =
-    if has_sides ls entry then row_of entry.length (replies ls (start_of entry) (goal_of entry)) else row.Scale
+    if has_sides ls entry
+    then row_of entry.length (replies ls (start_of entry) (goal_of entry)) else row.Scale
 
 -- one row for each entry
 abbrev pub rows_of : Replies → Layers → List Entry → List Row

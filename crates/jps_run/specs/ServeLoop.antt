@@ -1,5 +1,5 @@
 -- How far the answers to lines that come in have come. No public clause cites this module.
-use Rattle.std.specs.Prelude.{◌≡◌, ℕ, ◌+◌, ◌<◌, ◌≤◌, ◌⊎◌, true, false, List, [], ◌++◌, length, Bool, MatchBool, Result}
+use Rattle.std.specs.Prelude.{◌≡◌, ℕ, ◌+◌, ◌<◌, ◌≤◌, ◌⊎◌, List, [], length, Bool, MatchBool, Result}
 use Rattle.std.specs.Io.KnownBytes.{Consumes}
 use Rattle.io_edge.specs.Causes.{Rose}
 use Rattle.io_edge.specs.Known.{Inflow, Outflow}
@@ -40,7 +40,8 @@ serve_stops first input input_now before now = record {
       × WroteAll (ServeWhole (serving_by first) input.left input_now.left) before now;
   Write = Rose before.faults now.faults
       × WroteFirst (ServeTaken (serving_by first) input.left input_now.left) before now;
-  Memory = Wrote before now [] ⊎ WroteAll (ServeEndless (serving_by first) input.left input_now.left) before now;
+  Memory = (Wrote before now [] × (input_now.left ≡ input.left))
+      ⊎ WroteAll (ServeEndless (serving_by first) input.left input_now.left) before now;
 }
 
 -- all lines that came in are answered
@@ -53,8 +54,8 @@ Serves first input input_now before now result =
     EndsOrStops (λ status. (status ≡ 0) × AllIsServed first input before now)
     (serve_stops first input input_now before now) result
 
--- behind turns in which bytes came in, the lines that this turn completes are answered too, and more may be read; or
--- nothing more came in, and all lines are; or that stops
+-- behind turns in which bytes came in, the lines that this turn completes are answered too, and more may be
+-- read; or nothing more came in, and all lines are; or that stops
 abbrev pub ServesTurn : LineServer → LineServer → Inflow → Inflow → List ℕ → List ℕ → Outflow → Outflow
     → Result Bool Stop → Type 0
 ServesTurn old new mid input_now buffer buffer_now at now result =

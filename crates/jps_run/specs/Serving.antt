@@ -1,5 +1,6 @@
--- What answers the lines that `serve` reads, and what was written of that at each stop.
-use Rattle.std.specs.Prelude.{◌≡◌, ℕ, ◌+◌, ◌≤◌, ◌^◌, Bool, true, false, List, [], ◌∷◌, codes, length, map, Option, refl}
+-- What answers the lines that `serve` reads, and that it was written.
+use Rattle.std.specs.Prelude.{◌≡◌, ℕ, ◌+◌, ◌≤◌, ◌^◌, Bool, true, false, List, [], ◌∷◌, codes, length, map}
+use Rattle.std.specs.Prelude.{Option, refl}
 use Rattle.std.specs.Io.KnownBytes.{Consumes, IsAtEnd}
 use Rattle.io_edge.specs.Known.{Held, Outflow}
 use Rattle.grid_moves.specs.declared.Corner.TheVariants.{Never}
@@ -16,7 +17,7 @@ use Rattle.line_feed.specs.Lines.{lines_of}
 use Rattle.line_feed.specs.Fed.{whole_lines}
 use Rattle.line_server.specs.Asked.{may_want}
 use Rattle.line_server.specs.Answers.{all_asked, answers_to}
-use Rattle.jps_run.specs.Heard.{IsInput, WroteAll, WroteFirst}
+use Rattle.jps_run.specs.Heard.{IsInput, WroteAll}
 use Rattle.jps_run.specs.Live.{On}
 use Rattle.jps_run.specs.Manner.{Manner, manner_of}
 use Rattle.jps_run.specs.Replies.{By, Replies}
@@ -50,13 +51,15 @@ pub record ServeInput (answers : Serving) (input : Option (List ℕ)) (texts : L
   pub serve : ServeLines answers (lines_of text) texts
 
 -- for exactly the whole lines among the bytes that were taken
-pub record ServeWhole (answers : Serving) (input left : Option (List ℕ)) (texts : List (List ℕ)) : Type 0 where
+pub record ServeWhole (answers : Serving) (input left : Option (List ℕ))
+    (texts : List (List ℕ)) : Type 0 where
   pub taken : List ℕ
   pub consumed : Consumes input left taken
   pub serve : ServeLines answers (whole_lines taken) texts
 
 -- so, where more bytes were taken than 64 bits count: no more are read
-pub record ServeEndless (answers : Serving) (input left : Option (List ℕ)) (texts : List (List ℕ)) : Type 0 where
+pub record ServeEndless (answers : Serving) (input left : Option (List ℕ))
+    (texts : List (List ℕ)) : Type 0 where
   pub whole : ServeWhole answers input left texts
   pub many : 2 ^ 64 ≤ length whole.taken + 1
 
@@ -66,40 +69,27 @@ pub data AreTaken (left : Option (List ℕ)) (taken : List ℕ) (lines : List Fe
   at_end : IsAtEnd left → lines ≡ lines_of taken → AreTaken left taken lines
 
 -- for these
-pub record ServeTaken (answers : Serving) (input left : Option (List ℕ)) (texts : List (List ℕ)) : Type 0 where
+pub record ServeTaken (answers : Serving) (input left : Option (List ℕ))
+    (texts : List (List ℕ)) : Type 0 where
   pub taken : List ℕ
   pub consumed : Consumes input left taken
   pub lines : List FedLine
   pub are : AreTaken left taken lines
   pub serve : ServeLines answers lines texts
 
--- what stands for the answers to all lines of a call's input was written; to exactly the whole lines among the bytes
--- that were taken, of which there may be too many; a first part of what stands for those to the lines that were taken
-abbrev pub WroteServed : (By → Replies) → Call → (List ℕ → Held) → Outflow → Outflow → Option (List ℕ) → Type 0
+-- what stands for the answers to all lines of a call's input was written
+abbrev pub WroteServed : (By → Replies) → Call → (List ℕ → Held) → Outflow → Outflow
+    → Option (List ℕ) → Type 0
 WroteServed replies call holds out out_now input =
     On Serve call holds (λ m. WroteAll (ServeInput (serving_for replies call m) input) out out_now)
 
-abbrev pub WroteWhole : (By → Replies) → Call → (List ℕ → Held) → Outflow → Outflow → Option (List ℕ)
-    → Option (List ℕ) → Type 0
-WroteWhole replies call holds out out_now input left =
-    On Serve call holds (λ m. WroteAll (ServeWhole (serving_for replies call m) input left) out out_now)
-
-abbrev pub WroteEndless : (By → Replies) → Call → (List ℕ → Held) → Outflow → Outflow → Option (List ℕ)
-    → Option (List ℕ) → Type 0
-WroteEndless replies call holds out out_now input left =
-    On Serve call holds (λ m. WroteAll (ServeEndless (serving_for replies call m) input left) out out_now)
-
-abbrev pub WroteSomeServed : (By → Replies) → Call → (List ℕ → Held) → Outflow → Outflow → Option (List ℕ)
-    → Option (List ℕ) → Type 0
-WroteSomeServed replies call holds out out_now input left =
-    On Serve call holds (λ m. WroteFirst (ServeTaken (serving_for replies call m) input left) out out_now)
-
--- a worked row, where no query finds a walk: the second edit finds what the first one made, and a line of blanks has an
--- answer of no bytes
+-- a worked row, where no query finds a walk: the second edit finds what the first one made, and a line of
+-- blanks has an answer of no bytes
 abbrev none_found : Manner
 none_found = record {
   picked = λ ls s t. reply.None [];
   session = λ ls s t. reply.None [];
+  plain = λ ls s t. reply.None [];
   show = Points;
   rule = Never;
 }

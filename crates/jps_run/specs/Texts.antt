@@ -3,8 +3,8 @@ use Rattle.std.specs.Prelude.{ℕ, List, [], codes, map, ◌++◌}
 use Rattle.std.specs.List.{concat}
 use Rattle.word_list.specs.Request.{Named, rows}
 use Rattle.word_list.specs.declared.settings.Family.{Family}
-use Rattle.word_list.specs.declared.settings.Family.TheVariants.{Engine, SmallMap, Show, Walks, Drawing, Counts}
-use Rattle.word_list.specs.declared.settings.Family.TheVariants.{Rule, TableFile}
+use Rattle.word_list.specs.declared.settings.Family.TheVariants.{Engine, SmallMap, Show, Walks, Drawing}
+use Rattle.word_list.specs.declared.settings.Family.TheVariants.{Counts, Rule, TableFile}
 
 -- how help tells of the settings of a family
 abbrev setting_text : Family → List ℕ
@@ -69,4 +69,4 @@ help_text =
 
 -- what `--version` prints
 abbrev pub version_text : List ℕ
-version_text = codes "jps 1.2.0\n"
+version_text = codes "jps 1.3.0\n"

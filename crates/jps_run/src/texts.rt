@@ -87,5 +87,5 @@ faults, one line on standard error:
 pub(crate) fn version_text() -> &'static [u8]
     ensures { result.now ≡ spec.version_text }
 {
-    b"jps 1.2.0\n"
+    b"jps 1.3.0\n"
 }

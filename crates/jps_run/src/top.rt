@@ -4,7 +4,8 @@ ghost use Rattle.std.specs.Prelude.{◌≡◌, ◌≤◌, ◌⊎◌, OnOk, map, 
 ghost use Rattle.io_edge.specs.Causes.{Rose};
 ghost use Rattle.word_list.specs.Request.{IsSound, called};
 ghost use Rattle.jps_run.specs.Counting.{RoseAsCalled, RoseForCall};
-ghost use Rattle.jps_run.specs.Ending.{Comes, EndsRight, Gets, HasFailed, HasLines, CanHear, HasPart, InputRose, NamedRose, Names, ending_line, line_of, status_of};
+ghost use Rattle.jps_run.specs.Ending.{Comes, EndsRight, Gets, HasFailed, HasLines, CanHear, HasPart};
+ghost use Rattle.jps_run.specs.Ending.{InputRose, NamedRose, Names, ending_line, line_of, status_of};
 ghost use Rattle.jps_run.specs.Calls.{MayHear};
 ghost use Rattle.jps_run.specs.CallEnds.{EndsCall};
 ghost use Rattle.jps_run.specs.Who.{replies_by};
@@ -115,7 +116,8 @@ fn finish<E: Sink>(ended: Result<u8, Stop>, err: &mut E) -> u8
 /// `words` are the program's words without its own name. Files are read by their names, a script
 /// that comes in from `input`; `out` gets the output and `err` the line of a refusal or a fault.
 /// `steps` counts what the session counts, and by `scen` with first moves a step for each move of a walk,
-/// and one where a first move is looked for in vain (of these the clauses say only that the counter does not fall).
+/// and one where a first move is looked for in vain (of these the clauses say only
+/// that the counter does not fall).
 ///
 /// Statuses: 0 done; 1 done, and a scenario has a row that is neither agree nor near, or `judge` or
 /// `check` refuses, or `prove` has no ends that are free and on one layer of the map, or `draw` none that are
@@ -140,19 +142,21 @@ pub fn run<F: Files, I: Source, O: Sink, E: Sink, L: Ledger>(
         (E.outflow err.new) result }
     // And by which replies: those of the picked engine.
     ensures outcome { result ≤ 3 → Comes replies_by (map string_bytes words.now) (F.disk files.old).holds
-        (I.inflow input.old).left (O.outflow out.old) (O.outflow out.new) (E.outflow err.old) (E.outflow err.new) result }
+        (I.inflow input.old).left (O.outflow out.old) (O.outflow out.new) (E.outflow err.old)
+        (E.outflow err.new) result }
     // A read fault has its cause: the count of a file rose that the words name and that there was
     // reason to read, as the files before it were accepted, and nothing was written; or that of an
-    // input that the words ask for, and exactly the lines of its whole commands so far were, or by `serve` the
-    // answers to its whole lines.
-    ensures read { result ≡ 4 → HasFailed replies_by (map string_bytes words.now) (F.disk files.old) (F.disk files.new)
+    // input that the words ask for, and exactly the lines of its whole commands so far were, or by `serve`
+    // the answers to its whole lines.
+    ensures read { result ≡ 4
+        → HasFailed replies_by (map string_bytes words.now) (F.disk files.old) (F.disk files.new)
         (I.inflow input.old) (I.inflow input.new) (O.outflow out.old) (O.outflow out.new) }
     // A write fault has its cause, and a first part of the whole output was written.
     ensures write { result ≡ 5 → Rose (O.outflow out.old).faults (O.outflow out.new).faults }
     ensures part { result ≡ 5 → HasPart replies_by (map string_bytes words.now) (F.disk files.old).holds
         (I.inflow input.old) (I.inflow input.new) (O.outflow out.old) (O.outflow out.new) }
-    // On want of memory the first lines of the output were written, not all, or nothing; by `serve` nothing, unless
-    // more bytes came in than 64 bits count.
+    // On want of memory the first lines of the output were written, not all, or nothing; by `serve` nothing was
+    // read or written, unless more bytes came in than 64 bits count.
     ensures memory { result ≡ 6 → HasLines replies_by (map string_bytes words.now) (F.disk files.old).holds
         (I.inflow input.old) (I.inflow input.new) (O.outflow out.old) (O.outflow out.new) }
     ensures line { 4 ≤ result → Gets (E.outflow err.old) (E.outflow err.new) (ending_line result) }

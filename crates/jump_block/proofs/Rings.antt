@@ -38,7 +38,8 @@ three_of f first word inner lowest a b c e g h k l m n o (suc (suc (suc j))) i =
 -- three bits that lie in one word
 pub three_in_word : (f : ℕ → Bool) (first word bits : ℕ) → first % 64 < 62
     → ((j : ℕ) → j < 64 → is_set word j ≡ f (first / 64 * 64 + j))
-    → ((j : ℕ) → is_set bits j ≡ is_set word (first % 64 + j)) → (j : ℕ) → j < 3 → is_set bits j ≡ f (first + j)
+    → ((j : ℕ) → is_set bits j ≡ is_set word (first % 64 + j)) → (j : ℕ) → j < 3
+    → is_set bits j ≡ f (first + j)
 three_in_word f first word bits few there from j i =
     let place : first / 64 * 64 + (first % 64 + j) ≡ first + j = omega arith in
     from j ∙ there (first % 64 + j) (omega arith) ∙ ap f place

@@ -152,8 +152,8 @@ abbrev pub stop_of : Corner → Option Halt → ℕ → Option ℕ
 stop_of rule (Some h) to_goal = reach.stop_of (reach_of_halt rule h) to_goal
 stop_of rule None to_goal = Some to_goal
 
--- the stop that follows from where a scan halts, the goal lying so many moves ahead, or 0, and the steps of such
--- a scan at most
+-- the stop that follows from where a scan halts, the goal lying so many moves ahead, or 0, and the steps of
+-- such a scan at most
 abbrev pub StopsAt : Corner → Trail → ℕ → ℕ → ℕ → Option ℕ → Type 0
 StopsAt rule t to_goal old new stop = (found : Option Halt) × Finds rule t to_goal found
     × (stop ≡ stop_of rule found to_goal) × (new ≤ old + most_lanes (looked to_goal found))

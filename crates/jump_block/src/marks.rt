@@ -29,8 +29,8 @@ fn is_mark(found: Option<Halt>) -> bool
     }
 }
 
-// Whether a scan halts at a mark, where nothing halts it in the words around the cell: the next three are read
-// before all that is past them.
+// Whether a scan halts at a mark, where nothing halts it in the words around the cell: the next three are
+// read before all that is past them.
 #[inline(never)]
 fn finds_next<const FORWARD: bool, const RULE: usize, L: Ledger>(
     rule: Corner,

@@ -2,7 +2,8 @@
 
 ghost use Rattle.std.specs.Prelude.{◌≡◌, ℕ, ◌+◌, ◌-◌, ◌<◌, ◌≤◌, ◌&&◌, Bool, false, nat_lt, nat_le};
 ghost use Rattle.grid_moves.specs.Ruled as ruled;
-ghost use Rattle.jump_block.specs.Scan.{ClearFrom, FindsFrom, HasFirst, IsStart, PassedFrom, looked, most_lanes};
+ghost use Rattle.jump_block.specs.Scan.{ClearFrom, FindsFrom, HasFirst, IsStart, PassedFrom, looked};
+ghost use Rattle.jump_block.specs.Scan.{most_lanes};
 ghost use Rattle.jump_block.specs.Word as spec;
 ghost use Rattle.jump_block.specs.Word.{AreEight};
 
@@ -80,8 +81,8 @@ fn scan_on<L: Ledger>(
     None
 }
 
-/// The way forward, or else the way back, so that it can be a constant of a function, which has code of its own
-/// for each.
+/// The way forward, or else the way back, so that it can be a constant of a function,
+/// which has code of its own for each.
 #[inline(always)]
 pub(crate) fn way_of(forward: bool) -> Way
     ensures { result ≡ spec.way_of forward }
@@ -160,8 +161,8 @@ pub(crate) fn scan_rest<const FORWARD: bool, const RULE: usize, L: Ledger>(
     }
 }
 
-/// Scans along a line from a free cell: finds where the scan halts, or `None` where the goal is met before. The
-/// goal lies so many moves on, or is not ahead, which is 0.
+/// Scans along a line from a free cell: finds where the scan halts, or `None` where the goal is met before.
+/// The goal lies so many moves on, or is not ahead, which is 0.
 ///
 /// Most scans halt in the block in which they start, so what is past it is looked at out of line.
 #[inline(always)]

@@ -246,7 +246,8 @@ impl<'a> JumpSource for BlockJumps<'a> {
     // (asked in the search by either rule of states, so the compiler would not put it in by itself)
     #[inline(always)]
     fn allowed_word<L: Ledger>(&self, at: Cell, by: Arrival, steps: &mut Steps<L>) -> Packed
-        requires { (g : GridData) × AreBitsOf self.now.bits.now g × IsTrue (is_free g at) × CanArrive g at by }
+        requires { (g : GridData) × AreBitsOf self.now.bits.now g × IsTrue (is_free g at)
+            × CanArrive g at by }
         ensures rule { (g : GridData) → AreBitsOf self.now.bits.now g → IsTrue (is_free g at)
             → CanArrive g at by → result ≡ allowed_dirs g at by }
         ensures most { IsWithin None (λ known. known.allowed) steps.old steps.new }

@@ -96,7 +96,8 @@ fn ends_marked<T: Terrain>(t: &T, at: Cell, d: Dir, shut: u8) -> bool
 }
 
 /// Scans along the legal run from a free cell in a straight direction, given its place and the sides to begin
-/// with: to the first cell with a forced neighbour, or else to the run's end. The cell itself is not looked at.
+/// with: to the first cell with a forced neighbour, or else to the run's end.
+/// The cell itself is not looked at.
 #[inline(always)]
 pub fn scan_with<T: Terrain>(t: &T, place: usize, at: Cell, d: Dir, sides: Sides) -> Reach
     requires given { place ≡ T.place_of t.now at }

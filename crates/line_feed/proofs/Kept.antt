@@ -66,7 +66,8 @@ not-begun feed begun kept short none = sym (kept.bytes short) ∙ no-bytes feed.
 
 pub long-begun : (feed : LineFeed) (begun : List ℕ) → HasKept feed begun → feed.too_long ≡ true
     → 0 < length begun
-long-begun feed begun kept long = let e : is_long begun ≡ true = sym kept.long ∙ long in grind (arith, nat_tests)
+long-begun feed begun kept long = let e : is_long begun ≡ true = sym kept.long ∙ long
+    in grind (arith, nat_tests)
 
 pub short-begun : (feed : LineFeed) (begun : List ℕ) → HasKept feed begun → feed.too_long ≡ false
     → 0 < length feed.line.items → 0 < length begun

@@ -18,8 +18,8 @@ pub record HasKept (feed : LineFeed) (begun : List ℕ) : Type 0 where
 abbrev pub HasTaken : LineFeed → List ℕ → Type 0
 HasTaken feed text = HasKept feed (cut text).rest
 
--- behind a text it took a piece up to its first line feed, and the line that this completes comes behind those
--- before it
+-- behind a text it took a piece up to its first line feed, and the line that this completes comes behind
+-- those before it
 pub record CompletesLine (text piece : List ℕ) (feed : LineFeed) (line : FedLine) (rest : List ℕ)
     : Type 0 where
   pub head : List ℕ

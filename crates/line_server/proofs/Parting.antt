@@ -91,16 +91,19 @@ none-line engine show ls s t are one apart shows =
 pub reply-unfolds : (engine : Engine) (ls : Layers) (s t : Cell) (r : Reply) → r ≡ reply_of engine ls s t
     → Unfolds r
 reply-unfolds engine ls s t r is = subst Unfolds (sym is)
-    (replied_unfolds ls s t (reply_of engine ls s t) (is_reply (record { engine = engine; layers = ls }) s t).right)
+    (replied_unfolds ls s t (reply_of engine ls s t)
+    (is_reply (record { engine = engine; layers = ls }) s t).right)
 
 -- the answer to `near` is the line of the query to the nearest cell
-pub near-there : (engine : Engine) (show : Show) (ls : Layers) (s goal c : Cell) (text : List ℕ) → AreLayers ls
+pub near-there : (engine : Engine) (show : Show) (ls : Layers) (s goal c : Cell)
+    (text : List ℕ) → AreLayers ls
     → is_on_map ls s ≡ true → is_on_map ls goal ≡ true → is_free_ground ls s ≡ true
     → IsNearest (query_grid ls s) s goal c → text ≡ query_line (reply_of engine) show ls s c
     → text ≡ near_line (reply_of engine) show ls s goal
 near-there engine show ls s goal c text are on onto free nearest is =
     let line : List ℕ = query_line (reply_of engine) show ls s (nearest_by (reply_of engine) ls s goal) in
-    is ∙ ap (λ (d : Cell). query_line (reply_of engine) show ls s d) (nearest-is engine ls are s goal c free nearest)
+    is ∙ ap (λ (d : Cell). query_line (reply_of engine) show ls s d)
+    (nearest-is engine ls are s goal c free nearest)
     ∙ sym (cond-true (is_on_map ls s && is_on_map ls goal)
     (if is_free_ground ls s then line else codes "blocked\n") (codes "outside\n")
     (and_from (is_on_map ls s) (is_on_map ls goal) on onto)

@@ -1,10 +1,10 @@
 -- How a server goes on, line by line.
-use Rattle.std.proofs.Common.{◌≡◌, refl, sym, ap, ◌∙◌, subst, List, [], ◌∷◌, ◌++◌, append_assoc, ℕ, ◌≤◌, arith}
-use Rattle.std.proofs.Common.{true, map, inl, inr}
-use Rattle.std.specs.Prelude.{Result, Ok, Err, IfOk, MatchResult}
+use Rattle.std.proofs.Common.{◌≡◌, refl, sym, ap, ◌∙◌, subst, List, [], ◌∷◌, ◌++◌, append_assoc, ℕ, ◌≤◌}
+use Rattle.std.proofs.Common.{arith, Bool, false, true, map, inl, inr}
+use Rattle.std.specs.Prelude.{Result, Ok, Err, IfOk, MatchResult, if◌then◌else◌}
 use Rattle.std.specs.List.{concat}
 use Rattle.std.specs.Global.{Vec}
-use Rattle.std.proofs.lemmas.Bool.{cases_Bool}
+use Rattle.std.proofs.lemmas.Bool.{cases_Bool, cond-false}
 use Rattle.std.proofs.lemmas.List.{append-nil, map-append}
 use Rattle.std.proofs.lemmas.List.Folds.{concat-append}
 use Rattle.grid_moves.specs.Layers.{Layers}
@@ -34,7 +34,8 @@ use Rattle.line_server.specs.declared.asked.Asked.TheVariants as asked
 use Rattle.line_server.specs.declared.server.LineServer.{LineServer}
 use Rattle.line_server.specs.Asked.{asked_by, edits_by, may_want}
 use Rattle.line_server.specs.Answers.{Answers, AreAnswers, all_asked, answer_to, edits_of}
-use Rattle.line_server.specs.Served.{AnswersOne, HasServed, HaveAnswered, HaveStopped, WritesText, text_or_memory}
+use Rattle.line_server.specs.Served.{HasServed, HaveAnswered, HaveStopped}
+use Rattle.line_server.specs.Writing.{AnswersOne, PutsText, WritesText, text_or_memory}
 
 -- the edits of one line more
 edits-more : (some : List Asked) (a : Asked) → edits_of (some ++ a ∷ []) ≡ edits_of some ++ edits_by a
@@ -64,55 +65,88 @@ texts-more : (texts : List (List ℕ)) (text : List ℕ) → concat (texts ++ te
 texts-more texts text =
     concat-append texts (text ∷ []) ∙ ap (λ (l : List ℕ). concat texts ++ l) (append-nil text)
 
-module _ {T E : Type 0} (first old new : LineServer) (lines : List Asked) (a : Asked) (before at now : Outflow)
-    (result : Result T E) (h : HaveAnswered first old lines before at) (one : AnswersOne old new a at now result) where
-  its-answer : Answers (reply_of first.session.engine) first.show (edited first.session.layers (edits_of lines)) a
-      one.text
-  its-answer =
-      subst (λ (e : Engine). Answers (reply_of e) first.show (edited first.session.layers (edits_of lines)) a one.text)
-      h.engine
-      (subst (λ (s : Show). Answers (reply_of old.session.engine) s (edited first.session.layers (edits_of lines)) a
-      one.text) h.show
-      (subst (λ (ls : Layers). Answers (reply_of old.session.engine) old.show ls a one.text) h.layers one.answers))
+-- these texts answer these lines of a first server, whose edits led to this session
+pub record AreAnswered (first : LineServer) (session : SessionData) (show : Show) (lines : List Asked)
+    (texts : List (List ℕ)) : Type 0 where
+  pub engine : session.engine ≡ first.session.engine
+  pub shown : show ≡ first.show
+  pub layers : session.layers ≡ edited first.session.layers (edits_of lines)
+  pub answers : AreAnswers (reply_of first.session.engine) first.show first.session.layers [] lines texts
 
-  its-answers : AreAnswers (reply_of first.session.engine) first.show first.session.layers [] (lines ++ a ∷ [])
-      (h.texts ++ one.text ∷ [])
-  its-answers = answers-more (reply_of first.session.engine) first.show first.session.layers [] lines h.texts a
-      one.text h.answers its-answer
+answered-of : {first now : LineServer} {lines : List Asked} {before after : Outflow}
+    → (h : HaveAnswered first now lines before after) → AreAnswered first now.session now.show lines h.texts
+answered-of h = record { engine = h.engine; shown = h.show; layers = h.layers; answers = h.answers }
 
-  -- its text was written too
-  pub answered-more : Wrote at now one.text → HaveAnswered first new (lines ++ a ∷ []) before now
-  answered-more wrote = record {
-    engine = one.engine ∙ h.engine;
-    show = one.show ∙ h.show;
-    layers = one.layers first.session.layers (edits_of lines) h.layers
-        ∙ ap (λ (l : List Edit). edited first.session.layers l) (sym (edits-more lines a));
-    texts = h.texts ++ one.text ∷ [];
-    answers = its-answers;
-    wrote = subst (λ (l : List ℕ). Wrote before now l) (sym (texts-more h.texts one.text))
-        (appends-both before.written at.written now.written (concat h.texts) one.text h.wrote wrote);
-    later = let l : before.faults ≤ at.faults = h.later in let m : at.faults ≤ now.faults = one.later in omega arith;
-  }
+answered-more : (first : LineServer) (old new : SessionData) (show : Show) (lines : List Asked)
+    (texts : List (List ℕ)) (a : Asked) (text : List ℕ) → AreAnswered first old show lines texts
+    → AnswersOne old new show a text → AreAnswered first new show (lines ++ a ∷ []) (texts ++ text ∷ [])
+answered-more first old new show lines texts a text h one = record {
+  engine = one.engine ∙ h.engine;
+  shown = h.shown;
+  layers = one.layers first.session.layers (edits_of lines) h.layers
+      ∙ ap (λ (l : List Edit). edited first.session.layers l) (sym (edits-more lines a));
+  answers =
+      let ls : Layers = edited first.session.layers (edits_of lines) in
+      answers-more (reply_of first.session.engine) first.show first.session.layers [] lines texts a text
+      h.answers (subst (λ (e : Engine). Answers (reply_of e) first.show ls a text) h.engine
+      (subst (λ (s : Show). Answers (reply_of old.engine) s ls a text) h.shown
+      (subst (λ (l : Layers). Answers (reply_of old.engine) show l a text) h.layers one.answers)));
+}
 
-  -- or a first part of it
-  pub stopped-more : (others all : List Asked) → all ≡ (lines ++ a ∷ []) ++ others → WroteSome at now one.text
+-- of the texts that answer some lines a first part was written, and then the rest is
+module _ {first : LineServer} (new : LineServer) (lines : List Asked) (texts : List (List ℕ))
+    (before at : Outflow) (h : AreAnswered first new.session new.show lines texts) (sent rest : List ℕ)
+    (wrote : Wrote before at sent) (parts : concat texts ≡ sent ++ rest) (later : before.faults ≤ at.faults)
+    (now : Outflow) where
+  stopped-so : (others all : List Asked) → all ≡ lines ++ others → WroteSome at now rest
       → HaveStopped first all before now
-  stopped-more others all is wrote = record {
-    some = lines ++ a ∷ [];
+  stopped-so others all is some = record {
+    some = lines;
     others = others;
     all = is;
-    texts = h.texts ++ one.text ∷ [];
-    answers = its-answers;
+    texts = texts;
+    answers = h.answers;
     wrote = (
-      rose-since before.faults at.faults now.faults h.later wrote.0,
-      subst (λ (l : List ℕ). AppendsSome before.written now.written l) (sym (texts-more h.texts one.text))
-          (appends-part before.written at.written now.written (concat h.texts) one.text h.wrote wrote.1),
+      rose-since before.faults at.faults now.faults later some.0,
+      subst (λ (l : List ℕ). AppendsSome before.written now.written l) (sym parts)
+          (appends-part before.written at.written now.written sent rest wrote some.1),
     );
   }
 
--- a server with a session that may be another
-abbrev pub with_session : LineServer → SessionData → LineServer
-with_session s session = record { session = session; show = s.show; feed = s.feed }
+  written-so : {T E : Type 0} (result : Result T E) → WritesText rest at now result → at.faults ≤ now.faults
+      → MatchResult result (λ _. HaveAnswered first new lines before now)
+      (λ _. HaveStopped first lines before now)
+  written-so (Ok done) all risen = record {
+    engine = h.engine;
+    show = h.shown;
+    layers = h.layers;
+    texts = texts;
+    answers = h.answers;
+    wrote = subst (λ (l : List ℕ). Wrote before now l) (sym parts)
+        (appends-both before.written at.written now.written sent rest wrote all);
+    later = omega arith;
+  }
+  written-so (Err error) some risen = stopped-so [] lines (sym (append-nil lines)) some
+
+-- where there was no room for a text, what waited waits on
+pub waits-on : (has_room : Bool) (slice now held text : List ℕ) → slice ≡ now
+    → now ≡ (if has_room then held ++ text else held) → has_room ≡ false → slice ≡ held
+waits-on has_room slice now held text same put none =
+    same ∙ put ∙ cond-false has_room (held ++ text) held none
+
+-- what waited is written, and then a text
+pub puts-both : {T E : Type 0} (text : List ℕ) (at mid now : Outflow) (held none : List ℕ)
+    (result : Result T E) → Wrote at mid held → at.faults ≤ mid.faults → none ≡ []
+    → WritesText text mid now result → PutsText text at held now none result
+puts-both text at mid now held none (Ok done) first later is all = (
+  held ++ text,
+  appends-both at.written mid.written now.written held text first all,
+  sym (ap (λ (l : List ℕ). (held ++ text) ++ l) is ∙ append-nil (held ++ text)),
+)
+puts-both text at mid now held none (Err error) first later is some = (
+  rose-since at.faults mid.faults now.faults later some.0,
+  appends-part at.written mid.written now.written held text first some.1,
+)
 
 -- a text that was made, or memory was refused
 answer-made : {E : Type 0} (replies : Replies) (show : Show) (ls : Layers) (a : Asked) (r : Result (Vec ℕ) E)
@@ -122,44 +156,28 @@ answer-made replies show ls a (Ok t) wants is = inl is
 answer-made replies show ls a (Err error) wants is = inr (wants, refl)
 
 -- what changes nothing is answered
-pub answered-so : {T E : Type 0} (old new : LineServer) (a : Asked) (text : List ℕ) (at now : Outflow)
-    (result : Result T E) → new.session ≡ old.session → new.show ≡ old.show → edits_by a ≡ []
-    → Answers (reply_of old.session.engine) old.show old.session.layers a text → WritesText text at now result
-    → at.faults ≤ now.faults → AnswersOne old new a at now result
-answered-so old new a text at now result same shown none answers wrote later = record {
+pub answered-made : {E : Type 0} (old new : SessionData) (show : Show) (a : Asked) (r : Result (Vec ℕ) E)
+    (text : List ℕ) → text ≡ text_or_memory r → new ≡ old → edits_by a ≡ [] → may_want a ≡ true
+    → IfOk r (λ t. t.items ≡ answer_to (reply_of old.engine) show old.layers a)
+    → AnswersOne old new show a text
+answered-made old new show a r text made same none wants is = record {
   engine = ap (λ (d : SessionData). d.engine) same;
-  show = shown;
-  layers = λ m before is. ap (λ (d : SessionData). d.layers) same ∙ is
+  layers = λ m before e. ap (λ (d : SessionData). d.layers) same ∙ e
       ∙ ap (λ (l : List Edit). edited m l)
       (sym (ap (λ (l : List Edit). before ++ l) none ∙ append-nil before));
-  text = text;
-  answers = answers;
-  wrote = wrote;
-  later = later;
+  answers = subst (λ (l : List ℕ). Answers (reply_of old.engine) show old.layers a l) (sym made)
+      (answer-made (reply_of old.engine) show old.layers a r wants is);
 }
 
-pub answered-made : {T E F : Type 0} (old new : LineServer) (a : Asked) (r : Result (Vec ℕ) F) (at now : Outflow)
-    (result : Result T E) → new.session ≡ old.session → new.show ≡ old.show → edits_by a ≡ [] → may_want a ≡ true
-    → IfOk r (λ t. t.items ≡ answer_to (reply_of old.session.engine) old.show old.session.layers a)
-    → WritesText (text_or_memory r) at now result → at.faults ≤ now.faults → AnswersOne old new a at now result
-answered-made old new a r at now result same shown none wants is wrote later =
-    answered-so old new a (text_or_memory r) at now result same shown none
-    (answer-made (reply_of old.session.engine) old.show old.session.layers a r wants is) wrote later
-
 -- so is an edit
-pub answered-edit : {T E : Type 0} (old new : LineServer) (x y : ℕ) (to : Ground) (text : List ℕ) (at now : Outflow)
-    (result : Result T E) → new.session.engine ≡ old.session.engine → new.show ≡ old.show
-    → AddsEdit old.session.layers (edit_at x y to) new.session.layers
-    → text ≡ edit_line (edit_reply old.session.layers (edit_at x y to)) → WritesText text at now result
-    → at.faults ≤ now.faults → AnswersOne old new (asked.Edit x y to) at now result
-answered-edit old new x y to text at now result same shown adds is wrote later = record {
+pub answered-edit : (old new : SessionData) (show : Show) (x y : ℕ) (to : Ground) (text : List ℕ)
+    → new.engine ≡ old.engine → AddsEdit old.layers (edit_at x y to) new.layers
+    → text ≡ edit_line (edit_reply old.layers (edit_at x y to))
+    → AnswersOne old new show (asked.Edit x y to) text
+answered-edit old new show x y to text same adds is = record {
   engine = same;
-  show = shown;
   layers = adds;
-  text = text;
   answers = inl is;
-  wrote = wrote;
-  later = later;
 }
 
 -- nothing came yet
@@ -188,7 +206,11 @@ grown text byte = elim (cases_Bool (is_line_feed byte)) [
 
 pub lines-grow : (text bytes : List ℕ)
     → (more : List (List ℕ)) × ((cut (text ++ bytes)).lines ≡ (cut text).lines ++ more)
-lines-grow text [] = ([], ap (λ (t : List ℕ). (cut t).lines) (append-nil text) ∙ sym (append-nil (cut text).lines))
+lines-grow text [] = (
+  [],
+  ap (λ (t : List ℕ). (cut t).lines) (append-nil text)
+      ∙ sym (append-nil (cut text).lines),
+)
 lines-grow text (byte ∷ bytes) =
     let here = grown text byte in
     let later = lines-grow (text ++ byte ∷ []) bytes in (
@@ -213,101 +235,133 @@ asked-more : (text : List ℕ) (lines : List FedLine) (line : FedLine) → lines
 asked-more text lines line is =
     ap (λ (l : List FedLine). all_asked l) is ∙ map-append asked_by (whole_lines text) (line ∷ [])
 
--- a first part of a piece came
-pub record IsServing (first now : LineServer) (text piece left : List ℕ) (before at : Outflow) : Type 0 where
+-- a first part of a piece came, and of the answers to the lines with it the last ones wait to be written
+pub record IsServing (first now : LineServer) (text piece left : List ℕ) (before at : Outflow) (held : List ℕ)
+    : Type 0 where
   pub eaten : List ℕ
   pub parted : piece ≡ eaten ++ left
-  pub served : HasServed first now (text ++ eaten) before at
+  pub fed : HasTaken now.feed (text ++ eaten)
+  pub texts : List (List ℕ)
+  pub answered : AreAnswered first now.session now.show (all_asked (whole_lines (text ++ eaten))) texts
+  pub sent : List ℕ
+  pub wrote : Wrote before at sent
+  pub parts : concat texts ≡ sent ++ held
+  pub later : before.faults ≤ at.faults
 
-pub serving-begun : (first old : LineServer) (text piece : List ℕ) (before at : Outflow)
-    → HasServed first old text before at → IsServing first old text piece piece before at
-serving-begun first old text piece before at h = record {
+pub serving-begun : (first old : LineServer) (text piece : List ℕ) (before at : Outflow) (held : List ℕ)
+    → held ≡ [] → HasServed first old text before at → IsServing first old text piece piece before at held
+serving-begun first old text piece before at held none h = record {
   eaten = [];
   parted = refl;
-  served = subst (λ (t : List ℕ). HasServed first old t before at) (sym (append-nil text)) h;
+  fed = subst (λ (t : List ℕ). HasTaken old.feed t) (sym (append-nil text)) h.fed;
+  texts = h.answered.texts;
+  answered = subst
+      (λ (t : List ℕ). AreAnswered first old.session old.show (all_asked (whole_lines t)) h.answered.texts)
+      (sym (append-nil text)) (answered-of h.answered);
+  sent = concat h.answered.texts;
+  wrote = h.answered.wrote;
+  parts = sym (ap (λ (l : List ℕ). concat h.answered.texts ++ l) none ∙ append-nil (concat h.answered.texts));
+  later = h.answered.later;
 }
 
-abbrev pub with_feed : LineServer → LineFeed → LineServer
-with_feed s feed = record { session = s.session; show = s.show; feed = feed }
+abbrev pub server_of : SessionData → Show → LineFeed → LineServer
+server_of session show feed = record { session = session; show = show; feed = feed }
 
-module _ (first old : LineServer) (text piece left : List ℕ) (before at : Outflow)
-    (s : IsServing first old text piece left before at) (feed : LineFeed) where
-  stands : HaveAnswered first (with_feed old feed) (all_asked (whole_lines (text ++ s.eaten))) before at
-  stands = record {
-    engine = s.served.answered.engine;
-    show = s.served.answered.show;
-    layers = s.served.answered.layers;
-    texts = s.served.answered.texts;
-    answers = s.served.answered.answers;
-    wrote = s.served.answered.wrote;
-    later = s.served.answered.later;
-  }
-
+module _ (first old : LineServer) (text piece left : List ℕ) (before at : Outflow) (held : List ℕ)
+    (s : IsServing first old text piece left before at held) (feed : LineFeed) (now : Outflow) where
   -- a line is whole, and what it asks is answered
-  module _ {T E : Type 0} (line : FedLine) (rest : List ℕ)
-      (c : (t : List ℕ) → HasTaken old.feed t → CompletesLine t left feed line rest) (a : Asked) (is : a ≡ asked_by line)
-      (new : LineServer) (now : Outflow) (result : Result T E)
-      (one : AnswersOne (with_feed old feed) new a at now result) where
+  module _ (line : FedLine) (rest : List ℕ)
+      (c : (t : List ℕ) → HasTaken old.feed t → CompletesLine t left feed line rest) (a : Asked)
+      (is : a ≡ asked_by line) (new : SessionData) (answer : List ℕ)
+      (one : AnswersOne old.session new old.show a answer) where
     abbrev its : CompletesLine (text ++ s.eaten) left feed line rest
-    its = c (text ++ s.eaten) s.served.fed
+    its = c (text ++ s.eaten) s.fed
 
     abbrev eaten : List ℕ
     eaten = s.eaten ++ (its.head ++ 10 ∷ [])
 
     moved : (text ++ s.eaten) ++ its.head ++ 10 ∷ [] ≡ text ++ eaten
-    moved = append_assoc (text ++ s.eaten) its.head (10 ∷ []) ∙ append_assoc text s.eaten (its.head ++ 10 ∷ [])
+    moved = append_assoc (text ++ s.eaten) its.head (10 ∷ [])
+        ∙ append_assoc text s.eaten (its.head ++ 10 ∷ [])
 
     lines-are : all_asked (whole_lines (text ++ eaten)) ≡ all_asked (whole_lines (text ++ s.eaten)) ++ a ∷ []
     lines-are =
         ap (λ (t : List ℕ). all_asked (whole_lines t)) (sym moved)
-        ∙ asked-more (text ++ s.eaten) (whole_lines ((text ++ s.eaten) ++ its.head ++ 10 ∷ [])) line its.completed
+        ∙ asked-more (text ++ s.eaten)
+        (whole_lines ((text ++ s.eaten) ++ its.head ++ 10 ∷ [])) line its.completed
         ∙ ap (λ (b : Asked). all_asked (whole_lines (text ++ s.eaten)) ++ b ∷ []) (sym is)
 
-    parts : piece ≡ eaten ++ rest
-    parts = s.parted ∙ ap (λ (l : List ℕ). s.eaten ++ l) (its.parted ∙ sym (append_assoc its.head (10 ∷ []) rest))
+    parted : piece ≡ eaten ++ rest
+    parted = s.parted ∙ ap (λ (l : List ℕ). s.eaten ++ l)
+        (its.parted ∙ sym (append_assoc its.head (10 ∷ []) rest))
         ∙ sym (append_assoc s.eaten (its.head ++ 10 ∷ []) rest)
 
-    pub serving-more : new.feed ≡ feed → Wrote at now one.text → IsServing first new text piece rest before now
-    serving-more same wrote = record {
+    abbrev texts : List (List ℕ)
+    texts = s.texts ++ answer ∷ []
+
+    answered : AreAnswered first new old.show (all_asked (whole_lines (text ++ eaten))) texts
+    answered = subst (λ (l : List Asked). AreAnswered first new old.show l texts) (sym lines-are)
+        (answered-more first old.session new old.show (all_asked (whole_lines (text ++ s.eaten))) s.texts a
+        answer s.answered one)
+
+    parts : concat texts ≡ s.sent ++ (held ++ answer)
+    parts = texts-more s.texts answer ∙ ap (λ (l : List ℕ). l ++ answer) s.parts
+        ∙ append_assoc s.sent held answer
+
+    pub serving-more : (held_now : List ℕ)
+        → (sent : List ℕ) × Wrote at now sent × (held ++ answer ≡ sent ++ held_now) → at.faults ≤ now.faults
+        → IsServing first (server_of new old.show feed) text piece rest before now held_now
+    serving-more held_now put risen = record {
       eaten = eaten;
-      parted = parts;
-      served = record {
-        fed = subst (λ (f : LineFeed). HasTaken f (text ++ eaten)) (sym same)
-            (subst (λ (t : List ℕ). HasTaken feed t) moved its.taken);
-        answered = subst (λ (l : List Asked). HaveAnswered first new l before now) (sym lines-are)
-            (answered-more first (with_feed old feed) new (all_asked (whole_lines (text ++ s.eaten))) a before at now
-            result stands one wrote);
-      };
+      parted = parted;
+      fed = subst (λ (t : List ℕ). HasTaken feed t) moved its.taken;
+      texts = texts;
+      answered = answered;
+      sent = s.sent ++ put.0;
+      wrote = appends-both before.written at.written now.written s.sent put.0 s.wrote put.1;
+      parts = parts ∙ ap (λ (l : List ℕ). s.sent ++ l) put.2 ∙ sym (append_assoc s.sent put.0 held_now);
+      later = let l : before.faults ≤ at.faults = s.later in omega arith;
     }
 
-    pub serving-stopped : WroteSome at now one.text
+    pub serving-stopped : WroteSome at now (held ++ answer)
         → HaveStopped first (all_asked (whole_lines (text ++ piece))) before now
-    serving-stopped wrote =
+    serving-stopped some =
         let more = whole-grow (text ++ eaten) rest in
-        stopped-more first (with_feed old feed) new (all_asked (whole_lines (text ++ s.eaten))) a before at now result
-        stands one more.0 (all_asked (whole_lines (text ++ piece)))
+        stopped-so (server_of new old.show feed) (all_asked (whole_lines (text ++ eaten))) texts before at
+        answered s.sent (held ++ answer) s.wrote parts s.later now more.0
+        (all_asked (whole_lines (text ++ piece)))
         (ap (λ (t : List ℕ). all_asked (whole_lines t))
-        (ap (λ (p : List ℕ). text ++ p) parts ∙ sym (append_assoc text eaten rest))
-        ∙ more.1 ∙ ap (λ (l : List Asked). l ++ more.0) lines-are) wrote
+        (ap (λ (p : List ℕ). text ++ p) parted ∙ sym (append_assoc text eaten rest)) ∙ more.1) some
 
-  -- no line is whole any more
-  pub serving-done : ((t : List ℕ) → HasTaken old.feed t → TakesAll t left feed)
-      → HasServed first (with_feed old feed) (text ++ piece) before at
-  serving-done all =
-      let its = all (text ++ s.eaten) s.served.fed in
-      let whole : text ++ piece ≡ (text ++ s.eaten) ++ left
-      = ap (λ (p : List ℕ). text ++ p) s.parted ∙ sym (append_assoc text s.eaten left) in
-      record {
-        fed = subst (λ (t : List ℕ). HasTaken feed t) (sym whole) its.taken;
-        answered = subst (λ (l : List Asked). HaveAnswered first (with_feed old feed) l before at)
-            (sym (ap (λ (t : List ℕ). all_asked (whole_lines t)) whole
-            ∙ ap (λ (l : List FedLine). all_asked l) its.none)) stands;
-      }
+  -- no line is whole any more, and what waits is written
+  module _ (all : (t : List ℕ) → HasTaken old.feed t → TakesAll t left feed) where
+    whole : text ++ piece ≡ (text ++ s.eaten) ++ left
+    whole = ap (λ (p : List ℕ). text ++ p) s.parted ∙ sym (append_assoc text s.eaten left)
+
+    last : {T E : Type 0} (result : Result T E) → WritesText held at now result → at.faults ≤ now.faults
+        → MatchResult result (λ _. HaveAnswered first (server_of old.session old.show feed)
+        (all_asked (whole_lines (text ++ piece))) before now)
+        (λ _. HaveStopped first (all_asked (whole_lines (text ++ piece))) before now)
+    last = written-so (server_of old.session old.show feed) (all_asked (whole_lines (text ++ piece))) s.texts
+        before at (subst (λ (l : List Asked). AreAnswered first old.session old.show l s.texts)
+        (sym (ap (λ (t : List ℕ). all_asked (whole_lines t)) whole
+        ∙ ap (λ (l : List FedLine). all_asked l) (all (text ++ s.eaten) s.fed).none)) s.answered)
+        s.sent held s.wrote s.parts s.later now
+
+    pub serving-done : {T E : Type 0} (result : Result T E) → WritesText held at now result
+        → at.faults ≤ now.faults → MatchResult result
+        (λ _. HasServed first (server_of old.session old.show feed) (text ++ piece) before now)
+        (λ _. HaveStopped first (all_asked (whole_lines (text ++ piece))) before now)
+    serving-done {T} {E} (Ok done) wrote risen = record {
+      fed = subst (λ (t : List ℕ). HasTaken feed t) (sym whole) (all (text ++ s.eaten) s.fed).taken;
+      answered = last {T = T} {E = E} (Ok done) wrote risen;
+    }
+    serving-done {T} {E} (Err error) some risen = last {T = T} {E = E} (Err error) some risen
 
 -- the end
-module _ (first old : LineServer) (text : List ℕ) (before at : Outflow) (h : HasServed first old text before at)
-    (feed : LineFeed) where
-  ended : HaveAnswered first (with_feed old feed) (all_asked (whole_lines text)) before at
+module _ (first old : LineServer) (text : List ℕ) (before at : Outflow)
+    (h : HasServed first old text before at) (feed : LineFeed) where
+  ended : HaveAnswered first (server_of old.session old.show feed) (all_asked (whole_lines text)) before at
   ended = record {
     engine = h.answered.engine;
     show = h.answered.show;
@@ -319,25 +373,24 @@ module _ (first old : LineServer) (text : List ℕ) (before at : Outflow) (h : H
   }
 
   pub ended-none : (lines_of text ≡ whole_lines text ++ [])
-      → HaveAnswered first (with_feed old feed) (all_asked (lines_of text)) before at
-  ended-none is = subst (λ (l : List FedLine). HaveAnswered first (with_feed old feed) (all_asked l) before at)
+      → HaveAnswered first (server_of old.session old.show feed) (all_asked (lines_of text)) before at
+  ended-none is = subst
+      (λ (l : List FedLine). HaveAnswered first (server_of old.session old.show feed) (all_asked l) before at)
       (sym (is ∙ append-nil (whole_lines text))) ended
 
-  module _ (line : FedLine) (last : lines_of text ≡ whole_lines text ++ line ∷ []) (a : Asked)
-      (is : a ≡ asked_by line) where
-    all-are : all_asked (lines_of text) ≡ all_asked (whole_lines text) ++ a ∷ []
-    all-are = asked-more text (lines_of text) line last
-        ∙ ap (λ (b : Asked). all_asked (whole_lines text) ++ b ∷ []) (sym is)
-
-    pub ended-one : {T E : Type 0} (new : LineServer) (now : Outflow) (result : Result T E)
-        → AnswersOne (with_feed old feed) new a at now result
-        → MatchResult result (λ _. HaveAnswered first new (all_asked (lines_of text)) before now)
-        (λ _. HaveStopped first (all_asked (lines_of text)) before now)
-    ended-one new now (Ok done) one =
-        subst (λ (l : List Asked). HaveAnswered first new l before now) (sym all-are)
-        (answered-more first (with_feed old feed) new (all_asked (whole_lines text)) a before at now (Ok done) ended
-        one one.wrote)
-    ended-one new now (Err error) one =
-        stopped-more first (with_feed old feed) new (all_asked (whole_lines text)) a before at now (Err error) ended
-        one [] (all_asked (lines_of text))
-        (all-are ∙ sym (append-nil (all_asked (whole_lines text) ++ a ∷ []))) one.wrote
+  pub ended-one : {T E : Type 0} (line : FedLine) → lines_of text ≡ whole_lines text ++ line ∷ []
+      → (a : Asked) → a ≡ asked_by line → (new : SessionData) (answer : List ℕ)
+      → AnswersOne old.session new old.show a answer → (now : Outflow) (result : Result T E)
+      → WritesText answer at now result → at.faults ≤ now.faults → MatchResult result
+      (λ _. HaveAnswered first (server_of new old.show feed) (all_asked (lines_of text)) before now)
+      (λ _. HaveStopped first (all_asked (lines_of text)) before now)
+  ended-one line last a is new answer one now result =
+      let all-are : all_asked (lines_of text) ≡ all_asked (whole_lines text) ++ a ∷ []
+      = asked-more text (lines_of text) line last
+      ∙ ap (λ (b : Asked). all_asked (whole_lines text) ++ b ∷ []) (sym is) in
+      let texts : List (List ℕ) = h.answered.texts ++ answer ∷ [] in
+      written-so (server_of new old.show feed) (all_asked (lines_of text)) texts before at
+      (subst (λ (l : List Asked). AreAnswered first new old.show l texts) (sym all-are)
+      (answered-more first old.session new old.show (all_asked (whole_lines text)) h.answered.texts a answer
+      (answered-of h.answered) one)) (concat h.answered.texts) answer h.answered.wrote
+      (texts-more h.answered.texts answer) h.answered.later now result

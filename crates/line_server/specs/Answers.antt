@@ -1,6 +1,6 @@
 -- What answers the lines of a session.
-use Rattle.std.specs.Prelude.{◌≡◌, ◌⊎◌, ◌&&◌, ⊤, ℕ, nat_lt, true, if◌then◌else◌, List, [], ◌∷◌, ◌++◌, codes, map}
-use Rattle.std.specs.Prelude.{refl}
+use Rattle.std.specs.Prelude.{◌≡◌, ◌⊎◌, ◌&&◌, ⊤, ℕ, nat_lt, true, if◌then◌else◌, List, [], ◌∷◌, ◌++◌, codes}
+use Rattle.std.specs.Prelude.{map, refl}
 use Rattle.std.proofs.Common.{inl, inr}
 use Rattle.grid_moves.specs.declared.Cell.{Cell}
 use Rattle.grid_moves.specs.declared.Corner.TheVariants.{Never}
@@ -40,7 +40,8 @@ answer_to replies show ls asked.Nothing = []
 answer_to replies show ls asked.Refused = codes "refused T1\n"
 answer_to replies show ls asked.TooLong = codes "refused T2\n"
 answer_to replies show ls (asked.Edit x y to) = edit_line (edit_reply ls (edit_at x y to))
-answer_to replies show ls (asked.Query sx sy gx gy) = query_line replies show ls (cell_at sx sy) (cell_at gx gy)
+answer_to replies show ls (asked.Query sx sy gx gy) = query_line replies show ls
+    (cell_at sx sy) (cell_at gx gy)
 answer_to replies show ls (asked.Near sx sy gx gy) = near_line replies show ls (cell_at sx sy) (cell_at gx gy)
 answer_to replies show ls (asked.Field x y) = framed_field ls (cell_at x y)
 answer_to replies show ls (asked.Costs x y) = framed_costs ls (cell_at x y)
@@ -62,7 +63,8 @@ AreAnswers replies show ls edits [] [] = ⊤
 AreAnswers replies show ls edits [] (text ∷ texts) = ⊥
 AreAnswers replies show ls edits (a ∷ more) [] = ⊥
 AreAnswers replies show ls edits (a ∷ more) (text ∷ texts) =
-    Answers replies show (edited ls edits) a text × AreAnswers replies show ls (edits ++ edits_by a) more texts
+    Answers replies show (edited ls edits) a text
+    × AreAnswers replies show ls (edits ++ edits_by a) more texts
 
 -- what some lines ask for, and the edits that they make
 abbrev pub all_asked : List FedLine → List Asked
@@ -72,8 +74,8 @@ abbrev pub edits_of : List Asked → List Edit
 edits_of [] = []
 edits_of (a ∷ more) = edits_by a ++ edits_of more
 
--- worked rows, where no query finds a walk: each line is answered on the grids that the edits before it leave, and
--- one that is refused changes nothing
+-- worked rows, where no query finds a walk: each line is answered on the grids that the edits before it
+-- leave, and one that is refused changes nothing
 abbrev none_found : Replies
 none_found ls s t = reply.None []
 
@@ -81,7 +83,8 @@ abbrev row_of_three : Layers
 row_of_three = layers_of Never 3 1 (codes ".@.")
 
 pub edits_in_turn : answers_to none_found Points row_of_three []
-    (asked.Edit 0 0 ground.Blocked ∷ asked.Refused ∷ asked.Edit 0 0 ground.Blocked ∷ asked.TooLong ∷ asked.Nothing
+    (asked.Edit 0 0 ground.Blocked ∷ asked.Refused ∷ asked.Edit 0 0 ground.Blocked
+    ∷ asked.TooLong ∷ asked.Nothing
     ∷ asked.Edit 3 0 ground.Land ∷ asked.Query 0 0 2 0 ∷ [])
     ≡ codes "ok\n" ∷ codes "refused T1\n" ∷ codes "same\n" ∷ codes "refused T2\n" ∷ [] ∷ codes "outside\n"
     ∷ codes "none\n" ∷ []
@@ -98,7 +101,8 @@ near_to_outside = refl
 pub near_from_a_block : answer_to none_found Points row_of_three (asked.Near 1 0 0 0) ≡ codes "blocked\n"
 near_from_a_block = refl
 
--- `near` from a cell that walks lead to no other from; and on `..@..`, where they lead to the columns before the block
+-- `near` from a cell that walks lead to no other from; and on `..@..`,
+-- where they lead to the columns before the block
 pub near_itself : answer_to none_found Points row_of_three (asked.Near 0 0 2 0) ≡ codes "none\n"
 unfolding nearest_of first_nearest
 near_itself = refl

@@ -2,3 +2,4 @@ pub mod Asked
 pub mod Answers
 pub mod Joined
 pub mod Served
+pub mod Writing

@@ -1,6 +1,7 @@
 //! The session that answers lines as they come in pieces, for as long as they come.
 #![tactic(auto)]
 
+mod answer;
 mod asked;
 mod joined;
 mod server;

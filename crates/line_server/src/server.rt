@@ -1,20 +1,22 @@
 //! Bytes in, bytes out.
 
-ghost use Rattle.std.specs.Prelude.{◌≡◌, ◌≤◌, IfOk, []};
-ghost use Rattle.line_server.specs.Served as spec;
-ghost use Rattle.line_server.specs.Served.{AnswersOne, HasServed, ServesEnd, ServesPiece, WritesText};
+ghost use Rattle.std.specs.Prelude.{◌≡◌, ◌≤◌, ◌++◌, IfOk, [], if◌then◌else◌};
+ghost use Rattle.line_server.specs.Served.{HasServed, ServesEnd, ServesPiece};
+ghost use Rattle.line_server.specs.Writing.{PutsText, WritesText};
 
+use crate::answer::answer_to;
 use crate::joined::JoinedSession;
 use crate::{Asked, NoMemory};
 use edit_replay::Session;
-use grid_answers::{framed_costs, framed_field};
 use io_edge::{Sink, WriteFault, write_whole};
 use line_feed::LineFeed;
-use reply_lines::edit_bytes;
 use std::alloc::Global;
 use std::sync::ledger::Ledger;
 use steps::Steps;
 use word_list::Show;
+
+/// Answers to one piece wait to be written together, at most this many bytes of them.
+const HELD: usize = 1 << 16;
 
 /// A session that answers the lines of a text as its pieces come, each with one answer.
 ///
@@ -34,15 +36,28 @@ fn write_text<O: Sink>(out: &mut O, text: &[u8]) -> Result<(), WriteFault>
     write_whole(out, text)
 }
 
-// Writes a text, or `memory`, where it could not be made.
-fn write_made<O: Sink>(out: &mut O, text: Result<Vec<u8>, NoMemory>) -> Result<(), WriteFault>
-    ensures wrote { WritesText (spec.text_or_memory text) (O.outflow out.old) (O.outflow out.new) result }
+// Puts a text behind those that wait, if there is room for it.
+fn hold(held: &mut Vec<u8>, text: &[u8]) -> bool
+    ensures { held.new.items ≡ (if result then held.old.items ++ text.now else held.old.items) }
+{
+    if held.len() + text.len() > HELD {
+        return false;
+    }
+    held.extend_from_slice(text).is_ok()
+}
+
+// Puts a text behind those that wait, or writes them and then the text.
+fn put_text<O: Sink>(out: &mut O, held: &mut Vec<u8>, text: &[u8]) -> Result<(), WriteFault>
+    ensures put { PutsText text.now (O.outflow out.old) held.old.items
+        (O.outflow out.new) held.new.items result }
     ensures later { (O.outflow out.old).faults ≤ (O.outflow out.new).faults }
 {
-    match text {
-        Ok(text) => write_text(out, text.as_slice()),
-        Err(_) => write_text(out, b"memory\n"),
+    if hold(held, text) {
+        return Ok(());
     }
+    write_text(out, held.as_slice())?;
+    held.clear();
+    write_text(out, text)
 }
 
 impl LineServer {
@@ -60,7 +75,8 @@ impl LineServer {
         })
     }
 
-    /// Takes a piece of the text, and writes the answers to the lines that it completes.
+    /// Takes a piece of the text, and writes the answers to the lines that it completes, up to 64 KiB of them
+    /// at once.
     ///
     /// Where memory is wanting for an answer the line `memory` answers, and nothing changed. After a
     /// `WriteFault` a first part of the answers is written.
@@ -73,12 +89,14 @@ impl LineServer {
     ) -> Result<(), WriteFault>
         ensures { ServesPiece self.old self.new piece.now (O.outflow out.old) (O.outflow out.new) result }
     {
+        let mut held = Vec::new(alloc);
         let mut left = piece;
         'lines: while let Some((line, rest)) = self.feed.take(left) {
-            self.answer(alloc, Asked::by(&line), out, steps)?;
+            let text = answer_to(alloc, &mut self.session, self.show, Asked::by(&line), steps);
+            put_text(out, &mut held, text.bytes())?;
             left = rest;
         }
-        Ok(())
+        write_text(out, held.as_slice())
     }
 
     /// Ends the text: answers its last line, where that has no line feed and is not empty.
@@ -91,50 +109,11 @@ impl LineServer {
         ensures { ServesEnd self.old self.new (O.outflow out.old) (O.outflow out.new) result }
     {
         match self.feed.end() {
-            Some(line) => self.answer(alloc, Asked::by(&line), out, steps),
+            Some(line) => {
+                let text = answer_to(alloc, &mut self.session, self.show, Asked::by(&line), steps);
+                write_text(out, text.bytes())
+            }
             None => Ok(()),
-        }
-    }
-
-    // Answers what a line asks.
-    fn answer<O: Sink, L: Ledger>(
-        &mut self,
-        alloc: Global,
-        asked: Asked,
-        out: &mut O,
-        steps: &mut Steps<L>,
-    ) -> Result<(), WriteFault>
-        ensures answered { AnswersOne self.old self.new asked (O.outflow out.old) (O.outflow out.new) result }
-        ensures feed { self.new.feed ≡ self.old.feed }
-    {
-        match asked {
-            Asked::Nothing => Ok(()),
-            Asked::Refused => write_text(out, b"refused T1\n"),
-            Asked::TooLong => write_text(out, b"refused T2\n"),
-            Asked::Edit { x, y, to } => {
-                let reply = self.session.edit(x, y, to, steps);
-                write_text(out, edit_bytes(reply))
-            }
-            Asked::Query { sx, sy, gx, gy } => {
-                let text = self
-                    .session
-                    .query_text(alloc, self.show, sx, sy, gx, gy, steps);
-                write_made(out, text)
-            }
-            Asked::Near { sx, sy, gx, gy } => {
-                let text = self
-                    .session
-                    .near_text(alloc, self.show, sx, sy, gx, gy, steps);
-                write_made(out, text)
-            }
-            Asked::Field { x, y } => {
-                let text = framed_field(alloc, self.session.layers(), x, y);
-                write_made(out, text)
-            }
-            Asked::Costs { x, y } => {
-                let text = framed_costs(alloc, self.session.layers(), x, y);
-                write_made(out, text)
-            }
         }
     }
 }

@@ -16,7 +16,8 @@ module _ (head : List ℕ) (Whole : List (List ℕ) → ℕ → Type 0) (before 
       (stop : Stop) → StopsSo (write_stops (WroteSome before now head)) stop
       → IsErrAnd result (λ s. s ≡ stop) → SendsWhole (HasHead head Whole) before now result
   head-unwritten Left now c result stop k m =
-      passed (IsAll (HasHead head Whole) before now) (write_stops (WroteSome before now head)) _ result stop m k
+      passed (IsAll (HasHead head Whole) before now)
+      (write_stops (WroteSome before now head)) _ result stop m k
       (only_write (λ w. (
         w.0,
         record {
@@ -57,7 +58,8 @@ module _ (head : List ℕ) (Whole : List (List ℕ) → ℕ → Type 0) (before 
     pub head-written : (result : Result ℕ Stop) → SendsWhole Whole mid now result
         → SendsWhole (HasHead head Whole) before now result
     head-written result s =
-        ends-on (IsAll Whole mid now) (IsAll (HasHead head Whole) before now) (work_stops Whole mid now) _ result
+        ends-on (IsAll Whole mid now) (IsAll (HasHead head Whole) before now)
+        (work_stops Whole mid now) _ result
         (λ status w. record {
           lines = head ∷ w.lines;
           whole = record { below = w.lines; whole = w.whole; all = refl };

@@ -1,6 +1,7 @@
 //! The one loop over the items of a command.
 
-ghost use Rattle.std.specs.Prelude.{◌≡◌, ℕ, Bool, true, List, [], ◌∷◌, ◌++◌, ◌+◌, length, slice_get, Some, OnOk, OnErr, IfOk};
+ghost use Rattle.std.specs.Prelude.{◌≡◌, ℕ, Bool, true, List, [], ◌∷◌, ◌++◌, ◌+◌, length, slice_get, Some};
+ghost use Rattle.std.specs.Prelude.{OnOk, OnErr, IfOk};
 ghost use Rattle.line_work.specs.Sending.{HasHead, SendsWhole};
 ghost use Rattle.line_work.specs.Working.{Adds, CanComplete, CountsMore, HasRoomForOne, WorksMore};
 
@@ -55,7 +56,8 @@ pub trait Job {
 
     /// Appends what closes the output behind the last item, and gives the status.
     fn close(&self, lines: &mut Vec<u8>) -> Result<u8, NoMemory>
-        ensures closed { IfOk result (λ status. (first : Self) (items : List Self.Item) (so_far : List (List ℕ))
+        ensures closed { IfOk result
+            (λ status. (first : Self) (items : List Self.Item) (so_far : List (List ℕ))
             → has_worked first self.now items so_far
             → Adds (λ all. is_whole first items all status) so_far lines.old.items lines.new.items) }
         ensures starved { OnErr result (closes ≡ true) };
@@ -127,7 +129,8 @@ where
     requires completes { CanComplete J.has_worked J.is_whole J.closes }
     requires begins { J.has_worked job.old job.old [] [] }
     requires counts { J.has_counted job.old job.old [] steps.old steps.old }
-    ensures sent { SendsWhole (HasHead head.now (J.is_whole job.old items.now)) (O.outflow out.old) (O.outflow out.new)
+    ensures sent { SendsWhole (HasHead head.now (J.is_whole job.old items.now))
+        (O.outflow out.old) (O.outflow out.new)
         result }
     ensures counted { OnOk result (J.has_counted job.old job.new items.now steps.old steps.new) }
 {

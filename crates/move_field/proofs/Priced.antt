@@ -1,5 +1,6 @@
 -- The first moves that costs tell, and the letter of a cell.
-use Rattle.std.proofs.Common.{◌≡◌, ◌<◌, ◌*◌, arith, refl, ap, sym, ◌∙◌, Bool, true, false, List, [], ◌∷◌, length, map}
+use Rattle.std.proofs.Common.{◌≡◌, ◌<◌, ◌*◌, arith, refl, ap, sym, ◌∙◌, Bool, true, false, List, [], ◌∷◌}
+use Rattle.std.proofs.Common.{length, map}
 use Rattle.std.specs.Prelude.{Option, Some, None, if◌then◌else◌, slice_index_or}
 use Rattle.std.specs.List.{find}
 use Rattle.std.proofs.Math.ListN.{get_or-map}
@@ -83,7 +84,8 @@ blocked-none : (g : GridData) (c t : Cell) → is_free g c ≡ false → first_m
 unfolding begins
 blocked-none g c t blocked =
     find-nothing (begins g c t)
-    (λ d. let e : legal_ahead g c d ≡ None = blocked-ahead g c d (legal_ahead g c d) blocked refl in rw e refl)
+    (λ d. let e : legal_ahead g c d
+    ≡ None = blocked-ahead g c d (legal_ahead g c d) blocked refl in rw e refl)
     all_dirs
 
 pub letter-goal : (g : GridData) (goal c : Cell) → is_same c goal ≡ true → 42 ≡ field_letter g goal c

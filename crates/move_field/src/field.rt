@@ -1,7 +1,7 @@
 //! The letters of all cells, row by row.
 
 ghost use Rattle.std.specs.Prelude.{◌≡◌, ◌++◌, ◌<◌, true, OnOk, OnErr};
-ghost use Rattle.grid_moves.specs.Grid.{IsGrid, is_free};
+ghost use Rattle.grid_moves.specs.Grid.{is_free};
 ghost use Rattle.text_line.specs.Writing.{Begins};
 ghost use Rattle.move_field.specs.Field.{field_text, row_line};
 ghost use Rattle.move_field.specs.Priced.{ArePriced};
@@ -51,8 +51,8 @@ fn put_rows<T: Terrain>(
     Ok(())
 }
 
-/// Appends the field of first moves to a free cell: a line for each row, from the upper one, with a letter for
-/// each cell.
+/// Appends the field of first moves to a free cell: a line for each row, from the upper one,
+/// with a letter for each cell.
 ///
 /// `waves` is memory for passes over maps of these sides, of which one is made. Besides it takes 12 bytes for
 /// each cell, and room for the text. For want of memory nothing is appended.

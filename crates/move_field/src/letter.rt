@@ -1,6 +1,6 @@
 //! The letter of one cell.
 
-ghost use Rattle.std.specs.Prelude.{◌≡◌, ◌*◌, Option, true, length, slice_index_or, None};
+ghost use Rattle.std.specs.Prelude.{◌≡◌, ◌*◌, Option, true, length, None};
 ghost use Rattle.std.specs.List.{find};
 ghost use Rattle.root2_cost.specs.declared.Cost.{Cost};
 ghost use Rattle.grid_moves.specs.Around.{IsAround, end_of, if_open, is_open_to};

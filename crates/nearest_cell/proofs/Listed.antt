@@ -1,6 +1,6 @@
 -- Of the cells to which a walk leads, the first one of least estimate is the nearest.
-use Rattle.std.proofs.Common.{◌≡◌, ℕ, zero, suc, ◌+◌, ◌*◌, ◌/◌, ◌%◌, ◌<◌, ◌≤◌, ◌⊎◌, inl, inr, arith, refl, ap, sym}
-use Rattle.std.proofs.Common.{◌∙◌, subst, Bool, true, false, ◌||◌, cond, List, [], ◌∷◌, length, map}
+use Rattle.std.proofs.Common.{◌≡◌, ℕ, zero, suc, ◌+◌, ◌*◌, ◌/◌, ◌%◌, ◌<◌, ◌≤◌, ◌⊎◌, inl, inr, arith, refl, ap}
+use Rattle.std.proofs.Common.{sym, ◌∙◌, subst, Bool, true, false, ◌||◌, cond, List, [], ◌∷◌, length, map}
 use Rattle.std.specs.Prelude.{⊤, ◌↔◌, IsTrue, if◌then◌else◌, slice_index_or}
 use Rattle.std.specs.List.{All, Contains, filter, range_with_len}
 use Rattle.std.proofs.Math.Nat.{div-add-mod}
@@ -19,7 +19,8 @@ use Rattle.grid_moves.proofs.Places.{inside_below, inside_from, inside_is}
 use Rattle.grid_moves.proofs.Walks.{end_free}
 use Rattle.joined_cells.specs.Joined.{IsJoined}
 use Rattle.joined_cells.proofs.Joining.{joined_itself}
-use Rattle.nearest_cell.specs.Nearest.{IsNearest, IsNoFarther, first_nearest, grid_cells, nearer, nearest_in, nearest_of}
+use Rattle.nearest_cell.specs.Nearest.{IsNearest, IsNoFarther, first_nearest, grid_cells, nearer, nearest_in}
+use Rattle.nearest_cell.specs.Nearest.{nearest_of}
 use Rattle.nearest_cell.proofs.Order.{itself_first, no_farther_on}
 
 -- members of a list
@@ -71,7 +72,8 @@ abbrev Rises : ℕ → ℕ → List Cell → Type 0
 Rises width low [] = ⊤
 Rises width low (c ∷ cells) = (low ≤ cell_number width c) × Rises width (cell_number width c + 1) cells
 
-rises_from : (width low high : ℕ) (cells : List Cell) → low ≤ high → Rises width high cells → Rises width low cells
+rises_from : (width low high : ℕ) (cells : List Cell) → low ≤ high → Rises width high cells
+    → Rises width low cells
 rises_from width low high [] l r = tt
 rises_from width low high (c ∷ cells) l r = let h : high ≤ cell_number width c = r.0 in (omega arith, r.1)
 
@@ -168,7 +170,8 @@ module _ (leads : Cell → Bool) (g : GridData) (s goal : Cell)
   joined c = by_test (is_same s c) refl
     where
       by_test : (b : Bool) → is_same s c ≡ b → (b || leads c) ≡ true → IsJoined g s c
-      by_test true same t = subst (λ (d : Cell). IsJoined g s d) (is_same-cell s c same) (joined_itself g s free)
+      by_test true same t = subst (λ (d : Cell). IsJoined g s d) (is_same-cell s c same)
+          (joined_itself g s free)
       by_test false same t = (says c).0 t
 
   leads-to : (c : Cell) → IsJoined g s c → leads_there c ≡ true

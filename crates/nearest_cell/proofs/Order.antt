@@ -1,6 +1,6 @@
 -- The order of cells by their estimates, and by their numbers.
-use Rattle.std.proofs.Common.{◌≡◌, ◌≢◌, ℕ, ◌+◌, ◌*◌, ◌<◌, ◌≤◌, ◌⊎◌, inl, inr, arith, refl, ap, sym, ◌∙◌, subst}
-use Rattle.std.proofs.Common.{Bool, true, false, ◌&&◌, ◌||◌}
+use Rattle.std.proofs.Common.{◌≡◌, ◌≢◌, ℕ, ◌+◌, ◌*◌, ◌<◌, ◌≤◌, ◌⊎◌, inl, inr, arith, refl, ap, sym, ◌∙◌}
+use Rattle.std.proofs.Common.{subst, Bool, true, false, ◌&&◌, ◌||◌}
 use Rattle.std.specs.Prelude.{nat_eq, nat_lt}
 use Rattle.std.proofs.lemmas.Bool.Decides.{nat_tests}
 use Rattle.root2_cost.specs.declared.Cost.{Cost}
@@ -22,7 +22,8 @@ module _ (width : ℕ) (goal : Cell) where
 
   pub no_farther_on : (a b c : Cell) → IsNoFarther width goal a b → IsNoFarther width goal b c
       → IsNoFarther width goal a c
-  no_farther_on a b c (inl l) (inl m) = inl (IsLess-trans (estimate a goal) (estimate b goal) (estimate c goal) l m)
+  no_farther_on a b c (inl l) (inl m) = inl
+      (IsLess-trans (estimate a goal) (estimate b goal) (estimate c goal) l m)
   no_farther_on a b c (inl l) (inr e) = inl (subst (λ (k : Cost). IsLess (estimate a goal) k) e.0 l)
   no_farther_on a b c (inr e) (inl m) = inl (subst (λ (k : Cost). IsLess k (estimate c goal)) (sym e.0) m)
   no_farther_on a b c (inr e) (inr f) = inr (

@@ -1,6 +1,6 @@
 -- What rings leave.
-use Rattle.std.proofs.Common.{◌≡◌, ◌≢◌, ℕ, ◌+◌, ◌-◌, ◌<◌, ◌≤◌, ◌⊎◌, inl, inr, arith, refl, ap, sym, ◌∙◌, subst}
-use Rattle.std.proofs.Common.{Bool, true, false, ◌&&◌}
+use Rattle.std.proofs.Common.{◌≡◌, ◌≢◌, ℕ, ◌+◌, ◌-◌, ◌<◌, ◌≤◌, ◌⊎◌, inl, inr, arith, refl, ap, sym, ◌∙◌}
+use Rattle.std.proofs.Common.{subst, Bool, true, false, ◌&&◌}
 use Rattle.std.specs.Prelude.{nat_eq, not, min, max, IsTrue}
 use Rattle.std.proofs.lemmas.Bool.Decides.{nat_tests}
 use Rattle.root2_cost.specs.declared.Cost.{Cost}
@@ -64,7 +64,8 @@ module _ (p : Labels) (label : ℕ) (goal : Cell) (dx dy left right up down : �
       → IsNoFarther p.width goal e d
   four_met d l h k = elim (sides d.x goal.x dx h) [
     | inl x ↦ elim (sides d.y goal.y dy k) [
-      | inl y ↦ at a d (no_farther_on p.width goal e b a eb ba) left up (x ∙ sym is_left) (y ∙ sym is_up) l met_a
+      | inl y ↦ at a d (no_farther_on p.width goal e b a eb ba) left up (x ∙ sym is_left)
+          (y ∙ sym is_up) l met_a
       | inr y ↦ at c d ec left down (x ∙ sym is_left) (y ∙ sym is_down) l met_c
     ]
     | inr x ↦ elim (sides d.y goal.y dy k) [
@@ -140,7 +141,8 @@ module _ (p : Labels) (label : ℕ) (some : label ≢ 0) (goal : Cell) where
       → IsNoFarther p.width goal best d
   rings_stopped ring best first less d l = elim (order (steps_between d goal) ring) [
     | inl within ↦ first d l within
-    | inr off ↦ inl (less_then_at_most (estimate best goal) (record { a = ring; b = 0 }) (estimate d goal) less
+    | inr off ↦ inl (less_then_at_most (estimate best goal) (record { a = ring; b = 0 })
+        (estimate d goal) less
         (counts (apart d.x goal.x) (apart d.y goal.y) off))
   ]
     where
@@ -148,10 +150,12 @@ module _ (p : Labels) (label : ℕ) (some : label ≢ 0) (goal : Cell) where
       order m n = grind arith
 
       counts : (x y : ℕ) → ring ≤ max x y → IsAtMost (record { a = ring; b = 0 }) (octile_cost x y)
-      counts x y h = at_most_by_counts (record { a = ring; b = 0 }) (octile_cost x y) (omega arith) (omega arith)
+      counts x y h = at_most_by_counts (record { a = ring; b = 0 }) (octile_cost x y)
+          (omega arith) (omega arith)
 
   -- or none is left
-  pub rings_done : (ring : ℕ) (best : Cell) → ring ≡ max p.width p.height → goal.x < p.width → goal.y < p.height
+  pub rings_done : (ring : ℕ) (best : Cell) → ring ≡ max p.width p.height → goal.x
+      < p.width → goal.y < p.height
       → IsFirstWithin p label goal ring best → (d : Cell) → label_of p d ≡ label
       → IsNoFarther p.width goal best d
   rings_done ring best e column row first d l =

@@ -11,7 +11,8 @@ use Rattle.grid_moves.specs.Move.{is_same}
 use Rattle.grid_moves.specs.Points.{estimate}
 use Rattle.joined_cells.specs.Joined.{IsJoined}
 
--- c is no farther from the goal than d: its estimate is less by value, or the same, and its number is no greater
+-- c is no farther from the goal than d: its estimate is less by value, or the same,
+-- and its number is no greater
 abbrev pub IsNoFarther : ℕ → Cell → Cell → Cell → Type 0
 IsNoFarther width goal c d = IsLess (estimate c goal) (estimate d goal)
     ⊎ ((estimate c goal ≡ estimate d goal) × (cell_number width c ≤ cell_number width d))
@@ -41,10 +42,12 @@ nearest_in goal none (c ∷ cells) = first_nearest goal c cells
 
 -- the nearest cell to the goal, of the start and those to which a walk leads from it
 unfoldable pub nearest_of : (Cell → Bool) → GridData → Cell → Cell → Cell
-nearest_of leads g start goal = nearest_in goal start (filter (λ c. is_same start c || leads c) (grid_cells g))
+nearest_of leads g start goal = nearest_in goal start
+    (filter (λ c. is_same start c || leads c) (grid_cells g))
 
--- worked rows on a map of three columns, with the goal in its middle: a straight move off comes before a diagonal
--- one, though its number is greater; of two that are straight moves off, the one of the lesser number comes first
+-- worked rows on a map of three columns, with the goal in its middle: a straight move off comes before a
+-- diagonal one, though its number is greater; of two that are straight moves off, the one of the lesser
+-- number comes first
 abbrev middle : Cell
 middle = record { x = 1; y = 1 }
 
@@ -55,14 +58,16 @@ pub by_number : IsNoFarther 3 middle (record { x = 0; y = 1 }) (record { x = 1; 
 by_number = inr (refl, omega arith)
 
 -- 99 columns are farther than 70 columns and rows, and these farther than 98
-pub ninety_nine : IsNoFarther 200 (record { x = 0; y = 0 }) (record { x = 70; y = 70 }) (record { x = 99; y = 0 })
+pub ninety_nine : IsNoFarther 200 (record { x = 0; y = 0 }) (record { x = 70; y = 70 })
+    (record { x = 99; y = 0 })
 ninety_nine = inl refl
 
-pub ninety_eight : IsNoFarther 200 (record { x = 0; y = 0 }) (record { x = 98; y = 0 }) (record { x = 70; y = 70 })
+pub ninety_eight : IsNoFarther 200 (record { x = 0; y = 0 }) (record { x = 98; y = 0 })
+    (record { x = 70; y = 70 })
 ninety_eight = inl refl
 
--- around a block in the middle the cell above it has the least number of the nearest ones; where the first row is out
--- of reach it is the cell to the left; where no walk leads anywhere it is the start
+-- around a block in the middle the cell above it has the least number of the nearest ones; where the first
+-- row is out of reach it is the cell to the left; where no walk leads anywhere it is the start
 abbrev pillar : GridData
 pillar = grid_of 3 3 (codes "....@....") Never
 
@@ -73,7 +78,8 @@ pub above : nearest_of (is_free pillar) pillar corner middle ≡ record { x = 1;
 unfolding nearest_of first_nearest
 above = refl
 
-pub to_the_left : nearest_of (λ c. is_free pillar c && nat_lt 0 c.y) pillar corner middle ≡ record { x = 0; y = 1 }
+pub to_the_left : nearest_of (λ c. is_free pillar c && nat_lt 0 c.y) pillar corner middle
+    ≡ record { x = 0; y = 1 }
 unfolding nearest_of first_nearest
 to_the_left = refl
 

@@ -10,7 +10,8 @@ use Rattle.nearest_cell.specs.Nearest.{IsNoFarther}
 -- c comes before d: by estimate, then by row and column
 abbrev pub is_nearer : Cell → Cell → Cell → Bool
 is_nearer goal c d = is_less (estimate c goal) (estimate d goal)
-    || is_same_cost (estimate c goal) (estimate d goal) && (nat_lt c.y d.y || nat_eq c.y d.y && nat_lt c.x d.x)
+    || is_same_cost (estimate c goal) (estimate d goal)
+    && (nat_lt c.y d.y || nat_eq c.y d.y && nat_lt c.x d.x)
 
 -- no cell with this label, so many steps off the goal or fewer, is nearer than c
 abbrev pub IsFirstWithin : Labels → ℕ → Cell → ℕ → Cell → Type 0

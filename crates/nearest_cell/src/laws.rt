@@ -12,7 +12,8 @@ pub fn nearest_is_goal()
     ensures { NearestIsGoal }
 {}
 
-/// From a free start, where a test says exactly where walks lead, it is the cell that `nearest_of` gives by that test.
+/// From a free start, where a test says exactly where walks lead,
+/// it is the cell that `nearest_of` gives by that test.
 pub fn nearest_of_is_nearest()
     ensures { NearestOfIsNearest }
 {}

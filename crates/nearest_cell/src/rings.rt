@@ -1,6 +1,6 @@
 //! The search by rings.
 
-ghost use Rattle.std.specs.Prelude.{◌≡◌, ◌≢◌, ℕ, ◌+◌, ◌<◌, ◌^◌, true};
+ghost use Rattle.std.specs.Prelude.{◌≡◌, ◌≢◌, ◌+◌, ◌<◌, ◌^◌, true};
 ghost use Rattle.grid_moves.specs.Grid.{GridData, is_free};
 ghost use Rattle.grid_moves.specs.Points.{apart};
 ghost use Rattle.joined_cells.specs.Joined.{label_of};
@@ -76,8 +76,8 @@ fn better_on_ring(p: &Components, label: u32, goal: Cell, ring: u16, best: Cell)
     best
 }
 
-/// Of the cells to which a walk leads from the start, the one whose estimate to the goal is least; of those of equal
-/// estimate the one of the least number. The goal is any cell of the map. No memory is taken.
+/// Of the cells to which a walk leads from the start, the one whose estimate to the goal is least; of those
+/// of equal estimate the one of the least number. The goal is any cell of the map. No memory is taken.
 ///
 /// Where the start is not free, it is the start.
 pub fn nearest(p: &Components, start: Cell, goal: Cell) -> Cell

@@ -1,6 +1,5 @@
 -- A search goes on as long as something is offered; and whether a list is a run is decided by the test.
-use Rattle.std.proofs.Common.{◌≡◌, refl, ap, sym, subst, Bool, true, false, not, ◌&&◌, List, [], ◌∷◌}
-use Rattle.std.proofs.Common.{arith}
+use Rattle.std.proofs.Common.{◌≡◌, refl, ap, sym, subst, Bool, true, false, not, ◌&&◌, List, [], ◌∷◌, arith}
 use Rattle.std.proofs.lemmas.Bool.Decides.{nat_tests}
 use Rattle.root2_cost.specs.Signed.{is_signed_less}
 use Rattle.root2_cost.specs.Sums.{is_same_cost}
@@ -13,8 +12,8 @@ use Rattle.pruning.specs.declared.Arrival.TheVariants.{Start, By}
 use Rattle.pruning.proofs.Table.{by_test, same_dir}
 use Rattle.one_state.specs.Search.{Search, Taken, begins, IsIn, here, there, IsOffered, sum_of}
 use Rattle.one_state.specs.Search.{IsNext, IsRun, begun, further}
-use Rattle.one_state.specs.Tested.{has_cell, is_among, is_next, is_run, is_same_arrival, is_same_taken, none_less}
-use Rattle.one_state.specs.Tested.{offered_by}
+use Rattle.one_state.specs.Tested.{has_cell, is_among, is_next, is_run, is_same_arrival, is_same_taken}
+use Rattle.one_state.specs.Tested.{none_less, offered_by}
 use Rattle.one_state.specs.Laws.{GoesOnOrNone, goes_on, is_over, RunsAreDecided, SearchesEndRight}
 use Rattle.one_state.proofs.Sums.{Below, Below-then, Below-same}
 use Rattle.one_state.proofs.Settling.{each_of, no_member}

@@ -14,7 +14,8 @@ use Rattle.grid_moves.proofs.Walks.{Goes, last-joined}
 use Rattle.pruning.proofs.Exploring.{goes_further}
 use Rattle.pruning.proofs.Running.{lined_moved, steps_moved}
 use Rattle.pruning.proofs.Table.{by_test}
-use Rattle.one_state.specs.Search.{Search, IsSound, Taken, begins, Offers, IsIn, IsRun, begun, further, points_to}
+use Rattle.one_state.specs.Search.{Search, IsSound, Taken, begins, Offers, IsIn, IsRun, begun, further}
+use Rattle.one_state.specs.Search.{points_to}
 use Rattle.one_state.specs.Laws.{ParentsLeadBack}
 use Rattle.one_state.proofs.Settling.{each_of, no_member, offer_walked}
 
@@ -46,7 +47,8 @@ unfolded_further s (v ∷ rest) cells b c run e u l f =
     by_parts true (Some inner) i j h next =
         let first = segment (steps_between s v) s v in
         let whole : first ++ inner ≡ cells = same_Some (first ++ inner) cells h in
-        rw (i, next inner j, sym whole) (ap (λ (xs : List Cell). Some xs) (sym (append_assoc first inner run)))
+        rw (i, next inner j, sym whole)
+        (ap (λ (xs : List Cell). Some xs) (sym (append_assoc first inner run)))
 
 module _ (p : Search) (sound : IsSound p) where
   -- the points to a cell, and the walk that they unfold to
@@ -71,7 +73,8 @@ module _ (p : Search) (sound : IsSound p) where
         cells = b.cells ++ run.cells;
         unfolds = unfolded_further p.start b.rest b.cells u.state.cell c run.cells b.at_end b.unfolds
             (lined_moved o.dir o.moves u.state.cell c o.hop.some run.moved)
-            (ap (λ k. segment k u.state.cell c) (steps_moved o.dir o.moves u.state.cell c run.moved) ∙ run.filled);
+            (ap (λ k. segment k u.state.cell c)
+            (steps_moved o.dir o.moves u.state.cell c run.moved) ∙ run.filled);
         goes = subst (λ (q : Cost). Goes p.grid p.start c (b.cells ++ run.cells) q)
             (ap (λ (q : Cost). add_costs u.cost q) run.priced ∙ sym o.priced)
             (goes_further p.grid p.start u.state.cell c b.cells run.cells u.cost b.goes
@@ -89,7 +92,8 @@ module _ (p : Search) (sound : IsSound p) where
         goes = record { legal = sound.free; ends = refl; priced = refl };
       })
       (λ u m. absurd (no_member u m))
-  leads_back _ (further x earlier r n o) = each_of (λ u. LeadsBack (x ∷ earlier) u.state.cell u.cost) x earlier
+  leads_back _ (further x earlier r n o) = each_of
+      (λ u. LeadsBack (x ∷ earlier) u.state.cell u.cost) x earlier
       (one_further o.offered.by x earlier o.offered.offers
       (leads_back earlier r o.offered.by o.offered.member))
       (λ u m.

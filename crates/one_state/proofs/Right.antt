@@ -1,5 +1,5 @@
--- A goal is taken at a least cost, and where nothing is offered without it, no walk leads there; no more cells are
--- taken than the map has.
+-- A goal is taken at a least cost, and where nothing is offered without it, no walk leads there; no more
+-- cells are taken than the map has.
 use Rattle.std.proofs.lemmas.Bool.{ne_eqb}
 use Rattle.std.proofs.lemmas.Bool.Decides.{nat_tests}
 use Rattle.std.proofs.lemmas.Grind.{common_steps}
@@ -25,10 +25,10 @@ use Rattle.pruning.proofs.Exploring.{CameTo, came_to, one_state_from}
 use Rattle.pruning.proofs.Swapping.{dropped_turns_are_swapped, diagonals_go_first}
 use Rattle.plain_search.specs.Costs.{least_cost}
 use Rattle.plain_search.proofs.LeastCosts.{cost_is}
-use Rattle.one_state.specs.Search.{Search, IsSound, Taken, begins, as_reached, Offers, IsIn, here, there, HasCell}
-use Rattle.one_state.specs.Search.{IsOffered, sum_of, IsRun, begun, further}
-use Rattle.one_state.proofs.Sums.{Below, Below-then, Below-same, Below-add_left, of_costs, to_costs, signed_sum}
-use Rattle.one_state.proofs.Sums.{add_signed-nothing_right}
+use Rattle.one_state.specs.Search.{Search, IsSound, Taken, begins, as_reached, Offers, IsIn, here, there}
+use Rattle.one_state.specs.Search.{HasCell, IsOffered, sum_of, IsRun, begun, further}
+use Rattle.one_state.proofs.Sums.{Below, Below-then, Below-same, Below-add_left, of_costs, to_costs}
+use Rattle.one_state.proofs.Sums.{signed_sum, add_signed-nothing_right}
 use Rattle.one_state.proofs.Estimates.{never_exceeds}
 use Rattle.one_state.proofs.Settling.{each_of, no_member, is_reached, was_taken, are_kept, are_reached}
 

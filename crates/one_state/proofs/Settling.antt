@@ -19,8 +19,8 @@ use Rattle.pruning.specs.Explored.{Reached, IsOneOf, HopsTo, AreReached}
 use Rattle.pruning.specs.Explored as explored
 use Rattle.pruning.proofs.Bridging.{leads_from}
 use Rattle.pruning.proofs.Running.{IsRun, run_walked}
-use Rattle.one_state.specs.Search.{Search, IsSound, Taken, begins, as_reached, Offers, IsIn, here, there, HasCell}
-use Rattle.one_state.specs.Search.{IsOffered, sum_of, IsNext, begun, further}
+use Rattle.one_state.specs.Search.{Search, IsSound, Taken, begins, as_reached, Offers, IsIn, here, there}
+use Rattle.one_state.specs.Search.{HasCell, IsOffered, sum_of, IsNext, begun, further}
 use Rattle.one_state.specs.Search as search
 use Rattle.one_state.proofs.Sums.{Below, Below-then, Below-same, Below-add_left, Below-cancel_right, to_costs}
 use Rattle.one_state.proofs.Sums.{signed_sum, add_signed-assoc}

@@ -97,7 +97,8 @@ lies_there g d zero v c some r = absurd (omega arith)
 lies_there g d (suc k) v c some r =
     let run = run_walked g d (suc k) v c (run_begins g d k v c r) r in
     let there : cell_after d (steps_between v c) v ≡ c =
-    ap (λ n. cell_after d n v) (steps_moved d (suc k) v c run.moved) ∙ sym (moved_to d (suc k) v c run.moved) in
+    ap (λ n. cell_after d n v) (steps_moved d (suc k) v c run.moved)
+    ∙ sym (moved_to d (suc k) v c run.moved) in
     subst (λ (x : Cell). is_same x c ≡ true) (sym there) (is_same-itself c)
 
 -- each stop is one of published JPS+

@@ -28,7 +28,8 @@ moved c p q =
     ∙ ap (λ (n : ℤ). is_positive (q.a -ℤ p.a) n) b
 
 pub add_signed-comm : (p q : Signed) → add_signed p q ≡ add_signed q p
-add_signed-comm p q = same_signed (add_signed p q) (add_signed q p) (omega (arith, ints)) (omega (arith, ints))
+add_signed-comm p q = same_signed (add_signed p q) (add_signed q p) (omega (arith, ints))
+    (omega (arith, ints))
 
 pub add_signed-assoc : (p q r : Signed) → add_signed (add_signed p q) r ≡ add_signed p (add_signed q r)
 add_signed-assoc p q r = same_signed (add_signed (add_signed p q) r) (add_signed p (add_signed q r))

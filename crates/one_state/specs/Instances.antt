@@ -1,5 +1,5 @@
--- Where programs stop: at first stops (jump points) alone, at further cells, after each move, after so many, and as
--- published JPS+ does (Harabor and Grastien, ICAPS 2014; Rabin and Silva, Game AI Pro 2, 2015).
+-- Where programs stop: at first stops (jump points) alone, at further cells, after each move, after so many,
+-- and as published JPS+ does (Harabor and Grastien, ICAPS 2014; Rabin and Silva, Game AI Pro 2, 2015).
 use Rattle.std.specs.Prelude.{ℕ, Bool, false, ◌&&◌, ◌||◌, nat_eq, nat_le, Option, Some, None}
 use Rattle.grid_moves.specs.declared.Cell.{Cell}
 use Rattle.grid_moves.specs.declared.Dir.{Dir}
@@ -32,8 +32,8 @@ bounded most g goal u d k = nat_eq k most || (nat_le k most && at_first g goal u
 abbrev pub lies_in : Cell → Dir → Cell → Bool
 lies_in goal d v = is_same (cell_after d (steps_between v goal) v) goal
 
--- published JPS+ stops at the goal, at a mark, and on a diagonal where the goal's row or column is met, whether
--- or not the run from there to the goal is free
+-- published JPS+ stops at the goal, at a mark, and on a diagonal where the goal's row or column is met,
+-- whether or not the run from there to the goal is free
 abbrev pub is_plus_stop : GridData → Cell → Dir → Cell → Bool
 is_plus_stop g goal d v =
     is_same v goal || is_marked g v d

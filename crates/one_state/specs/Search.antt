@@ -1,6 +1,7 @@
--- Searches over jumps that keep one state for each cell, as lists of what they took: any estimate, any stops up to
--- the first one, any ties. Pruning and first stops are those of Harabor and Grastien (AAAI 2011; SoCS 2012 where no
--- corner is cut); their paper and most programs keep one node for each cell, and differ in all that is left open.
+-- Searches over jumps that keep one state for each cell, as lists of what they took: any estimate, any stops
+-- up to the first one, any ties. Pruning and first stops are those of Harabor and Grastien (AAAI 2011; SoCS
+-- 2012 where no corner is cut); their paper and most programs keep one node for each cell, and differ in all
+-- that is left open.
 use Rattle.std.specs.Prelude.{◌≡◌, ◌∷◌, ◌++◌, ℕ, true, IsTrue, List, [], if◌then◌else◌}
 use Rattle.root2_cost.specs.declared.Cost.{Cost}
 use Rattle.root2_cost.specs.declared.Signed.{Signed}
@@ -22,14 +23,15 @@ pub record Search : Type 0 where
   pub estimate : Estimate
   pub stops : Stops
 
--- it starts on a free cell, its estimate is consistent, and in an allowed direction with a first stop (jump point)
--- it stops there or before
+-- it starts on a free cell, its estimate is consistent, and in an allowed direction with a first stop (jump
+-- point) it stops there or before
 pub record IsSound (p : Search) : Type 0 where
   pub free : is_free p.grid p.start ≡ true
   pub consistent : IsConsistent p.grid p.goal p.estimate
   pub stops_in_time : (u : Reached) → PassesNoStop p.grid p.goal p.stops u
 
--- a cell that was taken: with how it was come to, at which cost, and from which cell; the start has itself there
+-- a cell that was taken: with how it was come to, at which cost, and from which cell;
+-- the start has itself there
 pub record Taken : Type 0 where
   pub state : State
   pub cost : Cost
@@ -43,7 +45,8 @@ begins p = record { state = start_state p.start; cost = no_cost; parent = p.star
 abbrev pub as_reached : Taken → Reached
 as_reached u = record { state = u.state; cost = u.cost }
 
--- u offers x: in an allowed direction, by moves before whose end no stop lies, and after which the search stops
+-- u offers x: in an allowed direction, by moves before whose end no stop lies,
+-- and after which the search stops
 pub record Offers (p : Search) (u x : Taken) : Type 0 where
   pub dir : Dir
   pub moves : ℕ
@@ -79,8 +82,8 @@ pub record IsNext (p : Search) (taken : List Taken) (x : Taken) : Type 0 where
   pub offered : IsOffered p taken x
   pub least : (y : Taken) → IsOffered p taken y → IsSignedAtMost (sum_of p x) (sum_of p y)
 
--- these were taken, latest first: the start, and then, as long as the goal's cell was not taken, one of those that
--- were offered at the least sum, whichever
+-- these were taken, latest first: the start, and then, as long as the goal's cell was not taken, one of those
+-- that were offered at the least sum, whichever
 pub data IsRun (p : Search) : List Taken → Type 0 where
   begun : IsRun p (begins p ∷ [])
   further : (x : Taken) (earlier : List Taken) → IsRun p earlier → ¬ HasCell earlier p.goal

@@ -27,7 +27,8 @@ landing u d k (Some c) = record {
 abbrev pub offers_within : Search → Taken → Dir → ℕ → List Taken
 offers_within p u d zero = []
 offers_within p u d (suc k) =
-    (if p.stops (as_reached u) d (suc k) then landing u d (suc k) (run_end p.grid d (suc k) u.state.cell) else [])
+    (if p.stops (as_reached u) d (suc k)
+    then landing u d (suc k) (run_end p.grid d (suc k) u.state.cell) else [])
     ++ offers_within p u d k
 
 -- as far as it may stop: to the first stop, or where there is none, to the end of the legal run

@@ -1,8 +1,8 @@
 //! Laws of all these searches, on every grid and under each corner rule.
 
-ghost use Rattle.one_state.specs.Laws.{GoalsAreLeast, ParentsLeadBack, SearchesEndRight, TakenAreFew, TakenAreSettled};
-ghost use Rattle.one_state.specs.Laws.{BoundedIsInTime, FirstIsInTime, FurtherIsInTime, PlusIsInTime};
-ghost use Rattle.one_state.specs.Laws.{NothingIsConsistent, OctileIsConsistent, RunsAreDecided};
+ghost use Rattle.one_state.specs.Laws.{GoalsAreLeast, ParentsLeadBack, SearchesEndRight, TakenAreFew};
+ghost use Rattle.one_state.specs.Laws.{TakenAreSettled, BoundedIsInTime, FirstIsInTime, FurtherIsInTime};
+ghost use Rattle.one_state.specs.Laws.{PlusIsInTime, NothingIsConsistent, OctileIsConsistent, RunsAreDecided};
 ghost use Rattle.one_state.specs.Rows.{LeftOutIsRefused, WrongCellIsRefused};
 
 /// A goal that is taken is taken at the cost of a least walk.
@@ -10,8 +10,8 @@ pub fn goals_are_least()
     ensures { GoalsAreLeast }
 {}
 
-/// From each taken cell the parents lead back to the start: the cells along them stand for a legal walk, of the
-/// cost at which the cell was taken.
+/// From each taken cell the parents lead back to the start: the cells along them stand for a legal walk, of
+/// the cost at which the cell was taken.
 pub fn parents_lead_back()
     ensures { ParentsLeadBack }
 {}
@@ -21,8 +21,8 @@ pub fn taken_are_settled()
     ensures { TakenAreSettled }
 {}
 
-/// As long as the goal is not taken, either one of those that are offered has the least sum, so that the search
-/// goes on, or nothing is offered, and no walk leads to the goal.
+/// As long as the goal is not taken, either one of those that are offered has the least sum, so that the
+/// search goes on, or nothing is offered, and no walk leads to the goal.
 pub fn searches_end_right()
     ensures { SearchesEndRight }
 {}

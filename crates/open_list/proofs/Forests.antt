@@ -7,8 +7,7 @@ use Rattle.std.specs.Option.{option_map_or}
 use Rattle.std.proofs.lemmas.Option.{slice_get_within, slice_get_past}
 use Rattle.open_list.specs.declared.entry.Entry.{Entry}
 use Rattle.open_list.specs.declared.entry.TheConstants.{NONE}
-use Rattle.open_list.specs.Entry.{changed, next_of, is_open, with_next, list_len, list_len_to}
-use Rattle.open_list.specs.Entry.{KeepsNodes}
+use Rattle.open_list.specs.Entry.{changed, next_of, is_open, with_next, list_len, list_len_to, KeepsNodes}
 use Rattle.open_list.specs.Heaps.{Heaps, no_heap, heap, first_id, count_at, node_count, heap_count, one_at}
 use Rattle.open_list.specs.Heaps.{open_count, AreChildren, AreRoots, HaveOpen, IsShifted}
 use Rattle.open_list.proofs.Changes.{get-changed, length-changed, map-changed}

@@ -1,7 +1,8 @@
 //! The entries of a pool: nodes with their links.
 
 ghost use Rattle.std.specs.Prelude.{◌≡◌, ◌<◌, length};
-ghost use Rattle.open_list.specs.Entry.{changed, child_of, next_of, prev_of, with_node, with_next, with_prev, with_next_and_prev, with_child_and_next, relinked};
+ghost use Rattle.open_list.specs.Entry.{changed, child_of, next_of, prev_of, with_node, with_next, with_prev};
+ghost use Rattle.open_list.specs.Entry.{with_next_and_prev, with_child_and_next, relinked};
 
 /// The link to no node.
 pub(crate) const NONE: u32 = u32::MAX;

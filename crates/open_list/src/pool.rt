@@ -1,6 +1,7 @@
 //! The pool: the nodes by their numbers, and the heap of those that are open.
 
-ghost use Rattle.std.specs.Prelude.{◌≡◌, ◌↔◌, ◌+◌, ◌^◌, ◌<◌, ◌≤◌, [], ◌∷◌, ◌++◌, length, true, false, IsNone, IfNone, IfSome, OnOk, OnErr, IsOk, Some, slice_get, slice_set};
+ghost use Rattle.std.specs.Prelude.{◌≡◌, ◌↔◌, ◌+◌, ◌^◌, ◌<◌, ◌≤◌, [], ◌∷◌, ◌++◌, length, true, false, IsNone};
+ghost use Rattle.std.specs.Prelude.{IfNone, IfSome, OnOk, OnErr, IsOk, Some, slice_get, slice_set};
 ghost use Rattle.std.specs.Option.{ForSome};
 ghost use Rattle.open_list.specs.OpenList.{IsOpen, HasNoneOpen, IsFirst};
 

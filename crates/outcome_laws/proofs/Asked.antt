@@ -47,7 +47,8 @@ pub cost_output : (words : List (List ℕ)) (command : Command) (set other : Set
 cost_output words Scen set other show rule costs texts =
     ap (λ (give : Layers → List Entry → Output). on_map texts (λ m behind. on_last behind (λ second.
     on_read (scen_of second) (λ entries. Some (give (grids_under set.rule m) entries)))))
-    (fun_ext (λ ls. fun_ext (λ entries. scen_same (picked_by set) (picked_by other) set.show costs ls entries)))
+    (fun_ext (λ ls. fun_ext
+    (λ entries. scen_same (picked_by set) (picked_by other) set.show costs ls entries)))
     ∙ rw (show, rule) refl
 cost_output words Drill set other show rule costs texts =
     ap (λ (found : List Finding). Some (printed (drill_line found) 0)) (drills_same set other

@@ -17,7 +17,7 @@ use Rattle.line_feed.specs.declared.feed.FedLine.{FedLine}
 use Rattle.line_feed.specs.Fed.{whole_lines}
 use Rattle.line_work.specs.Sending.{Wrote}
 use Rattle.line_work.proofs.Pieces.{part-more}
-use Rattle.jps_run.specs.Heard.{AnswerTaken, heard_commands}
+use Rattle.jps_run.specs.Heard.{AnswerTaken, WroteAll, heard_commands}
 use Rattle.outcome_laws.specs.Alike.{BeginWith}
 use Rattle.outcome_laws.proofs.Taken.{pending_taken, taken_begins}
 use Rattle.outcome_laws.proofs.ServedLines.{served_begin}
@@ -27,9 +27,9 @@ use Rattle.jps_run.specs.Calls.{files_of, reads_input}
 use Rattle.jps_run.specs.Ending.{Fails, HasFailed, HasLines, HasPart, WroteFirstLines, WrotePart}
 use Rattle.outcome_laws.specs.Outcomes.{FilesAreKnown, OfOutput, WrittenBeginsTheOutput, WroteLinesOf}
 use Rattle.jps_run.specs.Live.{On, answers_on}
-use Rattle.jps_run.specs.Outcome.{IsOutcome, IsOutput, Outcome, Spell, done, outcome_hearing, outcome_of, outcome_on}
-use Rattle.jps_run.specs.Outcome.{outcome_serving}
-use Rattle.jps_run.specs.Serving.{AreTaken, ServeLines, WroteWhole, serving_on, so_far}
+use Rattle.jps_run.specs.Outcome.{IsOutcome, IsOutput, Outcome, Spell, done, outcome_hearing, outcome_of}
+use Rattle.jps_run.specs.Outcome.{outcome_on, outcome_serving}
+use Rattle.jps_run.specs.Serving.{AreTaken, ServeLines, ServeWhole, serving_on, so_far}
 use Rattle.jps_run.specs.Standing.{StandFor}
 use Rattle.call_files.specs.Layered.{grids_under}
 use Rattle.jps_run.specs.Manner.{manner_of}
@@ -172,11 +172,13 @@ module _ (words : List (List ℕ)) (holds : List ℕ → Held) (input input_now 
             (outcome_is Serve call spelled p refl)) begun.1,
       )
 
-  whole_begins : (call : Call) → Spell words call → WroteWhole replies_by call holds out out_now input.left
-      input_now.left → Begun out out_now outcome
+  whole_begins : (call : Call) → Spell words call → On Serve call holds
+      (λ m. WroteAll (ServeWhole (serving_on (manner_of replies_by call.settings) m) input.left input_now.left)
+      out out_now) → Begun out out_now outcome
   whole_begins call spelled p =
       let s = p.such.stand in
-      let all = served_begins_all call spelled p s.taken (whole_lines s.taken) p.such.lines s.consumed (so_far refl)
+      let all = served_begins_all call spelled p s.taken (whole_lines s.taken) p.such.lines
+      s.consumed (so_far refl)
       s.serve in
       record {
         texts = p.such.lines ++ all.0;
@@ -206,7 +208,8 @@ module _ (words : List (List ℕ)) (holds : List ℕ → Held) (input input_now 
       }
       by_part (inr (inr p)) =
           let s = p.such.stand in
-          let all = served_begins_all part.call part.spelled p s.taken s.lines p.such.lines s.consumed s.are s.serve in
+          let all = served_begins_all part.call part.spelled p s.taken s.lines p.such.lines
+          s.consumed s.are s.serve in
           record {
             texts = p.such.lines ++ all.0;
             stand = all.1;
@@ -214,7 +217,7 @@ module _ (words : List (List ℕ)) (holds : List ℕ → Held) (input input_now 
           }
 
   lines_begin : HasLines replies_by words holds input input_now out out_now → Begun out out_now outcome
-  lines_begin (inl h) = begun-so out out_now outcome [] (outcome.out, refl) h
+  lines_begin (inl h) = begun-so out out_now outcome [] (outcome.out, refl) h.0
   lines_begin (inr lines) = by_lines lines.such
     where
       by_lines : WroteFirstLines replies_by holds input input_now out out_now lines.call
@@ -249,7 +252,8 @@ module _ (words : List (List ℕ)) (disk disk_now : Disk) (input input_now : Inf
           failed.call failed.spelled p p.such.lines
           (pending_taken (answers_on (manner_of replies_by failed.call.settings) p.read) input.left
           input_now.left p.such.lines p.such.stand)) p.such.wrote
-      by_read (inr (rose, inr p)) = whole_begins words disk.holds input input_now out out_now script outcome known
+      by_read (inr (rose, inr p)) = whole_begins words disk.holds input input_now out out_now
+          script outcome known
           comes_in is failed.call failed.spelled p
 
   first_lines : HasFailed replies_by words disk disk_now input input_now out out_now

@@ -1,7 +1,6 @@
 -- Of each command: accepted texts give an output, and it is called by its name.
 use Rattle.std.proofs.Common.{◌≡◌, ◌∙◌, refl, sym, ap, subst, ℕ, Bool, true, false, List, [], ◌∷◌, ◌++◌}
-use Rattle.std.proofs.Common.{length}
-use Rattle.std.proofs.Common.{append-nil}
+use Rattle.std.proofs.Common.{length, append-nil}
 use Rattle.std.specs.Prelude.{Option, Some, None, Result, Ok, Err, if◌then◌else◌}
 use Rattle.io_edge.specs.Known.{Held}
 use Rattle.map_text.specs.Map.{Map}
@@ -191,16 +190,20 @@ module _ (holds : List ℕ → Held) where
       let m = read_of map_line (map_of text) p.0.1 in
       let entries = read_of scen_line (scen_of second) p.1.0.1 in
       let claimed = read_of walks_line (walks_of third (length entries.0))
-      (subst (λ (n : ℕ). fault_in walks_line (walks_of third n) ≡ None) (ap count_in entries.1) p.1.1.0.1) in (
+      (subst (λ (n : ℕ). fault_in walks_line (walks_of third n) ≡ None)
+      (ap count_in entries.1) p.1.1.0.1) in (
         judge_output (grids_under manner.rule m.0) entries.0 claimed.0,
         value-read (map_of text) m.0 _ m.1 ∙ value-read (scen_of second) entries.0 _ entries.1
             ∙ value-read (walks_of third (length entries.0)) claimed.0 _ claimed.1,
       )
   has_output set command.Problems words tables manner texts p silent =
       on_its _ (any_map (word_at words 0) texts p)
-  has_output set command.Prove words tables manner texts p silent = on_its _ (any_map (word_at words 0) texts p)
-  has_output set command.Draw words tables manner texts p silent = on_its _ (any_map (word_at words 0) texts p)
-  has_output set command.Costs words tables manner texts p silent = on_its _ (any_map (word_at words 0) texts p)
+  has_output set command.Prove words tables manner texts p silent = on_its _
+      (any_map (word_at words 0) texts p)
+  has_output set command.Draw words tables manner texts p silent = on_its _
+      (any_map (word_at words 0) texts p)
+  has_output set command.Costs words tables manner texts p silent = on_its _
+      (any_map (word_at words 0) texts p)
   has_output set command.Tables words tables manner texts p silent = on_its _ (any_map
       (word_at words 0) texts p)
   has_output set command.Boxes words tables manner texts p silent = on_its _ (small_map

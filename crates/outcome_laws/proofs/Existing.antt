@@ -23,9 +23,11 @@ use Rattle.outcome_laws.specs.Existing.{ArePresent}
 use Rattle.outcome_laws.proofs.Commands.{has_output, with_tables}
 use Rattle.outcome_laws.proofs.Refusing.{accepted_or_refused, bad_word_exists}
 
--- a command that reads the input reads a map, with a table file where one is named, and answers on it what comes in
+-- a command that reads the input reads a map, with a table file where one is named,
+-- and answers on it what comes in
 reads_map : (command : Command) (words : List (List ℕ)) (set : Settings) (tables : Option (List ℕ))
-    → reads_input command ≡ true → (task command words).files set tables ≡ map_files set (word_at words 0) tables
+    → reads_input command ≡ true → (task command words).files set tables
+    ≡ map_files set (word_at words 0) tables
 reads_map Live words set tables reads = refl
 reads_map Serve words set tables reads = refl
 reads_map other words set tables reads = absurd (cc)
@@ -38,7 +40,8 @@ answers_input other manner m input reads = absurd (cc)
 
 -- what the task of a call prints is its output
 output_is : (call : Call) (texts : List (List ℕ)) (o : Output)
-    → (task call.request.command call.request.words).output (manner_of replies_by call.settings) texts ≡ Some o
+    → (task call.request.command call.request.words).output
+    (manner_of replies_by call.settings) texts ≡ Some o
     → output_of replies_by call texts ≡ Some o
 unfolding output_of
 output_is call texts o e = e
@@ -57,7 +60,8 @@ module _ (words : List (List ℕ)) (holds : List ℕ → Held) (script : List �
           let h = with_tables holds call.settings (word_at call.request.words 0) call.request.tables texts
           (subst (λ (files : List File). AreAccepted holds [] files texts)
           (reads_map call.request.command call.request.words call.settings call.request.tables reads) p) in
-          let o = answers_input call.request.command (manner_of replies_by call.settings) h.map script reads in (
+          let o = answers_input call.request.command (manner_of replies_by call.settings)
+          h.map script reads in (
             o.0,
             done call texts script o.0 spelled p refl
                 (ap (λ (ts : List (List ℕ)). outcome_of replies_by call ts script) h.is

@@ -128,7 +128,8 @@ record Leads (holds : List ℕ → Held) (call like : Call) : Type 0 where
   refusal : (line : List ℕ) → HasRefused holds (files_of call) line → HasRefused holds (files_of like) line
   comes : (texts : List (List ℕ)) → AreAccepted holds [] (files_of call) texts
       → (others : List (List ℕ)) × AreAccepted holds [] (files_of like) others
-      × ((script : List ℕ) → outcome_of replies_by like others script ≡ outcome_of replies_by call texts script)
+      × ((script : List ℕ) → outcome_of replies_by like others script
+      ≡ outcome_of replies_by call texts script)
 
 -- both ways
 record LeadBoth (holds : List ℕ → Held) (call like : Call) : Type 0 where
@@ -232,7 +233,8 @@ module _ (holds : List ℕ → Held) (command : Command) (words : List (List ℕ
       comes = λ texts p. let off = without_them texts p in (
         off.text ∷ off.more,
         subst (λ (fs : List File). AreAccepted holds [] fs (off.text ∷ off.more)) (sym unnamed) off.accepted,
-        λ script. sym (ap (λ (ts : List (List ℕ)). outcome_of replies_by (asks (Some tables)) ts script) off.is
+        λ script. sym (ap (λ (ts : List (List ℕ)). outcome_of replies_by
+            (asks (Some tables)) ts script) off.is
             ∙ loaded_same off.text off.loaded off.more
             (as_many holds (off.text ∷ []) t.rest off.more off.accepted.1) script),
       );

@@ -19,10 +19,12 @@ use Rattle.jps_run.specs.Outcome.{Spell}
 -- words that are of their kinds and then settings lack none
 none_missing : (engine : SessionEngine) (takes : List WordKind) (allows : List Family) (words : List (List ℕ))
     → fits engine takes allows words ≡ true → is_complete engine (drop (length takes) words) ≡ true
-none_missing engine [] allows words fit = (and_parts (all_follow allows [] words) (is_complete engine words) fit).1
+none_missing engine [] allows words fit =
+    (and_parts (all_follow allows [] words) (is_complete engine words) fit).1
 none_missing engine (kind ∷ takes) allows [] fit = absurd (cc)
 none_missing engine (kind ∷ takes) allows (word ∷ words) fit =
-    none_missing engine takes allows words (and_parts (is_of kind word) (fits engine takes allows words) fit).1
+    none_missing engine takes allows words
+    (and_parts (is_of kind word) (fits engine takes allows words) fit).1
 
 call_or : Call → Option Call → Call
 call_or d None = d
@@ -41,7 +43,8 @@ by_row words row call true fit is =
     let e : call_with (asked_by row words) (settings_of engine (drop (length row.takes) words)) ≡ call =
     ap (call_or call) is in
     subst (λ (c : Call). can_load c.request.tables c.settings ≡ true) e
-    (complete.loads engine (drop (length row.takes) words) (none_missing engine row.takes row.allows words fit))
+    (complete.loads engine (drop (length row.takes) words)
+    (none_missing engine row.takes row.allows words fit))
 
 pub loads : (words : List (List ℕ)) (call : Call) → Spell words call
     → can_load call.request.tables call.settings ≡ true
@@ -55,7 +58,8 @@ loads (name ∷ words) call is = by_name (row_of name) is
         }) else None) found ≡ Some call
         → can_load call.request.tables call.settings ≡ true
     by_name None e = absurd (cc)
-    by_name (Some row) e = by_row words row call (fits (engine_of row.command) row.takes row.allows words) refl e
+    by_name (Some row) e = by_row words row call
+        (fits (engine_of row.command) row.takes row.allows words) refl e
 
 plus_picked : (p : Pick) → has_tables p ≡ true → p ≡ Session Plus
 plus_picked (Session Plus) h = refl

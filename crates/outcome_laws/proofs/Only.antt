@@ -72,7 +72,8 @@ call_comes words holds input call _ spelled (bad_text other line also is) =
     (same_call words other call also spelled) is)
 call_comes words holds input call _ spelled (done other texts script outcome also accepted comes is) =
     let same = same_call words other call also spelled in
-    finished texts script outcome (subst (λ (c : Call). AreAccepted holds [] (files_of c) texts) same accepted)
+    finished texts script outcome
+    (subst (λ (c : Call). AreAccepted holds [] (files_of c) texts) same accepted)
     comes (subst (λ (c : Call). outcome_of replies_by c texts script ≡ Some outcome) same is)
 
 -- the names of files
@@ -174,7 +175,8 @@ record AnswerAlike (one other : Settings) : Type 0 where
 
 jump_ways : (states : States) (p : Pick) → is_jump p ≡ true
     → (way_of (by_of states p) ≡ by_session (engine.Jps (layout_for states)))
-    × (way_of (by_session (engine_for states (session_engine p))) ≡ by_session (engine.Jps (layout_for states)))
+    × (way_of (by_session (engine_for states (session_engine p)))
+    ≡ by_session (engine.Jps (layout_for states)))
     × (is_for_small_maps p ≡ false)
 jump_ways states (pick.Session Jps) e = (refl, refl, refl)
 jump_ways states (pick.Session Block) e = (refl, refl, refl)
@@ -291,7 +293,8 @@ module _ (holds : List ℕ → Held) (script : List ℕ) (call like : Call) (ali
         let m = manner_of replies_by call.settings in
         let n = manner_of replies_by like.settings in
         let silent = silent_for call.request.command call.settings.show costs in
-        let also : reads_input like.request.command ≡ false = sym (ap reads_input alike.same.command) ∙ silent in
+        let also : reads_input like.request.command
+        ≡ false = sym (ap reads_input alike.same.command) ∙ silent in
         outcome-is call texts script
         ∙ rw silent refl
         ∙ ap (λ (o : Option Output). option_map outcome_with o)

@@ -1,6 +1,5 @@
 -- What a plain query comes to.
-use Rattle.std.proofs.Common.{◌≡◌, ◌∙◌, refl, sym, ap, subst, ℕ, List, [], ◌∷◌, ◌++◌}
-use Rattle.std.proofs.Common.{append-nil, arith}
+use Rattle.std.proofs.Common.{◌≡◌, ◌∙◌, refl, sym, ap, subst, ℕ, List, [], ◌∷◌, ◌++◌, append-nil, arith}
 use Rattle.std.specs.Prelude.{codes, Option, Some, None, Ok, unwrap_or}
 use Rattle.std.specs.List.{concat}
 use Rattle.grid_moves.specs.declared.Cell.{Cell}
@@ -69,7 +68,8 @@ module _ {words : List (List ℕ)} {name : List ℕ} {s t : Cell} (asks : AskFor
       rw (read, asks.start_column, asks.start_row, asks.goal_column, asks.goal_row) refl
 
   comes_to : (replies : By → Replies) (text script : List ℕ) (m : Map) → map_of text ≡ Ok m
-      → outcome_of replies its_call (text ∷ []) script ≡ Some (outcome_with (printed (line_by replies m s t) 0))
+      → outcome_of replies its_call (text ∷ []) script
+      ≡ Some (outcome_with (printed (line_by replies m s t) 0))
   unfolding outcome_of
   comes_to replies text script m read = rw (output_is replies text m read) refl
 

@@ -120,7 +120,8 @@ module _ (name : List ℕ) (words : List (List ℕ)) (refused : is_call (name �
   -- words that are all of their kinds, and settings behind them
   module _ (taken : ℕ) (are : AreOf row.takes words taken) (above : length row.takes ≤ taken) (more : ℕ)
       (settled : AreSettled row.allows [] (drop taken words) more) where
-    settings_bad : (more < length (drop taken words)) ⊎ (is_complete (engine_of row.command) (drop taken words) ≡ false)
+    settings_bad : (more < length (drop taken words))
+        ⊎ (is_complete (engine_of row.command) (drop taken words) ≡ false)
         → BadWord
     settings_bad why = (
       taken + more + 2,

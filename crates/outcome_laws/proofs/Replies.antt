@@ -69,7 +69,8 @@ module _ (ls : Layers) (s t : Cell) (one other : By) where
   by_ends true true true e =
       let ends = and_parts (is_free g s) (is_free g t) e in
       walks_same g s t (found_by one g s t).walk (found_by other g s t).walk (found_by one g s t).taken
-      (found_by other g s t).taken (found_least one g s t ends.0 ends.1) (found_least other g s t ends.0 ends.1)
+      (found_by other g s t).taken (found_least one g s t ends.0 ends.1)
+      (found_least other g s t ends.0 ends.1)
 
   found_same : finding_of (reply_finding ls s t (found_by one g s t))
       ≡ finding_of (reply_finding ls s t (found_by other g s t))

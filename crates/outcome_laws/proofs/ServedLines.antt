@@ -20,7 +20,8 @@ use Rattle.jps_run.specs.Standing.{StandFor}
 use Rattle.jps_run.proofs.Serving.{more-stand}
 
 -- the lines of a text that have their line feed begin all lines of more text
-whole_begin : (text more : List ℕ) → (others : List FedLine) × (lines_of (text ++ more) ≡ whole_lines text ++ others)
+whole_begin : (text more : List ℕ) → (others : List FedLine)
+    × (lines_of (text ++ more) ≡ whole_lines text ++ others)
 whole_begin text more =
     let g = lines-grow text more in
     let last = map line_of (last_line (cut (text ++ more)).rest) in (
@@ -43,19 +44,22 @@ taken_begin taken rest lines (at_end end e) = (
 )
 
 -- so more texts stand for the answers to all lines of the input
-pub served_begin : (manner : Manner) (m : Map) (input taken : List ℕ) (left : Option (List ℕ)) (lines : List FedLine)
+pub served_begin : (manner : Manner) (m : Map) (input taken : List ℕ) (left : Option (List ℕ))
+    (lines : List FedLine)
     (texts : List (List ℕ)) → Consumes (Some input) left taken → AreTaken left taken lines
     → ServeLines (serving_on manner m) lines texts
     → (more : List (List ℕ)) × ServeLines (serving_on manner m) (lines_of input) (texts ++ more)
 served_begin manner m input taken None lines texts consumed are h = absurd consumed
 served_begin manner m input taken (Some rest) lines texts consumed are h =
     let begun = taken_begin taken rest lines are in
-    let s = more-stand manner.session manner.show (grids_under manner.rule m) (all_asked lines) (all_asked begun.0)
+    let s = more-stand manner.session manner.show (grids_under manner.rule m)
+    (all_asked lines) (all_asked begun.0)
     texts h in
     let all : all_asked (lines_of input) ≡ all_asked lines ++ all_asked begun.0
     = ap (λ (t : List ℕ). all_asked (lines_of t)) consumed ∙ ap all_asked begun.1
     ∙ map-append asked_by lines begun.0 in (
       s.0,
       subst (λ (asked : List Asked). StandFor (map may_want asked)
-          (answers_to manner.session manner.show (grids_under manner.rule m) [] asked) (texts ++ s.0)) (sym all) s.1,
+          (answers_to manner.session manner.show (grids_under manner.rule m) [] asked)
+          (texts ++ s.0)) (sym all) s.1,
     )

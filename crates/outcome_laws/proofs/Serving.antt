@@ -50,7 +50,8 @@ module _ (allows : List Family) (bar : BarSmall allows) where
       (with_one set (setting_of word) (and_parts (is_allowed allows (setting_of word)) _ parts.0).0 large)
 
 -- behind the words that a command takes stand its settings
-settings_behind : (engine : SessionEngine) (takes : List WordKind) (allows : List Family) (words : List (List ℕ))
+settings_behind : (engine : SessionEngine) (takes : List WordKind) (allows : List Family)
+    (words : List (List ℕ))
     → fits engine takes allows words ≡ true
     → are_settings engine allows (drop (length takes) words) ≡ true
 settings_behind engine [] allows words fit = fit

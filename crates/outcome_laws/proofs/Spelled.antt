@@ -30,7 +30,8 @@ pub spelled : (name : List ℕ) (words : List (List ℕ)) (call : Call) → call
     → IsSpelled name words call
 spelled name words call e = by_row (row_of name) refl e
   where
-    by_fit : (row : Row) → row_of name ≡ Some row → (b : Bool) → fits (engine_of row.command) row.takes row.allows words ≡ b
+    by_fit : (row : Row) → row_of name ≡ Some row → (b : Bool)
+        → fits (engine_of row.command) row.takes row.allows words ≡ b
         → (if b then Some (call_by row words) else None) ≡ Some call → IsSpelled name words call
     by_fit row is true fit e = record {
       row = row;
@@ -41,7 +42,8 @@ spelled name words call e = by_row (row_of name) refl e
     by_fit row is false fit e = absurd (cc)
 
     by_row : (o : Option Row) → row_of name ≡ o → option_and_then
-        (λ row. if fits (engine_of row.command) row.takes row.allows words then Some (call_by row words) else None) o ≡ Some call
+        (λ row. if fits (engine_of row.command) row.takes row.allows words then Some (call_by row words)
+        else None) o ≡ Some call
         → IsSpelled name words call
     by_row None is e = absurd (cc)
     by_row (Some row) is e = by_fit row is (fits (engine_of row.command) row.takes row.allows words) refl e

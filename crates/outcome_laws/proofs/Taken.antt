@@ -11,8 +11,7 @@ use Rattle.call_files.specs.Kinds.{limit_of}
 use Rattle.call_files.specs.declared.kind.TextKind.TheVariants as kind
 use Rattle.jps_run.specs.Answers.{answer_line, answer_lines, edits_with, in_turn}
 use Rattle.jps_run.specs.Heard.{AnswerPending, AnswerTaken, Answering, AreWhole, at_end, counted}
-use Rattle.jps_run.specs.Heard.{heard_commands}
-use Rattle.jps_run.specs.Heard.{so_far}
+use Rattle.jps_run.specs.Heard.{heard_commands, so_far}
 use Rattle.jps_run.proofs.Listening.{few-heard, long-heard_of}
 use Rattle.jps_run.proofs.Solving.{in_turn-more}
 use Rattle.outcome_laws.specs.Lines.{TakenBeginsHeard}

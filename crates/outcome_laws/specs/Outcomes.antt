@@ -100,14 +100,16 @@ EnginesPrintTheSameCosts = (words others : List (List ℕ)) (call like : Call) (
 abbrev pub WroteLinesOf : List (List ℕ) → Outflow → Outflow → Type 0
 WroteLinesOf lines before now = (count : ℕ) × Wrote before now (concat (take count lines))
 
--- of texts that stand for the lines of an outcome this holds; where memory is wanted for none, they are the lines
+-- of texts that stand for the lines of an outcome this holds; where memory is wanted for none,
+-- they are the lines
 pub record OfOutput (outcome : Outcome) (Such : List (List ℕ) → Type 0) : Type 0 where
   pub texts : List (List ℕ)
   pub stand : StandFor outcome.wants outcome.out texts
   pub such : Such texts
 
--- Where a call stops with no outcome, what it wrote is a first part of what stands for the output that its words
--- come to: of its bytes where a write failed; of its lines, each whole, where a read failed or for want of memory.
+-- Where a call stops with no outcome, what it wrote is a first part of what stands for the output that its
+-- words come to: of its bytes where a write failed; of its lines, each whole,
+-- where a read failed or for want of memory.
 abbrev pub WrittenBeginsTheOutput : Type 0
 WrittenBeginsTheOutput = (words : List (List ℕ)) (disk disk_now : Disk) (input input_now : Inflow)
     (out out_now : Outflow) (script : List ℕ) (outcome : Outcome) → FilesAreKnown words disk.holds

@@ -45,7 +45,8 @@ PrintsQuery words holds before now = (name text : List ℕ) (m : Map) (s t : Cel
     → PrintsRight (layers_of Never m.width m.height m.cells) s t before now
 
 -- a worked row: from a cell two columns on and one row down
-pub two_points : line_of (walk (record { x = 1; y = 1 } ∷ record { x = 2; y = 2 } ∷ []) (record { a = 0; b = 1 }))
+pub two_points : line_of
+    (walk (record { x = 1; y = 1 } ∷ record { x = 2; y = 2 } ∷ []) (record { a = 0; b = 1 }))
     ≡ codes "walk 0 1 1,1 2,2\n"
 unfolding digits
 two_points = refl

@@ -41,8 +41,8 @@ pub fn accepted_or_refused()
     ensures { AcceptedOrRefused }
 {}
 
-/// What is written again is a scenario with an entry for each line below the first, and on the same map and under
-/// the same rule all rows of `scen` are `agree`: its last line counts as many, and the status is 0.
+/// What is written again is a scenario with an entry for each line below the first, and on the same map and
+/// under the same rule all rows of `scen` are `agree`: its last line counts as many, and the status is 0.
 pub fn lengths_agree()
     ensures { LengthsAgree }
 {}
@@ -52,8 +52,8 @@ pub fn problems_agree()
     ensures { ProblemsAgree }
 {}
 
-/// What `check` accepts holds: the claim that a certificate is read as is accepted on the grid, and what the line says
-/// is so of all walks there.
+/// What `check` accepts holds: the claim that a certificate is read as is accepted on the grid, and what the
+/// line says is so of all walks there.
 pub fn accepted_hold()
     ensures { AcceptedHold }
 {}

@@ -28,10 +28,10 @@ pub fn engines_print_the_same_costs()
     ensures { EnginesPrintTheSameCosts }
 {}
 
-/// What a call wrote that stopped with no outcome is a first part of what stands for the output of any outcome that
-/// its words come to: some of its bytes where a write failed, and some of its lines, each whole, where a read failed
-/// or for want of memory. By every command but `serve` the output alone stands for itself. The files and the input
-/// are known.
+/// What a call wrote that stopped with no outcome is a first part of what stands for the output of any
+/// outcome that its words come to: some of its bytes where a write failed, and some of its lines, each whole,
+/// where a read failed or for want of memory. By every command but `serve` the output alone stands for
+/// itself. The files and the input are known.
 pub fn written_begins_the_output()
     ensures { WrittenBeginsTheOutput }
 {}

@@ -9,8 +9,8 @@ use std::alloc::Global;
 use std::sync::ledger::Ledger;
 use steps::Steps;
 
-/// `run` itself: where its words are `query`, a name and four numbers, the file of that name holds a text that spells a
-/// map, and it answers the status 0, `out` got the line of a right answer.
+/// `run` itself: where its words are `query`, a name and four numbers, the file of that name holds a text
+/// that spells a map, and it answers the status 0, `out` got the line of a right answer.
 pub fn run_query<F: Files, I: Source, O: Sink, E: Sink, L: Ledger>(
     alloc: Global,
     words: &[String],

@@ -9,8 +9,8 @@ pub fn replies_are_right()
     ensures { RepliesAreRight }
 {}
 
-/// Two who answer alike on the same layers have the same reply: points, cost and taken states. So do engines that
-/// jump (`jps`, `block` and `plus`) with the same states.
+/// Two who answer alike on the same layers have the same reply: points, cost and taken states. So do engines
+/// that jump (`jps`, `block` and `plus`) with the same states.
 pub fn alike_reply_the_same()
     ensures { AlikeReplyTheSame }
 {}

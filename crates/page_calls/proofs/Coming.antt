@@ -44,7 +44,8 @@ module _ (words : List (List ℕ)) (texts : List (List ℕ × List ℕ)) (input 
     same_status = c.same_status;
     lines = c.texts;
     stand = c.stand;
-    same_out = appended out.written out_now.written printed _ no_out (ap (λ (o : Outflow). o.written) is) c.wrote;
+    same_out = appended out.written out_now.written printed _ no_out
+        (ap (λ (o : Outflow). o.written) is) c.wrote;
     same_err = got err err_now told c.outcome.line no_err also c.printed;
   }
 

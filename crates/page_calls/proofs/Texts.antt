@@ -1,6 +1,6 @@
 -- Words that are text, and one that is none.
-use Rattle.std.proofs.Common.{◌≡◌, ℕ, ◌<◌, ◌≤◌, List, [], ◌∷◌, ◌++◌, length, map, String, Global, string_bytes}
-use Rattle.std.proofs.Common.{ap, refl, ◌∙◌, get_or}
+use Rattle.std.proofs.Common.{◌≡◌, ℕ, ◌<◌, ◌≤◌, List, [], ◌∷◌, ◌++◌, length, map, String, Global}
+use Rattle.std.proofs.Common.{string_bytes, ap, refl, ◌∙◌, get_or}
 use Rattle.std.specs.Option.{option_map, option_map_or}
 use Rattle.std.specs.List.{slice_get}
 use Rattle.std.proofs.lemmas.Option.{slice_get-map, slice_get_past, slice_get_read}

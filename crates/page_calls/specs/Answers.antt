@@ -14,7 +14,8 @@ use Rattle.page_calls.specs.declared.Printed.{Printed}
 abbrev pub whole : List ℕ → Outflow
 whole bytes = record { written = Some bytes; faults = 0 }
 
--- by what is replied to queries, the words come to this on these texts, no others being there, and on this input
+-- by what is replied to queries, the words come to this on these texts,
+-- no others being there, and on this input
 pub record ComeTo (replies : By → Replies) (words : List (List ℕ)) (texts : List (List ℕ × List ℕ))
     (input : List ℕ) (status : ℕ) (out err : List ℕ) : Type 0 where
   pub outcome : Outcome

@@ -32,5 +32,6 @@ pub three_words : words_in (97 ∷ 98 ∷ 0 ∷ 0 ∷ 99 ∷ 0 ∷ []) ≡ (97 �
 three_words = refl
 
 -- the second of three names has the second text
-pub second_name : texts_in ((1 ∷ []) ∷ (2 ∷ []) ∷ []) (5 ∷ []) (6 ∷ []) [] ≡ (1 ∷ [], 5 ∷ []) ∷ (2 ∷ [], 6 ∷ []) ∷ []
+pub second_name : texts_in ((1 ∷ []) ∷ (2 ∷ []) ∷ []) (5 ∷ []) (6 ∷ []) []
+    ≡ (1 ∷ [], 5 ∷ []) ∷ (2 ∷ [], 6 ∷ []) ∷ []
 second_name = refl

@@ -78,7 +78,8 @@ pub fn answer_of(
 ) -> Result<Answer, NoMemory>
     ensures few { IfOk result (λ answer. answer.status ≤ 4) }
     ensures answers { IfOk result (λ answer. AreTexts (words_in words.now) → AreTexts (words_in names.now)
-        → Answers (words_in words.now) (texts_in (words_in names.now) first.now second.now third.now) input.now
+        → Answers (words_in words.now)
+        (texts_in (words_in names.now) first.now second.now third.now) input.now
         answer.status answer.out.items answer.err.items) }
 {
     let names = words_of(alloc, names)?;

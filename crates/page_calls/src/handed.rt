@@ -16,7 +16,8 @@ pub struct Handed {
 
 /// The words of these bytes, each of which ends by a byte 0.
 pub fn words_of(alloc: Global, bytes: &[u8]) -> Result<Handed, NoMemory>
-    ensures all { IfOk result (λ handed. handed.are_all ≡ true → map string_bytes handed.words.items ≡ words_in bytes.now) }
+    ensures all { IfOk result
+        (λ handed. handed.are_all ≡ true → map string_bytes handed.words.items ≡ words_in bytes.now) }
     ensures some { IfOk result (λ handed. handed.are_all ≡ false → ¬ AreTexts (words_in bytes.now)) }
 {
     let mut words = Vec::new(alloc);
@@ -50,7 +51,9 @@ fn add_text(
     text: &[u8],
     files: &mut Vec<(String, Vec<u8>)>,
 ) -> Result<(), NoMemory>
-    ensures { IfOk result (λ _. named_bytes files.new.items ≡ named_bytes files.old.items ++ text_at (map string_bytes names.now) place text.now) }
+    ensures { IfOk result
+        (λ _. named_bytes files.new.items ≡ named_bytes files.old.items
+        ++ text_at (map string_bytes names.now) place text.now) }
 {
     if place < names.len() {
         let name = String::from_str(alloc, names[place].as_str())?;
@@ -67,7 +70,9 @@ pub fn files_of(
     second: &[u8],
     third: &[u8],
 ) -> Result<Vec<(String, Vec<u8>)>, NoMemory>
-    ensures { IfOk result (λ files. named_bytes files.items ≡ texts_in (map string_bytes names.now) first.now second.now third.now) }
+    ensures { IfOk result
+        (λ files. named_bytes files.items
+        ≡ texts_in (map string_bytes names.now) first.now second.now third.now) }
 {
     let mut files = Vec::new(alloc);
     add_text(alloc, names, 0, first, &mut files)?;

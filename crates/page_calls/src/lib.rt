@@ -25,9 +25,10 @@ pub struct Printed {
 /// Does what the words ask for, with the texts under their names as the files that there are, and answers the
 /// status.
 ///
-/// `words` and `names` are UTF-8, each of them ended by a byte 0. What is printed goes to the front of `out` and of
-/// `err`, and `told` has how many bytes it is. Where that is more than there is room for, that room stays as it is:
-/// the call is to be made again with as much. Statuses: those of `run` without 5, as all is written.
+/// `words` and `names` are UTF-8, each of them ended by a byte 0. What is printed goes to the front of `out`
+/// and of `err`, and `told` has how many bytes it is. Where that is more than there is room for, that room
+/// stays as it is: the call is to be made again with as much. Statuses: those of `run` without 5,
+/// as all is written.
 #[unsafe(no_mangle)]
 pub extern "C" fn jps_answer(
     alloc: Global,
@@ -44,7 +45,8 @@ pub extern "C" fn jps_answer(
     ensures statuses { (result ≤ 4) ⊎ (result ≡ 6) }
     // The headline: what is printed and the status are those of an outcome of these words on these texts.
     ensures answers { result ≤ 4 → AreTexts (words_in words.now) → AreTexts (words_in names.now)
-        → IsPrinted (Answers (words_in words.now) (texts_in (words_in names.now) first.now second.now third.now)
+        → IsPrinted (Answers (words_in words.now)
+        (texts_in (words_in names.now) first.now second.now third.now)
         input.now result) out.new err.new told.new }
     // For want of memory nothing is printed but its line.
     ensures memory { result ≡ 6 → IsPrinted IsForMemory out.new err.new told.new }

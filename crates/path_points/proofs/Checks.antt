@@ -19,7 +19,8 @@ use Rattle.grid_moves.proofs.Short.{walk_free}
 use Rattle.path_points.specs.declared.checking.BadAt.{BadAt}
 use Rattle.path_points.specs.Checked.{most_steps, run, good_cost, is_legal_run, is_good_run, starts_free}
 use Rattle.path_points.specs.Checked.{breaks_after, is_bad_at, IsFirstBad, IsPointsAnswer, IsShortWalk}
-use Rattle.path_points.specs.Checked.{PointsAreAnswered, answer_from, bad_at, cost_after, points_answer, steps_of}
+use Rattle.path_points.specs.Checked.{PointsAreAnswered, answer_from, bad_at, cost_after, points_answer}
+use Rattle.path_points.specs.Checked.{steps_of}
 use Rattle.grid_moves.proofs.Legal.{and_both}
 use Rattle.path_points.proofs.Filling.{segment-length}
 use Rattle.path_points.proofs.Joined.{run_joined, run_parts, run_free, run_cost_joined, run_counts}
@@ -123,7 +124,8 @@ record GoesOn (g : GridData) (u : Cell) (points : List Cell) (cost total : Cost)
 -- the cost of a walk that goes on from a run
 priced_on :
     (cost : Cost) (u v : Cell) (cells : List Cell)
-    → add_costs cost (cost_of (u ∷ (run u v ++ cells))) ≡ add_costs (cost_after cost u v) (cost_of (v ∷ cells))
+    → add_costs cost (cost_of (u ∷ (run u v ++ cells)))
+    ≡ add_costs (cost_after cost u v) (cost_of (v ∷ cells))
 priced_on cost u v cells = grind (arith, cases_Bool, run_cost_joined, add_costs-assoc)
 
 run_and_more : (u v : Cell) (cells : List Cell) → length (run u v ++ cells) ≡ steps_between u v + length cells

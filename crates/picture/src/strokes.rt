@@ -1,6 +1,7 @@
 //! Strokes over cells.
 
-ghost use Rattle.std.specs.Prelude.{◌≡◌, ◌++◌, ◌*◌, ◌≤◌, ◌<◌, ◌==◌, ◌||◌, OnOk, [], ◌∷◌, codes, decimal, length};
+ghost use Rattle.std.specs.Prelude.{◌≡◌, ◌++◌, ◌*◌, ◌≤◌, ◌<◌, ◌==◌, ◌||◌, OnOk, [], ◌∷◌, codes, decimal};
+ghost use Rattle.std.specs.Prelude.{length};
 ghost use Rattle.std.specs.List.{list_any};
 ghost use Rattle.map_text.specs.Writing.{rows_of};
 ghost use Rattle.picture.specs.Grounds.{is_of, runs_of};

@@ -1,6 +1,6 @@
 -- What is made number by number is a list whose members ascend strictly by their numbers.
-use Rattle.std.proofs.Common.{◌≡◌, ℕ, zero, suc, ◌+◌, ◌<◌, ◌≤◌, ◌⊎◌, inl, inr, arith, refl, ap, sym, ◌∙◌, subst}
-use Rattle.std.proofs.Common.{List, [], ◌∷◌, ◌++◌, length, map}
+use Rattle.std.proofs.Common.{◌≡◌, ℕ, zero, suc, ◌+◌, ◌<◌, ◌≤◌, ◌⊎◌, inl, inr, arith, refl, ap, sym, ◌∙◌}
+use Rattle.std.proofs.Common.{subst, List, [], ◌∷◌, ◌++◌, length, map}
 use Rattle.std.proofs.lemmas.Bool.{cases_eq}
 use Rattle.std.specs.Prelude.{⊤, Option, Some, None, slice_index}
 use Rattle.std.specs.List.{Contains, cons_option, filter_map, range_with_len}
@@ -102,7 +102,8 @@ made_more {X} make n a j m at e = ap (λ (k : ℕ). filter_map make (range_with_
     after (Some x) xs ys = refl
 
     by_count : (n a : ℕ) → a + n ≡ j
-        → filter_map make (range_with_len a (suc n)) ≡ filter_map make (range_with_len a n) ++ cons_option (make j) []
+        → filter_map make (range_with_len a (suc n)) ≡ filter_map make (range_with_len a n)
+        ++ cons_option (make j) []
     by_count zero a at = let same : a ≡ j = omega arith in ap (λ (k : ℕ). cons_option (make k) []) same
     by_count (suc n) a at =
         ap (λ (l : List X). cons_option (make a) l) (by_count n (a + 1) (omega arith))

@@ -45,12 +45,14 @@ module _ (nodes : List Node) (at : ℕ) (r n : Node) (c t : Cell) {differs : Boo
     (is : c ≡ node_cell r) (given : differs ≡ not (is_same c t)) (there : slice_get nodes at ≡ Some n) where
   pub differs_there : differs ≡ true → is_same (node_cell n) t ≡ false
   differs_there e =
-      let cell : node_cell n ≡ c = ap (λ (m : Node). node_cell m) (some_node n r (sym there ∙ read)) ∙ sym is in
+      let cell : node_cell n
+      ≡ c = ap (λ (m : Node). node_cell m) (some_node n r (sym there ∙ read)) ∙ sym is in
       ap (λ (u : Cell). is_same u t) cell ∙ not-true (is_same c t) (sym given ∙ e)
 
   pub same_there : differs ≡ false → node_cell n ≡ t
   same_there e =
-      let cell : node_cell n ≡ c = ap (λ (m : Node). node_cell m) (some_node n r (sym there ∙ read)) ∙ sym is in
+      let cell : node_cell n
+      ≡ c = ap (λ (m : Node). node_cell m) (some_node n r (sym there ∙ read)) ∙ sym is in
       cell ∙ is_same-cell c t (not-false (is_same c t) (sym given ∙ e))
 
 module _ {g : GridData} {s t : Cell} {link : Links} (asked : IsAsked g s t link) where
@@ -127,6 +129,7 @@ has_stopped g s t o none =
       run = run;
       is_run = o.searching.run;
       no_goal = rw o.open_ended o.searching.no_goal;
-      none_waits = none_open (same_best o.searching.mirrors (least_offer (plain_rule g t) run) o.all_made) none;
+      none_waits = none_open
+          (same_best o.searching.mirrors (least_offer (plain_rule g t) run) o.all_made) none;
       numbered = o.numbered;
     }

@@ -22,9 +22,9 @@ use Rattle.path_points.specs.Least.{IsLeastOrNone}
 use Rattle.cost_waves.specs.Begin.{Begins, IsLeastCost}
 use Rattle.cost_waves.proofs.Falling.{GoesOver, goes_over, least_by_move}
 use Rattle.plain_search.specs.Answer.{plain_found}
-use Rattle.plain_search.specs.Costs.{BeginsIs, IsCostTo, LeastCostsAre, begins, falls_by}
-use Rattle.plain_search.specs.Costs.{least_cost}
+use Rattle.plain_search.specs.Costs.{BeginsIs, IsCostTo, LeastCostsAre, begins, falls_by, least_cost}
 use Rattle.plain_search.proofs.Answering.{answers_are}
+use Rattle.plain_search.proofs.Within.{only_cost}
 
 -- two least costs of one cell are one
 pub one_least : (g : GridData) (s c : Cell) (p q : Cost) → IsLeastCost g s c p → IsLeastCost g s c q → p ≡ q
@@ -48,15 +48,25 @@ one_cost g s t None (Some q) none least = absurd (none least.cells least.least.w
 one_cost g s t (Some p) None least none = absurd (none least.cells least.least.walk)
 one_cost g s t (Some p) (Some q) is also = ap (λ (c : Cost). Some c) (one_least g s t p q is also)
 
--- and the function tells it
-pub cost_is : (g : GridData) (s t : Cell) → is_free g s ≡ true → IsCostTo g s t (least_cost g s t)
-unfolding least_cost
-cost_is g s t free = by_walk (plain_found g s t).walk (answers_are.least g s t free)
+-- that of the plain engine's walk is right
+found_is : (g : GridData) (s t : Cell) → is_free g s ≡ true
+    → IsCostTo g s t (option_map (λ (w : Walk). w.cost) (plain_found g s t).walk)
+found_is g s t free = by_walk (plain_found g s t).walk (answers_are.least g s t free)
   where
     by_walk : (walk : Option Walk) → IsLeastOrNone g s t walk
         → IsCostTo g s t (option_map (λ (w : Walk). w.cost) walk)
     by_walk None none = none
     by_walk (Some w) stands = record { cells = stands.cells; least = stands.least; priced = stands.priced }
+
+-- so the least cost is that of its walk, and right
+pub least_is_found : (g : GridData) (s t : Cell) → is_free g s ≡ true
+    → least_cost g s t ≡ option_map (λ (w : Walk). w.cost) (plain_found g s t).walk
+least_is_found g s t free =
+    only_cost g s t (option_map (λ (w : Walk). w.cost) (plain_found g s t).walk) free (found_is g s t free)
+
+pub cost_is : (g : GridData) (s t : Cell) → is_free g s ≡ true → IsCostTo g s t (least_cost g s t)
+cost_is g s t free =
+    subst (λ (o : Option Cost). IsCostTo g s t o) (sym (least_is_found g s t free)) (found_is g s t free)
 
 pub costs_are : LeastCostsAre least_cost
 costs_are g s t free = record {
@@ -112,13 +122,16 @@ unfolding begins
 begins_is g u t d free = by_ahead (legal_ahead g u d) refl
   where
     by_ahead : (o : Option Cell) → legal_ahead g u d ≡ o
-        → IsTrue (option_map_or (λ (v : Cell). falls_by (dir_cost d) (least_cost g u t) (least_cost g v t)) o false)
+        → IsTrue (option_map_or
+        (λ (v : Cell). falls_by (dir_cost d) (least_cost g u t) (least_cost g v t)) o false)
         ↔ Begins g u t d
     by_ahead None e = (λ h. absurd (cc), λ b. let p : None ≡ Some b.next = sym e ∙ b.ahead in absurd (cc))
     by_ahead (Some v) e =
         let priced = cost_there d u v (legal_ahead-ahead g u v d e) in
         let here = cost_is g u t free in
         let there = cost_is g v t (legal_ahead-free g u v d e) in (
-          λ h. falls_begins g u v t d e (dir_cost d) priced (least_cost g u t) (least_cost g v t) here there h,
-          λ b. begins_falls g u v t d e (dir_cost d) priced (least_cost g u t) (least_cost g v t) here there b,
+          λ h. falls_begins g u v t d e (dir_cost d) priced (least_cost g u t)
+              (least_cost g v t) here there h,
+          λ b. begins_falls g u v t d e (dir_cost d) priced (least_cost g u t)
+              (least_cost g v t) here there b,
         )

@@ -10,6 +10,7 @@ pub mod Offering
 pub mod Concluding
 pub mod ToAll
 pub mod Answering
+pub mod Within
 pub mod LeastCosts
 pub mod Numbering
 pub mod Ascending

@@ -1,6 +1,6 @@
 -- The lists of least costs: they are those of the closed and of the reached cells.
-use Rattle.std.proofs.Common.{◌≡◌, ℕ, ◌+◌, ◌*◌, ◌<◌, ◌≤◌, ◌^◌, arith, refl, ap, sym, ◌∙◌, subst, true, List, map, length}
-use Rattle.std.proofs.Common.{get_or}
+use Rattle.std.proofs.Common.{◌≡◌, ℕ, ◌+◌, ◌*◌, ◌<◌, ◌≤◌, ◌^◌, arith, refl, ap, sym, ◌∙◌, subst, true, List}
+use Rattle.std.proofs.Common.{map, length, get_or}
 use Rattle.std.proofs.lemmas.Option.{cond_some, option_and_then_some, same_Some, slice_get-get_or}
 use Rattle.std.specs.Prelude.{Option, Some, None, slice_get}
 use Rattle.std.specs.List.{Contains}
@@ -18,8 +18,8 @@ use Rattle.grid_moves.proofs.Places.{free_below, inside_from}
 use Rattle.grid_moves.proofs.Short.{few_cells}
 use Rattle.grid_moves.proofs.Walks.{end_free}
 use Rattle.plain_search.specs.Costs.{AreCostsToAll, IsCostTo, least_cost}
-use Rattle.plain_search.specs.Lists.{AreClosed, AreReached, HasWalk, IsBelow, IsLeastCost, closed_at, closed_of}
-use Rattle.plain_search.specs.Lists.{if_below, of_cells, reached_at, reached_of}
+use Rattle.plain_search.specs.Lists.{AreClosed, AreReached, HasWalk, IsBelow, IsLeastCost, closed_at}
+use Rattle.plain_search.specs.Lists.{closed_of, if_below, of_cells, reached_at, reached_of}
 use Rattle.plain_search.proofs.Ascending.{all_made, made_up, only_made}
 use Rattle.plain_search.proofs.LeastCosts.{cost_is, costs_are, few_least}
 use Rattle.plain_search.proofs.Numbering.{lies_inside, number_is, numbered_is}
@@ -126,7 +126,8 @@ module _ (g : GridData) (s : Cell) (free : is_free g s ≡ true) where
   }
 
   -- each entry of a pass is the least cost to the cell of its number
-  module _ (costs : List (Option Cost)) (are : AreCostsToAll g s costs) (k : ℕ) (below : k < length costs) where
+  module _ (costs : List (Option Cost)) (are : AreCostsToAll g s costs) (k : ℕ)
+      (below : k < length costs) where
     pub on_map : k < g.height * g.width
     on_map = subst (λ (n : ℕ). k < n) are.as_many below
 

@@ -12,9 +12,7 @@ use Rattle.grid_moves.specs.declared.Cell.{Cell}
 use Rattle.grid_moves.specs.declared.Dir.{Dir}
 use Rattle.grid_moves.specs.declared.around.Around.{Around}
 use Rattle.grid_moves.specs.Grid.{GridData}
-use Rattle.grid_moves.specs.Move.{is_legal, is_same, move_cost, ahead, all_dirs}
-use Rattle.grid_moves.specs.Move.{dir_cost}
-use Rattle.grid_moves.specs.Move.{legal_ahead}
+use Rattle.grid_moves.specs.Move.{is_legal, is_same, move_cost, ahead, all_dirs, dir_cost, legal_ahead}
 use Rattle.grid_moves.proofs.Ahead.{legal_ahead-of}
 use Rattle.grid_moves.proofs.Costs.{cost_there}
 use Rattle.grid_moves.proofs.Legal.{is_same-cell, is_same-itself, legal_is}
@@ -37,8 +35,7 @@ use Rattle.grid_moves.proofs.Dirs.{In, first as here_is, later as there_is, in_a
 use Rattle.plain_search.specs.declared.moves.Behind.{Behind}
 use Rattle.plain_search.specs.Rule.{plain_rule, plain_links, is_led, plain_step}
 use Rattle.grid_moves.specs.Around.{is_open_to, end_of, IsAround}
-use Rattle.plain_search.specs.Offers.{sides_of, less_offered, offer_to, all_offered, ways_over}
-use Rattle.plain_search.specs.Offers.{MayExpand}
+use Rattle.plain_search.specs.Offers.{sides_of, less_offered, offer_to, all_offered, ways_over, MayExpand}
 use Rattle.plain_search.proofs.Dropping.{LeadsTo, leads, open_leads, dropped, all_kept}
 use Rattle.plain_search.proofs.Expanding.{kept_open, kept_end}
 use Rattle.plain_search.proofs.Leaving.{lies_at, ahead_parts, before_is}

@@ -3,8 +3,7 @@
 use Rattle.std.proofs.lemmas.Grind.{common_steps}
 use Rattle.std.proofs.Common.{arith}
 use Rattle.std.proofs.lemmas.Bool.Decides.{nat_tests}
-use Rattle.std.proofs.Common.{◌≡◌, ℕ, refl, ap, sym, ◌∙◌, subst, true, false, List, [], ◌∷◌, ◌++◌}
-use Rattle.std.proofs.Common.{map}
+use Rattle.std.proofs.Common.{◌≡◌, ℕ, refl, ap, sym, ◌∙◌, subst, true, false, List, [], ◌∷◌, ◌++◌, map}
 use Rattle.root2_cost.specs.declared.Cost.{Cost}
 use Rattle.root2_cost.specs.Order.{IsAtMost}
 use Rattle.root2_cost.specs.Sums.{add_costs}
@@ -30,8 +29,7 @@ use Rattle.best_first.proofs.Links.{consistent}
 use Rattle.best_first.proofs.States.{is_same_state-state, is_same_state-itself, same_or_not}
 use Rattle.plain_search.specs.Rule.{plain_links, plain_rule}
 use Rattle.plain_search.specs.Answer.{IsFound, IsExhausted, IsPlainRun}
-use Rattle.plain_search.proofs.Walks.{AreMoves, goes_nowhere, plain_are_moves}
-use Rattle.plain_search.proofs.Walks.{plain_consistent, walk_chain}
+use Rattle.plain_search.proofs.Walks.{AreMoves, goes_nowhere, plain_are_moves, plain_consistent, walk_chain}
 
 -- the cells of these states
 abbrev pub cells_of : List State → List Cell

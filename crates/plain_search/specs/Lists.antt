@@ -14,9 +14,6 @@ use Rattle.grid_moves.specs.Points.{estimate}
 use Rattle.grid_moves.specs.Walk.{IsWalk}
 pub use Rattle.cost_waves.specs.Begin.{IsLeastCost}
 use Rattle.best_first.specs.declared.found.Found.{Found}
-use Rattle.best_first.specs.Made.{found_of, states_at, states_in_row, states_on_map}
-use Rattle.search_run.specs.Made.{run_of}
-use Rattle.plain_search.specs.Answer.{plain_found}
 use Rattle.plain_search.specs.Costs.{least_cost}
 use Rattle.plain_search.specs.declared.lists.Listed.{Listed}
 use Rattle.plain_search.specs.declared.lists.Listed.TheVariants as listed
@@ -86,5 +83,5 @@ pub three_closed : closed_of (pillar Never) (record { x = 0; y = 0 }) (record { 
     (record { a = 4; b = 0 })
     ≡ (record { x = 0; y = 0 }, record { a = 0; b = 0 }) ∷ (record { x = 1; y = 0 }, record { a = 1; b = 0 })
     ∷ (record { x = 0; y = 1 }, record { a = 1; b = 0 }) ∷ []
-unfolding closed_of least_cost plain_found found_of run_of states_at states_in_row states_on_map
+unfolding closed_of least_cost
 three_closed = refl

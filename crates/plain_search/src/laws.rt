@@ -10,8 +10,8 @@ pub fn answers_are_found()
     ensures { AnswersAre IsPlainRun plain_found }
 {}
 
-/// What a least walk costs is a function of the grid and the two cells: from a free cell to each cell it tells
-/// the cost, or nothing exactly where no walk leads, and nothing else is that.
+/// What a least walk costs is a function of the grid and the two cells: from a free cell to each cell it
+/// tells the cost, or nothing exactly where no walk leads, and nothing else is that.
 pub fn least_costs_are_found()
     ensures { LeastCostsAre least_cost }
 {}

@@ -9,7 +9,8 @@
 //! A* after Hart, Nilsson and Raphael (1968); the order of ties is this project's. The machine under it is
 //! `best_first`.
 
-ghost use Rattle.std.specs.Prelude.{◌≡◌, ◌+◌, ◌<◌, [], true, false, length, IfOk, OnOk, IfSome, slice_get, Some};
+ghost use Rattle.std.specs.Prelude.{◌≡◌, ◌+◌, ◌<◌, [], true, false, length, IfOk, OnOk, IfSome, slice_get};
+ghost use Rattle.std.specs.Prelude.{Some};
 ghost use Rattle.grid_moves.specs.Grid.{IsGrid, is_free};
 ghost use Rattle.grid_moves.specs.Move.{is_same};
 ghost use Rattle.grid_moves.specs.Ruled.{rule_of_number};

@@ -1,9 +1,7 @@
 -- The local law: an entry follows from the entries at the next cell.
 use Rattle.std.proofs.lemmas.Bool.Decides.{nat_tests}
-use Rattle.std.proofs.Common.{◌≡◌, ℕ, suc, ◌≤◌, arith, Bool, true, false, ◌&&◌, ◌||◌, refl}
-use Rattle.std.proofs.Common.{sym, ◌∙◌, subst}
-use Rattle.std.specs.Prelude.{ℤ, pos, Option, Some, None, is_some, option_map, unwrap_or}
-use Rattle.std.specs.Prelude.{if◌then◌else◌}
+use Rattle.std.proofs.Common.{◌≡◌, ℕ, suc, ◌≤◌, arith, Bool, true, false, ◌&&◌, ◌||◌, refl, sym, ◌∙◌, subst}
+use Rattle.std.specs.Prelude.{ℤ, pos, Option, Some, None, is_some, option_map, unwrap_or, if◌then◌else◌}
 use Rattle.grid_moves.specs.declared.Cell.{Cell}
 use Rattle.grid_moves.specs.declared.Dir.{Dir}
 use Rattle.grid_moves.specs.Least.{FindsLeast, IsLeast}

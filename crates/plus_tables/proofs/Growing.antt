@@ -1,8 +1,7 @@
 -- Rows that a loop fills, column by column.
-use Rattle.std.proofs.Common.{rules}
-use Rattle.std.proofs.Common.{◌≡◌, ◌≢◌, ℕ, ◌+◌, ◌-◌, ◌<◌, ◌≤◌, arith, Bool, true, false, ◌&&◌, ◌||◌}
-use Rattle.std.proofs.Common.{List, length, refl, ap, ◌∙◌, below_more, get_or-set_other, get_or-set_same}
-use Rattle.std.proofs.Common.{w16, to_z, of_z}
+use Rattle.std.proofs.Common.{rules, ◌≡◌, ◌≢◌, ℕ, ◌+◌, ◌-◌, ◌<◌, ◌≤◌, arith, Bool, true, false, ◌&&◌, ◌||◌}
+use Rattle.std.proofs.Common.{List, length, refl, ap, ◌∙◌, below_more, get_or-set_other, get_or-set_same, w16}
+use Rattle.std.proofs.Common.{to_z, of_z}
 use Rattle.std.specs.Prelude.{ℤ, pos, slice_set}
 use Rattle.std.proofs.lemmas.List.{get_or_past}
 use Rattle.std.proofs.lemmas.Bool.Decides.{nat_tests}

@@ -1,7 +1,6 @@
 -- Where entries stand, and tables with one entry changed.
-use Rattle.std.proofs.Common.{rules}
-use Rattle.std.proofs.Common.{◌≡◌, ℕ, ◌<◌, arith, length, true, false, ap, ◌∙◌}
-use Rattle.std.proofs.Common.{get_or-set_other, get_or-set_same}
+use Rattle.std.proofs.Common.{rules, ◌≡◌, ℕ, ◌<◌, arith, length}
+use Rattle.std.proofs.Common.{true, false, ap, ◌∙◌, get_or-set_other, get_or-set_same}
 use Rattle.std.specs.Prelude.{ℤ, pos, slice_index_or}
 use Rattle.std.proofs.lemmas.List.{get_or_read}
 use Rattle.std.proofs.lemmas.Bool.Decides.{nat_tests}

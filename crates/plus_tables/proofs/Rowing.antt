@@ -25,10 +25,8 @@ use Rattle.plus_tables.specs.Entry.{table_entry}
 use Rattle.plus_tables.specs.Local.{is_mark_by}
 use Rattle.plus_tables.specs.Tables.{IsShort}
 use Rattle.plus_tables.specs.Rows.{flag, number, ring_of, place_after, entry_from, legal_by, mark_by}
-use Rattle.plus_tables.specs.Rows.{is_along}
-use Rattle.plus_tables.specs.Rows.{IsFlagRow, IsForcedRow, IsEntryRow, IsRowAt, AreRowsSeen, AreForced}
-use Rattle.plus_tables.specs.Rows.{dir_seen}
-use Rattle.plus_tables.specs.Rows.{AreShort, AreEntriesBelow, IsEntryAlong}
+use Rattle.plus_tables.specs.Rows.{is_along, IsFlagRow, IsForcedRow, IsEntryRow, IsRowAt, AreRowsSeen}
+use Rattle.plus_tables.specs.Rows.{AreForced, dir_seen, AreShort, AreEntriesBelow, IsEntryAlong}
 use Rattle.plus_tables.proofs.Following.{entries_follow, is_mark_by-straight}
 use Rattle.plus_tables.proofs.Mirror.{upright, along_seen, can_seen, forced_seen, mark_seen, place_seen}
 use Rattle.plus_tables.proofs.Short.{table_entry-short}

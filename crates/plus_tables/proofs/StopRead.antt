@@ -11,8 +11,7 @@ use Rattle.pruning.specs.Stop.{IsFirstStop}
 use Rattle.pruning.proofs.Table.{by_parity}
 use Rattle.plus_tables.specs.Entry.{table_entry}
 use Rattle.plus_tables.specs.Tables.{TablesData, AreTablesOf, entry_at}
-use Rattle.plus_tables.specs.Reading.{columns_to, rows_to, near_to}
-use Rattle.plus_tables.specs.Reading.{sees_goal, stop_read}
+use Rattle.plus_tables.specs.Reading.{columns_to, rows_to, near_to, sees_goal, stop_read}
 use Rattle.plus_tables.proofs.Clear.{entry_tells}
 use Rattle.plus_tables.proofs.Stops.{stop_by-first}
 use Rattle.plus_tables.proofs.Goals.{straight_goal, diagonal_goal}

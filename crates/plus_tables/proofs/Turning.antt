@@ -18,12 +18,10 @@ use Rattle.pruning.specs.declared.Arrival.TheVariants.{Start, By}
 use Rattle.pruning.specs.declared.turns.Side.{Side}
 use Rattle.pruning.specs.declared.turns.Side.TheVariants.{Right, Left}
 use Rattle.pruning.specs.Turns.{quarter, rear, is_diagonal}
-use Rattle.pruning.specs.Allowed.{is_blocked, can_move, is_kept, is_allowed}
-use Rattle.pruning.specs.Allowed.{allowed_dirs}
+use Rattle.pruning.specs.Allowed.{is_blocked, can_move, is_kept, is_allowed, allowed_dirs}
 use Rattle.pruning.specs.Ring.{is_allowed_on}
 use Rattle.pruning.specs.Source.{CanArrive}
-use Rattle.pruning.proofs.Table.{straight_back, turn_parity, quarter_parity, by_parity, by_test}
-use Rattle.pruning.proofs.Table.{same_dir}
+use Rattle.pruning.proofs.Table.{straight_back, turn_parity, quarter_parity, by_parity, by_test, same_dir}
 use Rattle.pruning.proofs.Places.{Place, move}
 use Rattle.pruning.proofs.Moves.{can_move-straight}
 use Rattle.pruning.proofs.Bridging.{place_of, free_place, open_there, leads_there, legal_leads}

@@ -1,6 +1,7 @@
 -- What jumps read off entries.
 use Rattle.std.specs.Prelude.{◌≡◌, ⊤, ℕ, zero, suc, ◌+◌, ◌-◌, ℤ, pos, negsuc, Bool, true, false, ◌&&◌, not}
-use Rattle.std.specs.Prelude.{◌*◌, nat_lt, nat_le, nat_eq, Option, Some, None, min, List, filter, if◌then◌else◌}
+use Rattle.std.specs.Prelude.{◌*◌, nat_lt, nat_le, nat_eq, Option, Some, None, min, List, filter}
+use Rattle.std.specs.Prelude.{if◌then◌else◌}
 use Rattle.grid_moves.specs.declared.Cell.{Cell}
 use Rattle.grid_moves.specs.declared.Corner.{Corner}
 use Rattle.grid_moves.specs.declared.Corner.TheVariants.{Never, Both}

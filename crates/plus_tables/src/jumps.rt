@@ -258,8 +258,8 @@ fn stop_aimed<L: Ledger>(
     }
 }
 
-/// After how many moves a jump stops. One step, or two by a diagonal. Where the direction does not lead to where the goal
-/// lies, the entry alone tells it.
+/// After how many moves a jump stops. One step, or two by a diagonal. Where the direction does not lead to
+/// where the goal lies, the entry alone tells it.
 #[inline(always)]
 pub fn stop_read<L: Ledger>(
     tables: &Tables,

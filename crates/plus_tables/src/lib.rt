@@ -2,7 +2,7 @@
 //!
 //! For each free cell and each direction a table entry tells after how many moves the legal run meets a
 //! marked cell, or else, as a number not above 0, how long the run is. With these a jump is found in at most
-//! four reads, wherever the goal lies. This is JPS+ (Harabor and Grastien, ICAPS 2014), here for each corner
+//! two reads, wherever the goal lies. This is JPS+ (Harabor and Grastien, ICAPS 2014), here for each corner
 //! rule.
 #![tactic(auto)]
 

@@ -335,7 +335,8 @@ pub fn bring_along<T: Terrain>(
     requires forced { length forced.old ≡ (T.grid t.now).width + 2 }
     requires east { length east.old ≡ (T.grid t.now).width + 2 }
     requires west { length west.old ≡ (T.grid t.now).width + 2 }
-    ensures { spec.IsEntryRow (T.grid t.now) y Dir.E east.new × spec.IsEntryRow (T.grid t.now) y Dir.W west.new }
+    ensures { spec.IsEntryRow (T.grid t.now) y Dir.E east.new
+        × spec.IsEntryRow (T.grid t.now) y Dir.W west.new }
 {
     if has_ahead(heading, y, t.height()) && band.are_alike() {
         last.copy_along(east, west);

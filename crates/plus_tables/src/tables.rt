@@ -77,7 +77,8 @@ impl Tables {
     ghost use Rattle.plus_tables.specs.Entry.{table_entry};
     ghost use Rattle.grid_moves.specs.Move.{legal_ahead};
     ghost use Rattle.plus_tables.specs.Local.{is_mark_by};
-    ghost use Rattle.plus_tables.specs.Tables.{AreSized, AreTablesOf, IsWhole, RestsRight, entry_at, is_on, is_place, tables_with};
+    ghost use Rattle.plus_tables.specs.Tables.{AreSized, AreTablesOf, IsWhole, RestsRight, entry_at, is_on};
+    ghost use Rattle.plus_tables.specs.Tables.{is_place, tables_with};
     ghost use Rattle.plus_tables.specs.Laid.{AreSwept};
 
     /// The number of columns.

@@ -14,7 +14,8 @@ use Rattle.potential_check.specs.declared.fault.CertFault.{CertFault}
 use Rattle.potential_check.specs.declared.fault.CertFault.TheVariants.{Line, NoMemory}
 use Rattle.potential_check.specs.Text.{BreaksFirst, Plain, State, Step, Tells, absent_fault, after_step}
 use Rattle.potential_check.specs.Text.{at_version, certificate_of, closed, fault_after, fault_at, goes}
-use Rattle.potential_check.specs.Text.{if_goes, misspelt, next, plain, read_from, state_after, step_fault, unordered}
+use Rattle.potential_check.specs.Text.{if_goes, misspelt, next, plain, read_from, state_after, step_fault}
+use Rattle.potential_check.specs.Text.{unordered}
 use Rattle.potential_check.proofs.LinesLeft.{needs}
 use Rattle.potential_check.proofs.Spelled.{certificate_of_ok, certificate_of_spelled}
 
@@ -147,7 +148,8 @@ certificate_of_err text f read =
     }
 
 -- so a text is read as the certificate that it spells, or as its first fault
-pub certificate_read : (text : List ℕ) → Reads (Spells text) (BreaksFirst (lines_of text)) (certificate_of text)
+pub certificate_read : (text : List ℕ)
+    → Reads (Spells text) (BreaksFirst (lines_of text)) (certificate_of text)
 certificate_read text = record {
   found = certificate_of_ok text;
   only = certificate_of_spelled text;

@@ -17,8 +17,7 @@ use Rattle.potential_check.specs.declared.verdict.Proof.{Proof}
 use Rattle.potential_check.specs.declared.verdict.Reject.{Reject}
 use Rattle.potential_check.specs.declared.verdict.Reject.TheVariants.{Size, Ends, Walk, Start, Goal, Move}
 use Rattle.potential_check.specs.declared.verdict.Reject.TheVariants.{Open}
-use Rattle.potential_check.specs.Certificate.{are_listed, cells_of, is_claim, is_short}
-use Rattle.potential_check.specs.Certificate.{is_small}
+use Rattle.potential_check.specs.Certificate.{are_listed, cells_of, is_claim, is_short, is_small}
 use Rattle.potential_check.specs.Potential.{is_listed, potential_of, rises}
 use Rattle.potential_check.specs.Moves.{first_failing}
 use Rattle.potential_check.specs.Accepted.{AcceptsClaim, Holds, IsAccepted, Refuses, RefusesClaim, proof_of}
@@ -114,7 +113,8 @@ module _ (g : GridData) (s t : Cell) (cells : List Cell) where
   only_none (Err (Walk i)) r = absurd r
   only_none (Err (Move u v)) r = absurd r
 
-claim_right : (g : GridData) (s t : Cell) (claim : Claim) → IsClaimAnswer g s t claim (claim_answer g s t claim)
+claim_right : (g : GridData) (s t : Cell) (claim : Claim)
+    → IsClaimAnswer g s t claim (claim_answer g s t claim)
 claim_right g s t (Least cost points values) = least_right g s t cost points values
 claim_right g s t (NoWalk cells) = none_right g s t cells
 

@@ -17,10 +17,9 @@ use Rattle.potential_check.specs.declared.certificate.Certificate.{Certificate}
 use Rattle.potential_check.specs.declared.fault.CertFault.{CertFault}
 use Rattle.potential_check.specs.declared.fault.CertFault.TheVariants as fault
 use Rattle.potential_check.specs.Certificate.{ascend_from}
-use Rattle.potential_check.specs.Text.{AreShort, Plain, State, Tells, absent_fault}
-use Rattle.potential_check.specs.Text.{at_claim, at_ends, at_points, at_size, at_version, certificate_of}
-use Rattle.potential_check.specs.Text.{closed, ended, goes, in_cells, in_values, next}
-use Rattle.potential_check.specs.Text.{read_left, step_fault}
+use Rattle.potential_check.specs.Text.{AreShort, Plain, State, Tells, absent_fault, at_claim, at_ends}
+use Rattle.potential_check.specs.Text.{at_points, at_size, at_version, certificate_of, closed, ended, goes}
+use Rattle.potential_check.specs.Text.{in_cells, in_values, next, read_left, step_fault}
 
 -- a line that may follow
 pub reads_on : (state after : State) (old new : Left) (line : Line) → GivesNext old (Some line) new

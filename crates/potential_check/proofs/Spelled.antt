@@ -19,10 +19,9 @@ use Rattle.potential_check.specs.declared.fault.CertFault.{CertFault}
 use Rattle.potential_check.specs.declared.reading.Head.{Head}
 use Rattle.potential_check.specs.Certificate.{are_listed, ascend_from, cells_of, lies_inside}
 use Rattle.potential_check.specs.Forms.{ends_on, least_on, member_on, points_on, size_on, value_on}
-use Rattle.potential_check.specs.Text.{Plain, State, Step, after_step, at_claim, at_ends, at_points}
-use Rattle.potential_check.specs.Text.{at_size, at_version, certificate_of, closed, ended, goes, in_cells}
-use Rattle.potential_check.specs.Text.{in_values, is_end, listed, misspelt, next, read_from, spelled}
-use Rattle.potential_check.specs.Text.{unordered}
+use Rattle.potential_check.specs.Text.{Plain, State, Step, after_step, at_claim, at_ends, at_points, at_size}
+use Rattle.potential_check.specs.Text.{at_version, certificate_of, closed, ended, goes, in_cells, in_values}
+use Rattle.potential_check.specs.Text.{is_end, listed, misspelt, next, read_from, spelled, unordered}
 use Rattle.potential_check.specs.Spelling.{SpellInOrder, Spells, SpellsClaim}
 
 -- answers

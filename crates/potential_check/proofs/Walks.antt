@@ -2,8 +2,7 @@
 use Rattle.std.proofs.lemmas.Grind.{common_steps}
 use Rattle.std.proofs.Common.{◌≡◌, ℕ, suc, ◌-◌, arith, refl, ap, sym, ◌∙◌, Bool, true, false, List, [], ◌∷◌}
 use Rattle.std.proofs.Common.{◌++◌, length, subst}
-use Rattle.std.specs.Prelude.{Option, Some, None, Result, Ok, Err, option_map}
-use Rattle.std.specs.Prelude.{slice_get, if◌then◌else◌}
+use Rattle.std.specs.Prelude.{Option, Some, None, Result, Ok, Err, option_map, slice_get, if◌then◌else◌}
 use Rattle.std.proofs.lemmas.Bool.Decides.{nat_tests}
 use Rattle.root2_cost.specs.declared.Cost.{Cost}
 use Rattle.root2_cost.proofs.Less.{is_same_cost-of, is_same_cost-tells}
@@ -22,7 +21,8 @@ use Rattle.path_points.proofs.Checks.{points_are_answered}
 use Rattle.potential_check.specs.Accepted.{IsBadWalk, bad_point, other}
 use Rattle.potential_check.specs.Answers.{bad_number}
 use Rattle.potential_check.specs.Walks.{IsBadPoint, IsRightWalk, IsWalkAnswer, WalksAreAnswered, begins_at}
-use Rattle.potential_check.specs.Walks.{broken, elsewhere, ended_answer, ends_at, is_at, short_of, walk_answer}
+use Rattle.potential_check.specs.Walks.{broken, elsewhere, ended_answer, ends_at, is_at, short_of}
+use Rattle.potential_check.specs.Walks.{walk_answer}
 
 unfolded_some : (b : Bool) (f : List Cell → List Cell) (o : Option (List Cell)) (cells : List Cell)
     → (if b then option_map f o else None) ≡ Some cells → (more : List Cell) × (o ≡ Some more) × (f more
@@ -137,9 +137,11 @@ module _ (g : GridData) (s t : Cell) (points : List Cell) where
   -- and no other is
   only_right : (answer : Result Cost ℕ) → IsWalkAnswer g s t points answer
       → walk_answer g s t points ≡ answer
-  only_right (Ok paid) r = rw
-      (right_begins paid r, (points_are_answered g points (Ok paid)).0 (right_short paid r), right_ends paid r)
-      refl
+  only_right (Ok paid) r = rw (
+    right_begins paid r,
+    (points_are_answered g points (Ok paid)).0 (right_short paid r),
+    right_ends paid r,
+  ) refl
   only_right (Err i) bad = only_bad i bad
 
 pub walks_are_answered : WalksAreAnswered
@@ -154,7 +156,8 @@ module _ (g : GridData) (s t : Cell) (cost : Cost) (points : List Cell) where
   fault = bad_number cost (length points) (walk_answer g s t points)
 
   pub fault_right : IsRightWalk g s t cost points → fault ≡ None
-  fault_right right = rw ((walks_are_answered g s t points (Ok cost)).0 right, is_same_cost-of cost cost refl) refl
+  fault_right right = rw
+      ((walks_are_answered g s t points (Ok cost)).0 right, is_same_cost-of cost cost refl) refl
 
   pub fault_bad : (i : ℕ) → IsBadWalk g s t cost points i → fault ≡ Some i
   fault_bad i (bad_point bad) = rw ((walks_are_answered g s t points (Err i)).0 bad) refl

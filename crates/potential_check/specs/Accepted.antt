@@ -33,8 +33,8 @@ has_free_ends g c = is_free g c.start && is_free g c.goal
 abbrev pub is_value : Signed → Cost → Bool
 is_value s c = int_eq s.a (pos c.a) && int_eq s.b (pos c.b)
 
--- the points are no right walk of this cost, and the number tells it: they are no right walk, or one of another
--- cost, which their number tells
+-- the points are no right walk of this cost, and the number tells it: they are no right walk, or one of
+-- another cost, which their number tells
 pub data IsBadWalk (g : GridData) (s t : Cell) (cost : Cost) (points : List Cell) : ℕ → Type 0 where
   bad_point : {i : ℕ} → IsBadPoint g s t points i → IsBadWalk g s t cost points i
   other : (paid : Cost) → IsRightWalk g s t paid points → is_same_cost paid cost ≡ false

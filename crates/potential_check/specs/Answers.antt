@@ -44,8 +44,8 @@ least_answer cost None true false found = Err Goal
 least_answer cost None true true (Some m) = Err (Move m.0 m.1)
 least_answer cost None true true None = Ok (proof.Least cost)
 
--- and one that no walk exists by whether start and goal are listed, and by the first legal move that leads from
--- a listed cell to one that is not
+-- and one that no walk exists by whether start and goal are listed, and by the first legal move that leads
+-- from a listed cell to one that is not
 abbrev pub none_answer : Bool → Bool → Option (Cell × Cell) → Result Proof Reject
 none_answer false goal found = Err Start
 none_answer true true found = Err Goal

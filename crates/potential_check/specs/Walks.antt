@@ -41,7 +41,8 @@ pub data IsBadPoint (g : GridData) (s t : Cell) (points : List Cell) : ℕ → T
   short_of : (paid : Cost) → begins_at s points ≡ true → IsShortWalk g points paid → ends_at t points ≡ false
       → IsBadPoint g s t points (length points)
 
--- an answer is right: the points stand for a walk from s to t of this cost, or for none, which the number tells
+-- an answer is right: the points stand for a walk from s to t of this cost, or for none,
+-- which the number tells
 abbrev pub IsWalkAnswer : GridData → Cell → Cell → List Cell → Result Cost ℕ → Type 0
 IsWalkAnswer g s t points (Ok cost) = IsRightWalk g s t cost points
 IsWalkAnswer g s t points (Err i) = IsBadPoint g s t points i
@@ -52,8 +53,8 @@ ended_answer (Err bad) count ends = Err bad.0
 ended_answer (Ok cost) count true = Ok cost
 ended_answer (Ok cost) count false = Err count
 
--- what points come to between s and t: the cost of the walk that they stand for, or the number that tells that
--- they stand for none
+-- what points come to between s and t: the cost of the walk that they stand for, or the number that tells
+-- that they stand for none
 abbrev pub walk_answer : GridData → Cell → Cell → List Cell → Result Cost ℕ
 walk_answer g s t points = if begins_at s points
     then ended_answer (points_answer g points) (length points) (ends_at t points) else Err 0

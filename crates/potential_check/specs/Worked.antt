@@ -61,8 +61,8 @@ pub one_rises : first_failing (pillar One)
     ≡ Some (record { x = 1; y = 0 }, record { x = 2; y = 1 })
 one_rises = refl
 
--- the claim comes to the cost, or to that move; with another cost, to the number of points; with another start,
--- to 0
+-- the claim comes to the cost, or to that move; with another cost, to the number of points;
+-- with another start, to 0
 abbrev round : List Cell
 round = record { x = 0; y = 0 } ∷ record { x = 2; y = 0 } ∷ record { x = 2; y = 2 } ∷ []
 

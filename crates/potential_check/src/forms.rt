@@ -2,7 +2,8 @@
 //!
 //! Each line is words parted by one space, with nothing before the first and after the last.
 
-ghost use Rattle.std.specs.Prelude.{◌≡◌, ◌<◌, ◌≤◌, ◌+◌, ◌^◌, ◌∷◌, IsTrue, IfOk, IfSome, MatchOption, Some, None, length, position};
+ghost use Rattle.std.specs.Prelude.{◌≡◌, ◌<◌, ◌≤◌, ◌+◌, ◌^◌, ◌∷◌, IsTrue, IfOk, IfSome, MatchOption, Some};
+ghost use Rattle.std.specs.Prelude.{None, length, position};
 ghost use Rattle.cell_lines.specs.Parts.{parts, parts_behind};
 ghost use Rattle.potential_check.specs.Certificate.{are_points, are_sides, is_short, is_small};
 ghost use Rattle.potential_check.specs.Forms as spec;

@@ -9,8 +9,8 @@ pub fn walks_are_answered()
     ensures { WalksAreAnswered }
 {}
 
-/// What a claim comes to is a function of the grid, the cells and the claim: it is accepted, or refused by the
-/// first clause that it fails. No other answer is right.
+/// What a claim comes to is a function of the grid, the cells and the claim: it is accepted, or refused by
+/// the first clause that it fails. No other answer is right.
 pub fn claims_are_answered()
     ensures { ClaimsAreAnswered }
 {}
@@ -20,8 +20,8 @@ pub fn certificates_are_answered()
     ensures { CertificatesAreAnswered }
 {}
 
-/// What an accepted certificate claims holds of all walks between its ends: the cost is that of a least one, or
-/// there is none.
+/// What an accepted certificate claims holds of all walks between its ends: the cost is that of a least one,
+/// or there is none.
 pub fn accepted_certificates_hold()
     ensures { AcceptedHold }
 {}

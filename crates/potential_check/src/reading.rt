@@ -6,7 +6,9 @@ ghost use Rattle.text_line.specs.Reading.{IsRightReading};
 ghost use Rattle.potential_check.specs.Certificate.{are_points, are_sides, is_claim, is_small};
 ghost use Rattle.potential_check.specs.Spelling.{Spells};
 ghost use Rattle.potential_check.specs.declared.fault.CertFault.TheVariants.{NoMemory};
-ghost use Rattle.potential_check.specs.Text.{AreShort, BreaksFirst, Places, Tells, at_claim, at_ends, at_points, at_size, certificate_of, ended, in_cells, in_values, is_head, plain, read_left};
+ghost use Rattle.potential_check.specs.Text.{AreShort, BreaksFirst, Places, Tells, at_claim, at_ends};
+ghost use Rattle.potential_check.specs.Text.{at_points, at_size, certificate_of, ended, in_cells, in_values};
+ghost use Rattle.potential_check.specs.Text.{is_head, plain, read_left};
 
 use crate::certificate::{Certificate, Claim};
 use crate::fault::CertFault;

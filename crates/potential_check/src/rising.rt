@@ -12,7 +12,8 @@ ghost use Rattle.grid_moves.specs.Around.{IsBefore, if_open};
 ghost use Rattle.potential_check.specs.Heights.{are_low};
 ghost use Rattle.potential_check.specs.Moves.{first_in_row, first_failing};
 ghost use Rattle.potential_check.specs.Rising as spec;
-ghost use Rattle.potential_check.specs.Rising.{AreHills, RowsReach, Takes, climbs, first_steep, height_at, towards};
+ghost use Rattle.potential_check.specs.Rising.{AreHills, RowsReach, Takes, climbs, first_steep, height_at};
+ghost use Rattle.potential_check.specs.Rising.{towards};
 
 use crate::heights::Heights;
 use grid_moves::{Cell, Grid, Terrain, before, move_cost, moves_around};

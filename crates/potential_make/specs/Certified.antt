@@ -27,10 +27,11 @@ pub record HasPotential (g : GridData) (s t : Cell) (cost : Cost) (values : List
       → potential_of cost t values c ≡ cost_difference cost (estimate c t)
   pub beyond : (c : Cell) → NoWalk g s c → potential_of cost t values c ≡ cost_difference cost (estimate c t)
 
--- a claim of least cost lists exactly the closed cells, and has this potential; one of no walk lists exactly the
--- reached cells
+-- a claim of least cost lists exactly the closed cells, and has this potential; one of no walk lists exactly
+-- the reached cells
 abbrev pub HasItsCells : GridData → Cell → Cell → Claim → Type 0
-HasItsCells g s t (claim.Least cost points values) = AreClosed g s t cost values × HasPotential g s t cost values
+HasItsCells g s t (claim.Least cost points values) = AreClosed g s t cost values
+    × HasPotential g s t cost values
 HasItsCells g s t (claim.NoWalk cells) = AreReached g s cells
 
 -- a claim on the walks from s to t of the map, as the reader knows it

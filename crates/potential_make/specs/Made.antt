@@ -19,6 +19,10 @@ abbrev pub claim_on : GridData → Cell → Cell → Option Walk → Claim
 claim_on g s t (Some w) = Least w.cost w.points (closed_of g s t w.cost)
 claim_on g s t None = NoWalk (reached_of g s)
 
+-- the text of what is claimed of the walks from s to t, where this walk was found, or none
+abbrev pub certificate_on : GridData → Cell → Cell → Option Walk → List ℕ
+certificate_on g s t walk = certificate_text g.width g.height s t (claim_on g s t walk)
+
 -- the claim on the walks from s to t: the plain engine's walk, or that there is none
 unfoldable pub made_claim : GridData → Cell → Cell → Claim
 made_claim g s t = claim_on g s t (plain_found g s t).walk

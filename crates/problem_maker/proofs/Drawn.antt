@@ -21,7 +21,8 @@ use Rattle.map_maker.specs.Words.{words_from}
 use Rattle.grid_moves.specs.declared.ends.Ends.{Ends}
 use Rattle.problem_maker.specs.Drawing.{Draws}
 use Rattle.problem_maker.specs.Free.{free_below, free_cells}
-use Rattle.problem_maker.specs.Tries.{cell_at, is_kept, kept_ends, kept_of, leads, most_tries, tries, tries_by}
+use Rattle.problem_maker.specs.Tries.{cell_at, is_kept, kept_ends, kept_of, leads, most_tries, tries}
+use Rattle.problem_maker.specs.Tries.{tries_by}
 use Rattle.problem_maker.proofs.Leading.{leads_is}
 
 -- the cell of a column and a row has their number

@@ -106,7 +106,8 @@ module _ {X : Type 0} (lt : X → X → Bool) (ranks : IsStrictWeakOrder lt) whe
 
   order_stable : (xs : List X) → IsStableBy lt xs (in_order_by lt xs)
   order_stable [] = λ z. refl
-  order_stable (x ∷ xs) = λ z. placed_stable z x (in_order_by lt xs) ∙ by_first z (ties lt z x) (order_stable xs z)
+  order_stable (x ∷ xs) = λ z. placed_stable z x (in_order_by lt xs)
+      ∙ by_first z (ties lt z x) (order_stable xs z)
     where
       by_first : (z : X) (b : Bool) → filter (ties lt z) (in_order_by lt xs) ≡ filter (ties lt z) xs
           → cond b (x ∷ filter (ties lt z) (in_order_by lt xs)) (filter (ties lt z) (in_order_by lt xs))

@@ -6,9 +6,6 @@ use Rattle.grid_moves.specs.declared.Cell.{Cell}
 use Rattle.grid_moves.specs.declared.Corner.TheVariants.{Never}
 use Rattle.grid_moves.specs.Layers.{Layers, layers_of}
 use Rattle.map_maker.specs.Words.{words_from}
-use Rattle.search_run.specs.Made.{run_of}
-use Rattle.best_first.specs.Made.{found_of, states_at, states_in_row, states_on_map}
-use Rattle.plain_search.specs.Answer.{plain_found}
 use Rattle.plain_search.specs.Costs.{least_cost}
 use Rattle.problem_maker.specs.declared.sorting.Problem.{Problem}
 use Rattle.problem_maker.specs.Ordered.{in_order}
@@ -35,13 +32,12 @@ walled = layers_of Never 5 1 (codes "...@.")
 
 pub first_of_one : kept_of walled 1 1 ≡
     record { from = record { x = 1; y = 0 }; to = record { x = 2; y = 0 } } ∷ []
-unfolding words_from pcg32_seed u32_at word_bytes tries_by least_cost plain_found found_of run_of states_at
-    states_in_row states_on_map
+unfolding words_from pcg32_seed u32_at word_bytes tries_by least_cost
 first_of_one = refl
 
 -- and no walk leads past the wall
 pub none_past_the_wall : leads walled (record { x = 2; y = 0 }) (record { x = 4; y = 0 }) ≡ false
-unfolding least_cost plain_found found_of run_of states_at states_in_row states_on_map
+unfolding least_cost
 none_past_the_wall = refl
 
 -- where there is no cell there is no try

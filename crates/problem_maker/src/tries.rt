@@ -17,8 +17,8 @@ use rand_core::utils::NextWord;
 use rand_pcg::Lcg64Xsh32;
 use std::alloc::Global;
 
-/// The ends of `count` problems on a map, from a seed, in the order of their tries; fewer where so many are not
-/// found among ten times as many tries and a hundred.
+/// The ends of `count` problems on a map, from a seed, in the order of their tries; fewer where so many are
+/// not found among ten times as many tries and a hundred.
 ///
 /// Two passes over the map tell first which cells are joined. Up to twelve bytes for each cell are taken, and
 /// given back, and eight for each problem.

@@ -6,8 +6,7 @@ use Rattle.std.proofs.lemmas.Bool.Decides.{nat_tests}
 use Rattle.grid_moves.specs.declared.Cell.{Cell}
 use Rattle.grid_moves.specs.declared.Dir.{Dir}
 use Rattle.grid_moves.specs.Grid.{GridData, is_free}
-use Rattle.grid_moves.specs.Move.{ahead, column_ahead, row_ahead, is_legal, is_passable, legal_ahead}
-use Rattle.grid_moves.specs.Move.{is_open}
+use Rattle.grid_moves.specs.Move.{ahead, column_ahead, row_ahead, is_legal, is_passable, legal_ahead, is_open}
 use Rattle.grid_moves.proofs.Ahead.{ahead_of}
 use Rattle.grid_moves.proofs.Legal.{and_both, legal_is, same_cell}
 use Rattle.pruning.specs.declared.Arrival.{Arrival}

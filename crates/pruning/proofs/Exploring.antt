@@ -1,14 +1,15 @@
 -- A search that keeps one state for each cell misses no least walk: where its arrival drops a turn, the
 -- diagonal move goes first, from the cell that it came from.
-use Rattle.std.proofs.Common.{◌≡◌, ◌≢◌, ℕ, zero, suc, ◌+◌, ◌-◌, ◌<◌, ◌≤◌, ◌⊎◌, inl, inr, arith, true, false, refl}
-use Rattle.std.proofs.Common.{ap, sym, ◌∙◌, subst, List, [], ◌∷◌, ◌++◌, length}
+use Rattle.std.proofs.Common.{◌≡◌, ◌≢◌, ℕ, zero, suc, ◌+◌, ◌-◌, ◌<◌, ◌≤◌, ◌⊎◌, inl, inr, arith, true, false}
+use Rattle.std.proofs.Common.{refl, ap, sym, ◌∙◌, subst, List, [], ◌∷◌, ◌++◌, length}
 use Rattle.root2_cost.specs.declared.Cost.{Cost}
 use Rattle.root2_cost.specs.Order.{IsAtMost, is_less}
 use Rattle.root2_cost.specs.Sums.{add_costs, no_cost}
 use Rattle.root2_cost.proofs.AtMost.{IsAtMost-antisymmetric}
 use Rattle.root2_cost.proofs.Less.{same_cost}
 use Rattle.root2_cost.proofs.Sums.{add_costs-assoc, add_costs-no_cost_left, IsAtMost-cancel_left}
-use Rattle.root2_cost.proofs.Most.{Most, Most-then, Most-same, Most-add_left, Most-add_right, Most-cancel_right}
+use Rattle.root2_cost.proofs.Most.{Most, Most-then, Most-same, Most-add_left, Most-add_right}
+use Rattle.root2_cost.proofs.Most.{Most-cancel_right}
 use Rattle.grid_moves.specs.declared.Cell.{Cell}
 use Rattle.grid_moves.specs.declared.Dir.{Dir}
 use Rattle.grid_moves.specs.Grid.{GridData, is_free}
@@ -235,7 +236,8 @@ module _ (g : GridData) (s t : Cell) where
   hop_came : (p u : Reached) → is_free g s ≡ true → CameTo p.state.cell p.cost → HopsTo g t p u
       → CameTo u.state.cell u.cost
   hop_came p u f w l =
-      let p_free = subst (λ (x : Cell). is_free g x ≡ true) w.goes.ends (last_free g s w.cells w.goes.legal) in
+      let p_free = subst (λ (x : Cell). is_free g x ≡ true) w.goes.ends
+      (last_free g s w.cells w.goes.legal) in
       let r = run_walked g l.dir l.moves p.state.cell u.state.cell p_free l.hop.reached in
       subst (λ (c : Cost). CameTo u.state.cell c)
       (ap (λ (c : Cost). add_costs p.cost c) r.priced ∙ sym l.priced)
@@ -262,7 +264,8 @@ module _ (dropped : DroppedTurnsAreSwapped) (diagonals : DiagonalsGoFirst) (g : 
       → IsGood g s t u.state.cell u.cost (v ∷ cells) → Leads g u.state.cell v e
       → (is_allowed g u.state.cell u.state.arrival e ≡ true) ⊎ IsSwapped g p.state.cell v j.dir e j.moves
   allowed_or_swaps p u v cells e w j h l = by_test (is_allowed g u.state.cell u.state.arrival e) (λ a. inl a)
-      (λ n. inr (dropped g t p.state.cell u.state.cell v j.dir e j.moves j.hop.some j.hop.no_stop_before j.hop.reached
+      (λ n. inr (dropped g t p.state.cell u.state.cell v j.dir e j.moves j.hop.some
+      j.hop.no_stop_before j.hop.reached
       (leads_legal g u.state.cell v e l)
       (subst (λ (a : Arrival). is_allowed g u.state.cell a e ≡ false) j.hop.arrives n)
       (between g s t p.state.cell v p.cost (add_costs (run_cost j.dir j.moves) (dir_cost e)) cells w

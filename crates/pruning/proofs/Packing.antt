@@ -40,7 +40,17 @@ gives zero [] h = refl
 gives zero (d ∷ ds) h = absurd (omega (arith, h))
 gives (suc n) [] h = refl
 gives (suc n) (d ∷ ds) h =
-    grind (arith, nat_tests, one_off, some_left, digit_is, numbered_dir, others_are, h, gives n ds (omega (arith, h)))
+    grind (
+      arith,
+      nat_tests,
+      one_off,
+      some_left,
+      digit_is,
+      numbered_dir,
+      others_are,
+      h,
+      gives n ds (omega (arith, h)),
+    )
 
 pub shown : (w : ℕ) (ds : List Dir) → w ≡ word_of ds → length ds ≤ 8 → dirs_of 8 w ≡ ds
 shown w ds h few = ap (λ (k : ℕ). dirs_of 8 k) h ∙ gives 8 ds few

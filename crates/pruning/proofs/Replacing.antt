@@ -25,9 +25,8 @@ use Rattle.pruning.proofs.Places.{Place, move}
 use Rattle.pruning.proofs.Table.{straight_back, straight_side, diagonal_back, diagonal_side, reversal}
 use Rattle.pruning.proofs.Table.{moved_both, Turned, turned, ahead, eighth, side, back, about, turn_parity}
 use Rattle.pruning.proofs.Table.{quarter_parity, turn_back, by_parity}
-use Rattle.pruning.proofs.Bridging.{place_of, free_place, open_there, one_cell, cell_there}
-use Rattle.pruning.proofs.Bridging.{Leads, legal_leads, leads_can, leads_there, leads_passes}
-use Rattle.pruning.proofs.Bridging.{leads_over, Passes}
+use Rattle.pruning.proofs.Bridging.{place_of, free_place, open_there, one_cell, cell_there, Leads}
+use Rattle.pruning.proofs.Bridging.{legal_leads, leads_can, leads_there, leads_passes, leads_over, Passes}
 use Rattle.pruning.proofs.Kept.{kept-on, kept-eighth, kept-quarter}
 
 passable : (r : Corner) (a b : Bool) → b ≡ true → (may_cut r ≡ false → a ≡ true) → is_passable r a b ≡ true

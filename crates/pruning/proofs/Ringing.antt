@@ -1,8 +1,7 @@
 -- What is allowed, and where a neighbour is forced, by the cells around.
 use Rattle.std.proofs.lemmas.Bool.Decides.{nat_tests}
 use Rattle.std.proofs.lemmas.Grind.{common_steps}
-use Rattle.std.proofs.Common.{arith}
-use Rattle.std.proofs.Common.{◌≡◌, Bool, true, not, ◌||◌, refl, ap, ◌∙◌, List, [], ◌∷◌}
+use Rattle.std.proofs.Common.{arith, ◌≡◌, Bool, true, not, ◌||◌, refl, ap, ◌∙◌, List, [], ◌∷◌}
 use Rattle.std.specs.Prelude.{filter}
 use Rattle.grid_moves.specs.declared.Cell.{Cell}
 use Rattle.grid_moves.specs.declared.Corner.{Corner}

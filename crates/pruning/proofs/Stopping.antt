@@ -13,8 +13,7 @@ use Rattle.pruning.specs.Marked.{is_forced, HoldsOnRun, IsMarked, forces, looks_
 use Rattle.pruning.specs.Stop.{IsStop, at_goal, marked, sees_goal, StopsAfter, MarkedAfter}
 use Rattle.pruning.specs.First.{holds_on_run, is_marked, is_stop, first_stop, first_mark}
 use Rattle.pruning.specs.Laws.{MarksAreDecided, StopsAreDecided, FirstStopIsFirst, OneFirstStop}
-use Rattle.pruning.specs.Laws.{FirstMarkIsFirst}
-use Rattle.pruning.specs.Laws.{OneFirstMark}
+use Rattle.pruning.specs.Laws.{FirstMarkIsFirst, OneFirstMark}
 use Rattle.pruning.proofs.Firsts.{FindsLeast-once, FindsLeast-same, HoldsAfter, first_on_run-finds}
 use Rattle.pruning.proofs.Firsts.{on_run-sound, on_run-complete}
 

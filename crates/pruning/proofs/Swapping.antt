@@ -82,7 +82,8 @@ module _ (g : GridData) where
       → is_allowed g v (By d) e ≡ false → NoneCheaper g u w (add_costs (dir_cost d) (dir_cost e))
       → GoesFirst g u w d e
   turn_swapped u v w d e l m n none =
-      let pair = joined u v w (v ∷ []) (w ∷ []) (dir_cost d) (dir_cost e) (goes_one u v d l) (goes_one v w e m)
+      let pair = joined u v w (v ∷ []) (w ∷ []) (dir_cost d) (dir_cost e)
+      (goes_one u v d l) (goes_one v w e m)
       in
       elim (replaced g u v w d l e m n) [
         | inl c ↦ absurd (IsAtMost-not_more (cost_of (u ∷ v ∷ w ∷ [])) (cost_of (u ∷ c.instead))

@@ -1,6 +1,6 @@
--- One state for each cell: what a search has come to that keeps one arrival at each cell. Which of equal ones it
--- keeps is left open; that a search takes cells in such an order that its run ends right is shown of its run.
--- Harabor and Grastien, AAAI 2011, have one node for each cell; as far as we know this was not proved by
+-- One state for each cell: what a search has come to that keeps one arrival at each cell. Which of equal ones
+-- it keeps is left open; that a search takes cells in such an order that its run ends right is shown of its
+-- run. Harabor and Grastien, AAAI 2011, have one node for each cell; as far as we know this was not proved by
 -- machine before.
 use Rattle.std.specs.Prelude.{◌≡◌, ◌≢◌, ◌≤◌, ℕ, Bool, true, IsTrue, List, [], ◌∷◌, Some}
 use Rattle.root2_cost.specs.declared.Cost.{Cost}
@@ -34,8 +34,8 @@ pub record LeadsTo (g : GridData) (goal : Cell) (u x : Reached) : Type 0 where
   pub jump : IsJump g goal u.state x.state dir moves
   pub priced : x.cost ≡ add_costs u.cost (run_cost dir moves)
 
--- from the state s, k moves in the allowed direction d lead to the cell of u, and no stop lies before it: all of a
--- jump or a first part, or moves where there is none
+-- from the state s, k moves in the allowed direction d lead to the cell of u, and no stop lies before it: all
+-- of a jump or a first part, or moves where there is none
 pub record IsHop (g : GridData) (goal : Cell) (s u : State) (d : Dir) (k : ℕ) : Type 0 where
   pub allowed : IsTrue (is_allowed g s.cell s.arrival d)
   pub some : 1 ≤ k
@@ -79,8 +79,8 @@ abbrev pub PassesNoStop : GridData → Cell → Stops → Reached → Type 0
 PassesNoStop g goal stops u = (d : Dir) (k : ℕ) → IsTrue (is_allowed g u.state.cell u.state.arrival d)
     → IsLeast (StopsAfter g goal u.state.cell d) 1 k → GoesOn stops u d k
 
--- one of them goes on to a cell that is not among them at no more than it costs that way, and from which a walk
--- leads on to t, at no more than this in all
+-- one of them goes on to a cell that is not among them at no more than it costs that way, and from which a
+-- walk leads on to t, at no more than this in all
 pub record OffersMore (g : GridData) (t : Cell) (stops : Stops) (all : List Reached) (bound : Cost)
     : Type 0 where
   pub by : Reached

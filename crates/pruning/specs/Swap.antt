@@ -30,8 +30,8 @@ pub record IsSwapped (g : GridData) (u w : Cell) (d e : Dir) (k : ℕ) : Type 0 
   pub first : legal_ahead g u e ≡ Some by
   pub run : run_end g d k by ≡ Some w
 
--- where k moves in d meet no stop before the last one's end, e is not allowed behind them, and no walk is cheaper
--- than these moves with e behind them, e can go first
+-- where k moves in d meet no stop before the last one's end, e is not allowed behind them, and no walk is
+-- cheaper than these moves with e behind them, e can go first
 abbrev pub DroppedTurnsAreSwapped : Type 0
 DroppedTurnsAreSwapped = (g : GridData) (goal u v w : Cell) (d e : Dir) (k : ℕ)
     → 1 ≤ k → NoneBelow (StopsAfter g goal u d) 1 k → run_end g d k u ≡ Some v → legal_ahead g v e ≡ Some w

@@ -75,9 +75,9 @@ pub fn run_length_is_exact()
     ensures { RunLengthIsExact }
 {}
 
-/// Where moves in one direction meet no stop before they end, a turn behind them is not allowed, and no walk is
-/// cheaper than they with it, it is one from a straight direction to a diagonal one, and the diagonal move can
-/// go first.
+/// Where moves in one direction meet no stop before they end, a turn behind them is not allowed, and no walk
+/// is cheaper than they with it, it is one from a straight direction to a diagonal one,
+/// and the diagonal move can go first.
 pub fn dropped_turns_are_swapped()
     ensures { DroppedTurnsAreSwapped }
 {}
@@ -87,9 +87,9 @@ pub fn diagonals_go_first()
     ensures { DiagonalsGoFirst }
 {}
 
-/// Of states that were come to, one for each cell, whichever of the arrivals: as long as the goal is not among
-/// them, one of them goes on to a cell of a least walk that none of them has at as little. A search may stop
-/// where it likes, if only no run passes its first stop.
+/// Of states that were come to, one for each cell, whichever of the arrivals: as long as the goal is not
+/// among them, one of them goes on to a cell of a least walk that none of them has at as little. A search may
+/// stop where it likes, if only no run passes its first stop.
 pub fn one_state_suffices()
     ensures { OneStateSuffices }
 {}

@@ -1,13 +1,11 @@
 -- Laws of "at most" on costs, and its part in chains with "less".
 use Rattle.std.proofs.lemmas.Bool.Decides.{nat_tests}
-use Rattle.std.proofs.Common.{◌≡◌, ℕ, ◌+◌, ◌*◌, ◌<◌, ◌≤◌, ◌⊎◌, inl, inr, arith, sym}
-use Rattle.std.proofs.Common.{subst}
+use Rattle.std.proofs.Common.{◌≡◌, ℕ, ◌+◌, ◌*◌, ◌<◌, ◌≤◌, ◌⊎◌, inl, inr, arith, sym, subst}
 use Rattle.root2_cost.specs.declared.Cost.{Cost}
 use Rattle.root2_cost.specs.Order.{IsLess, IsAtMost}
 use Rattle.root2_cost.proofs.Squares.{square_grows, square_positive}
 use Rattle.root2_cost.proofs.Gaps.{both, first, second, differ}
-use Rattle.root2_cost.proofs.Less.{IsLess-trans, IsLess-total}
-use Rattle.root2_cost.proofs.Less.{same_cost, gap_less}
+use Rattle.root2_cost.proofs.Less.{IsLess-trans, IsLess-total, same_cost, gap_less}
 
 -- what is at most another is less, or the same
 pub IsAtMost-cases : (p q : Cost) → IsAtMost p q → IsLess p q ⊎ (p ≡ q)

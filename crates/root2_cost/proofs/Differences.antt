@@ -193,7 +193,8 @@ signed_ranks_less p q s t h =
     (rank_of (loss q)) (signed_rank_is p) (signed_rank_is q) h in
     let ranks : rank_of (add_costs (gain p) (loss q)) < rank_of (add_costs (gain q) (loss p)) =
     subst (λ (n : ℕ). n < rank_of (add_costs (gain q) (loss p))) (sym (rank-add_costs (gain p) (loss q)))
-    (subst (λ (n : ℕ). rank_of (gain p) + rank_of (loss q) < n) (sym (rank-add_costs (gain q) (loss p))) sums) in
+    (subst (λ (n : ℕ). rank_of (gain p) + rank_of (loss q) < n)
+    (sym (rank-add_costs (gain q) (loss p))) sums) in
     less_is p q (gain p) (loss p) (gain q) (loss q) (is_parted p) (is_parted q)
     ∙ ranks_less (add_costs (gain p) (loss q)) (add_costs (gain q) (loss p)) (short_sum p q s t)
     (short_sum q p t s) ranks

@@ -3,8 +3,10 @@
 //! Together they say that the order is that of the values a + b√2: it is the only total order of
 //! pairs that sums keep and that compares straight with diagonal moves by their squares.
 
-ghost use Rattle.root2_cost.specs.Laws.{OrderIsTotal, OrderIsTransitive, ValuesTellPairs, SumsKeepOrder, SquaresDecide, DistancesAdd, RanksTellOrder, RanksTellCosts};
-ghost use Rattle.root2_cost.specs.Laws.{SignedCostsKeepOrder, SignedOrderIsTransitive, DifferencesTelescope, BoundsAddUp, SignedRanksTellOrder};
+ghost use Rattle.root2_cost.specs.Laws.{OrderIsTotal, OrderIsTransitive, ValuesTellPairs, SumsKeepOrder};
+ghost use Rattle.root2_cost.specs.Laws.{SquaresDecide, DistancesAdd, RanksTellOrder, RanksTellCosts};
+ghost use Rattle.root2_cost.specs.Laws.{SignedCostsKeepOrder, SignedOrderIsTransitive, DifferencesTelescope};
+ghost use Rattle.root2_cost.specs.Laws.{BoundsAddUp, SignedRanksTellOrder};
 ghost use Rattle.root2_cost.specs.Laws.{NearestIsOne, NearestAgrees, NearestIsShort, BucketIsOne};
 
 /// Of two costs one is the lesser, or they are the same pair.

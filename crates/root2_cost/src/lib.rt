@@ -9,7 +9,8 @@ ghost use Rattle.std.specs.Prelude.{◌≡◌, ◌+◌, ◌<◌, ◌^◌, ◌↔
 ghost use Rattle.std.specs.Ordering.{MatchOrdering};
 ghost use Rattle.std.specs.Int.RustNames.{unsigned_abs};
 ghost use Rattle.root2_cost.specs.Order.{is_positive, is_less, IsLess};
-ghost use Rattle.root2_cost.specs.Signed.{cost_difference, signed_difference, signed_of, opposite, lowered, is_within, IsAboveZero, IsBelowZero, IsZero};
+ghost use Rattle.root2_cost.specs.Signed.{cost_difference, signed_difference, signed_of, opposite, lowered};
+ghost use Rattle.root2_cost.specs.Signed.{is_within, IsAboveZero, IsBelowZero, IsZero};
 ghost use Rattle.root2_cost.specs.Sums.{add_costs, octile_cost};
 
 use std::cmp::Ordering;

@@ -33,8 +33,8 @@ impl Cost {
     }
 
     /// The cost of fewer than 2^31 moves of each kind that has this rank, if one has it
-    /// (`laws::ranks_tell_costs`). As p² is 1 more
-    /// than a multiple of q, p times the rank leaves the diagonal moves modulo q.
+    /// (`laws::ranks_tell_costs`). As p² is 1 more than a multiple of q, p times the rank leaves the diagonal
+    /// moves modulo q.
     #[tactic(auto, unfolding(crate::specs::Rank::cost_of_rank))]
     pub fn of_rank(rank: u64) -> Cost
         requires fits { (cost_of_rank rank).a < 2 ^ 32 }

@@ -63,7 +63,8 @@ listed_with problem cost bucket length some near =
     listed : ℕ → ℕ → Listed
     listed bucket units = record { problem = problem; bucket = bucket; units = units }
 
-pub listed_one : (cost : Cost) (listed : Listed) → IsOfCost cost listed ↔ (listed ≡ listed_of listed.problem cost)
+pub listed_one : (cost : Cost) (listed : Listed) → IsOfCost cost listed
+    ↔ (listed ≡ listed_of listed.problem cost)
 listed_one cost listed = (
   λ is. listed_with listed.problem cost listed.bucket (eight_places listed.units) is.bucket is.length,
   λ e. subst (λ (l : Listed). IsOfCost cost l) (sym e) (listed_is listed.problem cost),

@@ -94,7 +94,8 @@ WordsNameMaps = (word : List ℕ) → IsName (name_of word)
 
 -- a line has the bucket and the length of a cost exactly where it is the one that is listed of that cost
 abbrev pub CostsTellLines : Type 0
-CostsTellLines = (cost : Cost) (listed : Listed) → IsOfCost cost listed ↔ (listed ≡ listed_of listed.problem cost)
+CostsTellLines = (cost : Cost) (listed : Listed) → IsOfCost cost listed
+    ↔ (listed ≡ listed_of listed.problem cost)
 
 -- at most 2^24 moves of each kind have a bucket and a length that are read
 abbrev pub CostsAreReadable : Type 0

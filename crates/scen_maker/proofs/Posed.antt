@@ -24,8 +24,7 @@ use Rattle.problem_maker.specs.Tries.{kept_of}
 use Rattle.problem_maker.proofs.Drawn.{kept_walks}
 use Rattle.problem_maker.proofs.Insertion.{order_is}
 use Rattle.scen_lines.specs.Line.{version_line}
-use Rattle.scen_maker.specs.Problems.{ProblemsCostLeast, line_on, priced, problems_status}
-use Rattle.scen_maker.specs.Problems.{scenario_on}
+use Rattle.scen_maker.specs.Problems.{ProblemsCostLeast, line_on, priced, problems_status, scenario_on}
 use Rattle.scen_maker.specs.Settling.{least_between}
 
 module _ (ls : Layers) (are : AreLayers ls) where

@@ -17,7 +17,8 @@ use Rattle.plain_search.specs.Costs.{IsCostTo}
 use Rattle.plain_search.proofs.LeastCosts.{cost_is, one_cost}
 use Rattle.scen_text.specs.declared.entry.Entry.{Entry}
 use Rattle.walk_judge.proofs.Judgements.{none_to_blocked, stands_costs}
-use Rattle.scen_maker.specs.Settling.{IsSettled, cost_in, goal_of, has_sides, least_between, settled_of, start_of}
+use Rattle.scen_maker.specs.Settling.{IsSettled, cost_in, goal_of, has_sides, least_between, settled_of}
+use Rattle.scen_maker.specs.Settling.{start_of}
 use Rattle.scen_maker.specs.declared.costs.Settled.{Settled}
 use Rattle.scen_maker.specs.declared.costs.Settled.TheVariants as settled
 

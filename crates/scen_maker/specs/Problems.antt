@@ -17,8 +17,8 @@ use Rattle.scen_lines.specs.declared.line.Problem as lines
 use Rattle.scen_maker.specs.Lengths.{problem_line}
 use Rattle.scen_maker.specs.Settling.{least_between}
 
--- the problem with these ends, and with the cost of a least walk between them; each kept try has one, and where
--- there were none the cost would be 0
+-- the problem with these ends, and with the cost of a least walk between them; each kept try has one, and
+-- where there were none the cost would be 0
 abbrev pub priced : Layers → Ends → Problem
 priced ls ends = record {
   ends = ends;
@@ -60,7 +60,8 @@ problems_status ls seed count = if nat_eq (length (kept_of ls seed count)) count
 -- each problem costs what a least walk between its ends does, on the grid of its query
 abbrev pub ProblemsCostLeast : Type 0
 ProblemsCostLeast = (ls : Layers) (seed count : ℕ)
-    → All (λ p. IsLeastCost (query_grid ls p.ends.from) p.ends.from p.ends.to p.cost) (problems_of ls seed count)
+    → All (λ p. IsLeastCost (query_grid ls p.ends.from) p.ends.from p.ends.to p.cost)
+    (problems_of ls seed count)
 
 -- a worked row: one move from left to right on the map `...@.`
 abbrev rightward : Problem

@@ -1,6 +1,6 @@
 -- What a map makes of the queries of a scenario's entries.
-use Rattle.std.specs.Prelude.{◌≡◌, Bool, true, false, nat_eq, ◌&&◌, if◌then◌else◌, Option, Some, None, refl, ℕ}
-use Rattle.std.specs.Prelude.{codes, not}
+use Rattle.std.specs.Prelude.{◌≡◌, Bool, true, false, nat_eq, ◌&&◌, if◌then◌else◌, Option, Some, None, refl}
+use Rattle.std.specs.Prelude.{ℕ, codes, not}
 use Rattle.root2_cost.specs.declared.Cost.{Cost}
 use Rattle.grid_moves.specs.declared.Cell.{Cell}
 use Rattle.grid_moves.specs.declared.Corner.TheVariants.{Never}

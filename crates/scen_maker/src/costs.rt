@@ -18,8 +18,8 @@ use std::sync::ledger::Ledger;
 use steps::Steps;
 use word_list::Settings;
 
-/// Who finds the least costs of queries on a map: a session, which searches by blocks of bits, whoever asks: a
-/// least cost is one pair. Contracts see the map's two grids.
+/// Who finds the least costs of queries on a map: a session, which searches by blocks of bits, whoever asks:
+/// a least cost is one pair. Contracts see the map's two grids.
 #[derive(Drop)]
 pub struct LeastCosts {
     session: Session,

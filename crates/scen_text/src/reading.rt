@@ -8,7 +8,8 @@ ghost use Rattle.scen_text.specs.declared.fault.ScenFault.TheVariants.{NoMemory}
 ghost use Rattle.scen_text.specs.declared.entry.Entry.{Entry};
 ghost use Rattle.scen_text.specs.Lengths.{IsKept};
 ghost use Rattle.scen_text.specs.Spelling.{Spells};
-ghost use Rattle.scen_text.specs.Faults.{number_fault, has_version, words_fault, entry_in, line_read, scen_of, BreaksFirst, Tells};
+ghost use Rattle.scen_text.specs.Faults.{number_fault, has_version, words_fault, entry_in, line_read};
+ghost use Rattle.scen_text.specs.Faults.{scen_of, BreaksFirst, Tells};
 ghost use Rattle.scen_text.specs.Progress.{plain_words, line_given};
 
 use crate::entry::Entry;

@@ -26,7 +26,8 @@ pub struct LineFeeder {
 }
 
 impl LineFeeder {
-    ghost use Rattle.std.specs.Prelude.{◌≡◌, ◌≢◌, ◌<◌, ℕ, List, [], ◌++◌, length, Ok, Err, None, Some, IfOk, IfErr, OnOk};
+    ghost use Rattle.std.specs.Prelude.{◌≡◌, ◌≢◌, ◌<◌, ℕ, List, [], ◌++◌, length, Ok, Err, None, Some, IfOk};
+    ghost use Rattle.std.specs.Prelude.{IfErr, OnOk};
     ghost use Rattle.script_text.specs.declared.fault.ScriptFault.{ScriptFault};
     ghost use Rattle.script_text.specs.declared.fault.ScriptFault.TheVariants.{NoMemory};
     ghost use Rattle.script_text.specs.Lines.{piece_read};

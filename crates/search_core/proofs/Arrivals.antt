@@ -63,7 +63,8 @@ run_arrived layout g s goal free (x ∷ y ∷ earlier) is u (here e) =
     record {
       free = (run_walked g l.dir l.moves from.by.state.cell x.state.cell
           (allowed_free g (shown layout from.by) l.dir l.allowed) l.reached).free;
-      arrival = subst (λ (p : State). CanArrive g x.state.cell (come_to (arrived_in layout p x.state).arrival))
+      arrival = subst (λ (p : State). CanArrive g x.state.cell
+          (come_to (arrived_in layout p x.state).arrival))
           (sym from.offered.source)
           (subst (λ (a : Option Dir). CanArrive g x.state.cell (come_to a)) (sym l.arrives)
           (last_move g l.dir l.moves from.by.state.cell x.state.cell l.first.in_range l.reached));

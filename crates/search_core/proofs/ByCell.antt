@@ -1,5 +1,5 @@
--- With one state for each cell the run of jumps misses no least walk: it is one of the searches of one_state, and
--- every one of these ends right.
+-- With one state for each cell the run of jumps misses no least walk: it is one of the searches of one_state,
+-- and every one of these ends right.
 use Rattle.std.proofs.Common.{◌≡◌, ℕ, inl, inr, refl, ap, sym, ◌∙◌, subst, true, false, List, [], ◌∷◌}
 use Rattle.std.specs.Prelude.{Option, Some, None, map, reverse}
 use Rattle.std.proofs.lemmas.Bool.{or_parts}
@@ -36,8 +36,8 @@ use Rattle.search_core.specs.OneState.{IsBySuch, search_by_cell}
 use Rattle.search_core.specs.Answer.{IsFound, IsExhausted, IsJumpRun}
 use Rattle.search_core.specs.Jumps.{come_in, jump_rule, state_at}
 use Rattle.search_core.proofs.Arrivals.{shown}
-use Rattle.search_core.proofs.Links.{step_is, link_step, jump_is_link, allowed_free, run_arrived_so, start_arrived}
-use Rattle.search_core.proofs.Links.{seen_start}
+use Rattle.search_core.proofs.Links.{step_is, link_step, jump_is_link, allowed_free, run_arrived_so}
+use Rattle.search_core.proofs.Links.{start_arrived, seen_start}
 use Rattle.search_core.proofs.Right.{found_least_so}
 use Rattle.search_core.proofs.Ways.{stop_of, linked_jump, jumps_consistent}
 
@@ -46,7 +46,8 @@ abbrev reached : Taken State → search.Taken
 reached u = record { state = stop_of (shown ByCell u); cost = u.cost; parent = u.parent.cell }
 
 -- one of the taken states is one of what was reached, and back
-is_reached : (run : List (Taken State)) (u : Taken State) → IsIn u run → search.IsIn (reached u) (map reached run)
+is_reached : (run : List (Taken State)) (u : Taken State) → IsIn u run
+    → search.IsIn (reached u) (map reached run)
 is_reached [] u m = elim m [ ]
 is_reached (x ∷ earlier) u (run.here e) = search.here (map reached earlier)
 is_reached (x ∷ earlier) u (run.there z e m) =
@@ -76,7 +77,8 @@ module _ (g : GridData) (s t : Cell) where
   all_seen : (run : List (Taken State)) → IsRun rule (start_at s) run → (u : Taken State) → IsIn u run
       → start_at u.state.cell ≡ u.state
   all_seen [] is u m = absurd is
-  all_seen (x ∷ []) is u (run.here e) = subst (λ (w : Taken State). start_at w.state.cell ≡ w.state) (sym is) refl
+  all_seen (x ∷ []) is u (run.here e) = subst
+      (λ (w : Taken State). start_at w.state.cell ≡ w.state) (sym is) refl
   all_seen (x ∷ []) is u (run.there z e m) = elim m [ ]
   all_seen (x ∷ y ∷ earlier) is u (run.here e) =
       let from = least_offer-from rule (y ∷ earlier) x.state
@@ -107,7 +109,8 @@ module _ (g : GridData) (s t : Cell) where
       (allowed_free g (shown ByCell w.by) d lead.hop.allowed) lead.hop.reached in
       let arrives = run_arrived_so ByCell w.by.state d lead.moves z.state.cell
       lead.hop.some walked.moved in
-      let link = link_step ByCell g t w.by.parent w.by.state (start_at z.state.cell) (run_cost d lead.moves) refl
+      let link = link_step ByCell g t w.by.parent w.by.state (start_at z.state.cell)
+      (run_cost d lead.moves) refl
       (jump_is_link g t (shown ByCell w.by) (arrived_in ByCell w.by.state (start_at z.state.cell)) d
       lead.moves (ap (λ (u : State). u.arrival) arrives) lead.hop.allowed
       (is_the-tells lead.moves (first_stop g t w.by.state.cell d) lead.stops_there) lead.hop.reached) in
@@ -131,7 +134,8 @@ module _ (g : GridData) (s t : Cell) where
       → has_goal rule run ≡ false → IsNext rule run x → search.IsNext p (map reached run) (reached x)
   least_next x run is none next =
       let from = least_offer-from rule run x.state (record { cost = x.cost; from = x.parent }) next.offered in
-      let step = step_is ByCell g t from.by.parent from.by.state x.state from.offered.step from.offered.linked in
+      let step = step_is ByCell g t from.by.parent from.by.state x.state from.offered.step
+      from.offered.linked in
       let jump = linked_jump g t (shown ByCell from.by) (arrived_in ByCell from.by.state x.state)
       from.offered.step step.jump in
       let offers : Offers p (reached from.by) (record {
@@ -164,7 +168,8 @@ module _ (g : GridData) (s t : Cell) where
           fresh = λ h.
               let w = was_taken run h.by h.member in
               let same : w.by.state ≡ x.state = sym (all_seen run is w.by w.member)
-              ∙ ap start_at (ap (λ (r : search.Taken). r.state.cell) w.is ∙ h.is) ∙ seen_start x.state step.seen in
+              ∙ ap start_at (ap (λ (r : search.Taken). r.state.cell) w.is ∙ h.is)
+              ∙ seen_start x.state step.seen in
               let yes : is_taken rule run x.state ≡ true =
               subst (λ (u : State). is_taken rule run u ≡ true) same
               (is_taken-member rule (jumps_consistent ByCell g t) run w.by w.member) in
@@ -173,9 +178,11 @@ module _ (g : GridData) (s t : Cell) where
         };
         least = λ z o.
             let w = offer_waits run is none z o in
-            let most : Most (add_costs x.cost (estimate x.state.cell t)) (add_costs z.cost (estimate z.state.cell t)) =
+            let most : Most (add_costs x.cost (estimate x.state.cell t))
+            (add_costs z.cost (estimate z.state.cell t)) =
             Most-then (record {
-              is = (or_parts _ _ (next.first (start_at z.state.cell) w.offer w.waits.untaken w.waits.offered)).0;
+              is = (or_parts _ _ (next.first (start_at z.state.cell) w.offer w.waits.untaken
+                  w.waits.offered)).0;
             })
             (Most-add_right (estimate z.state.cell t) w.offer.cost z.cost w.most) in
             (Below-then (Below-same (sym (signed_sum x.cost (estimate x.state.cell t))))

@@ -15,7 +15,8 @@ use Rattle.search_core.specs.Answer.{IsFound, IsExhausted, IsJumpRun}
 use Rattle.search_core.proofs.ByCell.{cells_least, cells_none}
 use Rattle.search_core.proofs.Right.{arrivals_least, arrivals_none}
 
-found_least : (layout : Layout) (g : GridData) (s t : Cell) (points : List Cell) (cost : Cost) (taken : List ℕ)
+found_least : (layout : Layout) (g : GridData) (s t : Cell) (points : List Cell)
+    (cost : Cost) (taken : List ℕ)
     → is_free g s ≡ true → IsFound layout g s t points cost taken → StandsForLeast g s t points cost
 found_least ByArrival g s t points cost taken free f = arrivals_least g s t points cost taken free f
 found_least ByCell g s t points cost taken free f = cells_least g s t points cost taken free f

@@ -27,7 +27,8 @@ use Rattle.pruning.proofs.Stopping.{first_stop_is_first}
 use Rattle.best_first.specs.declared.state.Layout.{Layout}
 use Rattle.best_first.specs.declared.state.Layout.TheVariants.{ByCell, ByArrival}
 use Rattle.best_first.specs.declared.state.State.{State}
-use Rattle.best_first.specs.State.{start_at, state_in, arrived_in, is_seen, is_same_state, heading, arrival_number}
+use Rattle.best_first.specs.State.{start_at, state_in, arrived_in, is_seen, is_same_state, heading}
+use Rattle.best_first.specs.State.{arrival_number}
 use Rattle.best_first.proofs.States.{same_state, is_same_state-itself, is_same_state-state}
 use Rattle.best_first.specs.Rule.{AreLinks}
 use Rattle.search_core.specs.Jumps.{landing, jump_in, jump_link, jump_links}
@@ -168,7 +169,8 @@ kept_seen ByArrival s = refl
 kept_seen ByCell s = refl
 
 -- where a run leads from a state, that is how its end is come to
-pub run_arrived_so : (layout : Layout) (u : State) (d : Dir) (k : ℕ) (v : Cell) → 1 ≤ k → AreMoved d k u.cell v
+pub run_arrived_so : (layout : Layout) (u : State) (d : Dir) (k : ℕ) (v : Cell) → 1 ≤ k
+    → AreMoved d k u.cell v
     → arrived_in layout u (record { cell = v; arrival = Some d }) ≡ record { cell = v; arrival = Some d }
 run_arrived_so ByArrival u d k v h m = refl
 run_arrived_so ByCell u d k v h m =
@@ -195,7 +197,8 @@ pub record IsStep (layout : Layout) (g : GridData) (goal : Cell) (p u v : State)
 pub step_is : (layout : Layout) (g : GridData) (goal : Cell) (p u v : State) (c : Cost)
     → (jump_links layout g goal).step p u v ≡ Some c → IsStep layout g goal p u v c
 step_is layout g goal p u v c h =
-    let s = chosen (is_seen layout v) (jump_link g goal (arrived_in layout p u) (arrived_in layout u v)) c h in
+    let s = chosen (is_seen layout v)
+    (jump_link g goal (arrived_in layout p u) (arrived_in layout u v)) c h in
     record { seen = s.0; jump = link_is g goal (arrived_in layout p u) (arrived_in layout u v) c s.1 }
 
 pub link_step : (layout : Layout) (g : GridData) (goal : Cell) (p u v : State) (c : Cost)

@@ -38,11 +38,10 @@ use Rattle.best_first.specs.State.{state_in, arrived_in, is_same_state}
 use Rattle.best_first.proofs.States.{same_state, is_same_state-itself}
 use Rattle.best_first.proofs.Ways.{of_among, AreOfLinks, AreEnough, offers_after}
 use Rattle.search_core.specs.Jumps.{jump_link, jump_links, jump_rule}
-use Rattle.search_core.specs.Jumping.{offer_after, jumped_in, jumped, IsAt}
-use Rattle.search_core.specs.Jumping.{IsOffering}
+use Rattle.search_core.specs.Jumping.{offer_after, jumped_in, jumped, IsAt, IsOffering}
 use Rattle.search_core.specs.declared.jumping.Last.{Last}
-use Rattle.search_core.proofs.Links.{IsLink, first_is, step_is, link_step, jump_is_link, jumps_are_links, allowed_free}
-use Rattle.search_core.proofs.Links.{kept_of, kept_seen, kept_arrived, run_arrived_so}
+use Rattle.search_core.proofs.Links.{IsLink, first_is, step_is, link_step, jump_is_link, jumps_are_links}
+use Rattle.search_core.proofs.Links.{allowed_free, kept_of, kept_seen, kept_arrived, run_arrived_so}
 use Rattle.search_core.proofs.Passing.{run_moves}
 use Rattle.search_core.proofs.Passing as passing
 
@@ -131,7 +130,8 @@ module _ (layout : Layout) (g : GridData) (s t : Cell) where
       -- a jump is a link
       jump_linked : (d : Dir) (n : ℕ) → is_allowed g last.state.cell (come_to last.state.arrival) d ≡ true
           → first_stop g t last.state.cell d ≡ Some n
-          → (jump_links layout g t).step latest.parent latest.state (state_in layout (offer_after last d n).to)
+          → (jump_links layout g t).step latest.parent latest.state
+          (state_in layout (offer_after last d n).to)
           ≡ Some (run_cost d n)
       jump_linked d n a e =
           let end = jump_end d n a e in
@@ -142,7 +142,8 @@ module _ (layout : Layout) (g : GridData) (s t : Cell) where
           (run_cost d n) (kept_seen layout (offer_after last d n).to)
           (ap (λ (v : State). jump_link g t (arrived_in layout latest.parent latest.state) v) arrives
           ∙ ap (λ (u : State). jump_link g t u (record { cell = end.cell; arrival = Some d })) seen
-          ∙ jump_is_link g t last.state (record { cell = end.cell; arrival = Some d }) d n refl a e end.reached)
+          ∙ jump_is_link g t last.state (record { cell = end.cell; arrival = Some d }) d n
+          refl a e end.reached)
 
       -- and may stand so in a node's place
       jump_led : (d : Dir) (n : ℕ) → is_allowed g last.state.cell (come_to last.state.arrival) d ≡ true
@@ -214,7 +215,8 @@ module _ (layout : Layout) (g : GridData) (s t : Cell) where
     module _ (whole : IsGrid g) (from : is_free g s ≡ true) (to : is_free g t ≡ true) (latest : Taken State)
         (earlier : List (Taken State)) where
       -- the parts that an offer over a jump needs
-      module _ (best : Offers) (k : Table) (i : IsAt layout g s t last latest earlier best k) (d : Dir) (n : ℕ)
+      module _ (best : Offers) (k : Table)
+          (i : IsAt layout g s t last latest earlier best k) (d : Dir) (n : ℕ)
           (a : is_allowed g last.state.cell (come_to last.state.arrival) d ≡ true)
           (e : first_stop g t last.state.cell d ≡ Some n) where
         over : IsOver layout (jump_links layout g t) latest last.at (offer_after last d n) (run_cost d n)
@@ -250,7 +252,8 @@ module _ (layout : Layout) (g : GridData) (s t : Cell) where
           → (d : Dir) (ways : List Onward)
           → is_allowed g last.state.cell (come_to last.state.arrival) d ≡ true
           → (Q : Offers → Table → Type 0)
-          → ((b : Offers) (j : Table) → IsAt layout g s t last latest earlier b j → Q (with_all latest b ways) j)
+          → ((b : Offers) (j : Table) → IsAt layout g s t last latest earlier b j
+          → Q (with_all latest b ways) j)
           → Q (with_all latest best (with_jump d (first_stop g t last.state.cell d) ways))
           (jumped_in layout g t last d k)
       one_dir best k i d ways a Q next = by_stop (first_stop g t last.state.cell d) refl
@@ -265,7 +268,8 @@ module _ (layout : Layout) (g : GridData) (s t : Cell) where
       -- and in all of these
       pub all_dirs_offered : (dirs : List Dir) → AreAllowed dirs → (best : Offers) (k : Table)
           → IsAt layout g s t last latest earlier best k
-          → IsAt layout g s t last latest earlier (with_all latest best (ways_in dirs)) (jumped layout g t last dirs k)
+          → IsAt layout g s t last latest earlier (with_all latest best (ways_in dirs))
+          (jumped layout g t last dirs k)
       all_dirs_offered [] a best k i = i
       all_dirs_offered (d ∷ dirs) a best k i =
           one_dir best k i d (ways_in dirs) a.0
@@ -278,7 +282,8 @@ module _ (layout : Layout) (g : GridData) (s t : Cell) where
           pub all_offered : (k : Table) (taken : List ℕ)
               → IsAt layout g s t last latest earlier
               (with_all latest (least_offer (jump_rule layout g t) earlier) (ways_in dirs))
-              k → is_same last.state.cell t ≡ false → taken ≡ numbers_of g.width (jump_links layout g t) (latest ∷ earlier)
+              k → is_same last.state.cell t ≡ false → taken
+              ≡ numbers_of g.width (jump_links layout g t) (latest ∷ earlier)
               → HasOffered layout g.width t (jump_links layout g t) s last.at k taken
           all_offered k taken i open_ended numbered =
               let not_goal : is_same latest.state.cell t ≡ false =

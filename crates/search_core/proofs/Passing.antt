@@ -201,7 +201,8 @@ module _ (layout : Layout) (g : GridData) (goal : Cell) where
       → IsPassed earlier p → eqb q p ≡ false
   new_number earlier p0 x d q p n seen arrives untaken a old = differ q p (λ same.
       let one = one_stop g goal d old.dir x.cell old.by.state.cell q p n old.left same a old.at in
-      let kept : (e : Dir) → old.dir ≡ e → state_in layout (record { cell = old.by.state.cell; arrival = Some e })
+      let kept : (e : Dir) → old.dir ≡ e
+      → state_in layout (record { cell = old.by.state.cell; arrival = Some e })
       ≡ old.by.state = λ e h. subst (λ (f : Dir).
       state_in layout (record { cell = old.by.state.cell; arrival = Some f }) ≡ old.by.state) h
       (kept_of layout old.by.parent old.by.state old.dir old.seen old.arrives) in

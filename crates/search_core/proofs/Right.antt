@@ -1,5 +1,5 @@
--- What the runs of jumps answer stands for a walk; with a state for each arrival no walk undercuts it, as chains
--- of first stops are links.
+-- What the runs of jumps answer stands for a walk; with a state for each arrival no walk undercuts it, as
+-- chains of first stops are links.
 use Rattle.std.proofs.Common.{◌≡◌, ℕ, ap, sym, ◌∙◌, subst, true, List, ◌∷◌}
 use Rattle.std.specs.Prelude.{map}
 use Rattle.root2_cost.specs.declared.Cost.{Cost}

@@ -57,7 +57,8 @@ module _ {layout : Layout} {Stands : GridData → Type 0} {s t : Cell} {g : Grid
       → HasPlaces g old → w ≡ g.width → new.layout ≡ old.layout → new.places ≡ old.places → new.width ≡ w
       → new.table ≡ begun t s → before ≡ [] → taken ≡ before ++ state_number w (start_at s) ∷ []
       → HasReached layout g s t 0 new taken
-  reached_first {old} new {w} {before} {taken} whole is_so places width kept as_many new_width table none numbers
+  reached_first {old} new {w} {before} {taken} whole is_so places width kept as_many
+      new_width table none numbers
       = record {
         of = record {
           whole = whole;
@@ -147,7 +148,8 @@ module _ {layout : Layout} {Stands : GridData → Type 0} {s t : Cell} {g : Grid
           let all = all_allowed g (state_of_place n.place).cell
           (come_to (state_of_place n.place).arrival) dirs
           allowed in
-          all_offered layout g s t (last_at t at n) whole served.from served.to h.has.last h.has.earlier dirs all k
+          all_offered layout g s t (last_at t at n) whole served.from served.to h.has.last
+          h.has.earlier dirs all k
           taken
           (subst (λ (l : Table). IsAt layout g s t (last_at t at n) h.has.last h.has.earlier
           (with_all h.has.last (least_offer (jump_rule layout g t) h.has.earlier)
@@ -187,7 +189,8 @@ module _ {layout : Layout} {Stands : GridData → Type 0} {s t : Cell} {g : Grid
 
   -- none waits
   pub none_waits : {at : ℕ} {k : Table} {taken : List ℕ} → IsGrid g
-      → HasOffered layout g.width t (jump_links layout g t) s at k taken → NoneOpen k → IsExhausted layout g s t taken
+      → HasOffered layout g.width t (jump_links layout g t) s at k taken → NoneOpen k
+      → IsExhausted layout g s t taken
   none_waits whole o none =
       exhausted (fit layout g s t whole served.from served.to) o none
 

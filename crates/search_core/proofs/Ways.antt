@@ -77,7 +77,8 @@ module _ (g : GridData) (goal : Cell) where
       (jumps s v (states ++ u ∷ []) e n (add_costs rest (run_cost d k)) i (one_more v u states rest d k c j))
 
 -- the way to a taken state is a chain of the cost at which it was taken
-pub record HasWay (layout : Layout) (g : GridData) (goal s : Cell) (run : List (Taken State)) (u : Taken State)
+pub record HasWay (layout : Layout) (g : GridData) (goal s : Cell)
+    (run : List (Taken State)) (u : Taken State)
     : Type 0 where
   pub states : List Stop
   pub is_way : map (λ (v : State). v.cell) (way_to (jump_rule layout g goal) run u.state)
@@ -98,12 +99,15 @@ module _ (layout : Layout) (g : GridData) (goal : Cell) where
   -- the way over a parent, with one jump more
   goes_further : (s : Cell) (x : Taken State) (earlier : List (Taken State)) (by : Taken State) (c : Cost)
       → IsLink g goal (shown layout by) (shown layout x) c → by.state ≡ x.parent
-      → x.cost ≡ add_costs by.cost c → HasWay layout g goal s earlier by → HasWay layout g goal s (x ∷ earlier) x
+      → x.cost ≡ add_costs by.cost c → HasWay layout g goal s earlier by
+      → HasWay layout g goal s (x ∷ earlier) x
   goes_further s x earlier by c l parent total before =
       let jump : IsJump g goal (last_state (start_state s) before.states) (stop_of (shown layout x)) l.dir
-      l.moves = subst (λ (p : Stop). IsJump g goal p (stop_of (shown layout x)) l.dir l.moves) (sym before.ends)
+      l.moves = subst (λ (p : Stop). IsJump g goal p (stop_of (shown layout x)) l.dir
+      l.moves) (sym before.ends)
       (linked_jump g goal (shown layout by) (shown layout x) c l) in
-      let chain = one_more g goal (start_state s) (stop_of (shown layout x)) before.states by.cost l.dir l.moves
+      let chain = one_more g goal (start_state s) (stop_of (shown layout x)) before.states
+      by.cost l.dir l.moves
       before.chain jump in
       let cost : add_costs by.cost (run_cost l.dir l.moves) ≡ x.cost =
       ap (λ (p : Cost). add_costs by.cost p) (sym l.priced) ∙ sym total in

@@ -19,8 +19,8 @@ IsFound layout g s t points cost taken =
 abbrev pub IsExhausted : Layout → GridData → Cell → Cell → List ℕ → Type 0
 IsExhausted layout g s t taken = progress.IsExhausted g.width t (jump_links layout g t) s taken
 
--- the answer and the taken states are those of the jump engines' run from s to t, with a state for each arrival
--- at a cell or one for each cell
+-- the answer and the taken states are those of the jump engines' run from s to t, with a state for each
+-- arrival at a cell or one for each cell
 abbrev pub IsJumpRun : Layout → GridData → Cell → Cell → Found → Type 0
 IsJumpRun layout g s t f = answer.IsAnswer g.width t (jump_links layout g t) (λ cells. cells) s f
 

@@ -1,6 +1,8 @@
--- The rule of the jump engines: links are the jumps to first stops. A state is a cell and the direction in which
--- it was come to, or a cell alone, with the direction in which it lies from where it was come to from. Harabor and Grastien: AAAI 2011, and SoCS 2012 where no corner is cut.
-use Rattle.std.specs.Prelude.{◌≡◌, ℕ, true, false, refl, Option, Some, None, option_and_then, if◌then◌else◌, codes}
+-- The rule of the jump engines: links are the jumps to first stops. A state is a cell and the direction in
+-- which it was come to, or a cell alone, with the direction in which it lies from where it was come to from.
+-- Harabor and Grastien: AAAI 2011, and SoCS 2012 where no corner is cut.
+use Rattle.std.specs.Prelude.{◌≡◌, ℕ, true, false, refl, Option, Some, None, option_and_then, if◌then◌else◌}
+use Rattle.std.specs.Prelude.{codes}
 use Rattle.root2_cost.specs.declared.Cost.{Cost}
 use Rattle.grid_moves.specs.declared.Cell.{Cell}
 use Rattle.grid_moves.specs.declared.Corner.TheVariants.{Never, One}
@@ -12,8 +14,7 @@ use Rattle.grid_moves.specs.Examples.{pillar}
 use Rattle.pruning.specs.declared.Arrival.{Arrival}
 use Rattle.pruning.specs.declared.Arrival.TheVariants.{Start, By}
 use Rattle.pruning.specs.Allowed.{come_to, is_allowed}
-use Rattle.pruning.specs.Chain.{run_cost}
-use Rattle.pruning.specs.Chain.{State as Stop}
+use Rattle.pruning.specs.Chain.{run_cost, State as Stop}
 use Rattle.pruning.specs.First.{first_stop}
 use Rattle.pruning.specs.Marked.{run_end}
 use Rattle.search_run.specs.Run.{Rule}
@@ -46,17 +47,18 @@ jump_in g goal u v d =
 abbrev pub jump_link : GridData → Cell → State → State → Option Cost
 jump_link g goal u v = option_and_then (jump_in g goal u v.cell) v.arrival
 
--- the links of a search for a goal: from a state, as it was come to, to a state that the search may see, as it is
--- come to; a node's place has its state as it was come to
+-- the links of a search for a goal: from a state, as it was come to, to a state that the search may see, as
+-- it is come to; a node's place has its state as it was come to
 abbrev pub jump_links : Layout → GridData → Cell → Links
 jump_links layout g goal = record {
-  step = λ p u v. if is_seen layout v then jump_link g goal (arrived_in layout p u) (arrived_in layout u v) else None;
+  step = λ p u v. if is_seen layout v
+      then jump_link g goal (arrived_in layout p u) (arrived_in layout u v) else None;
   led = λ p v. is_same_state v (arrived_in layout p v);
   arrived = arrived_in layout;
 }
 
--- the rule of such a search: with a state for each arrival at a cell, or with one for each cell, which keeps the
--- first arrival of least cost
+-- the rule of such a search: with a state for each arrival at a cell, or with one for each cell, which keeps
+-- the first arrival of least cost
 abbrev pub jump_rule : Layout → GridData → Cell → Rule State
 jump_rule layout g goal = search_rule g.width goal (jump_links layout g goal)
 
@@ -122,13 +124,14 @@ mark_to_goal = refl
 
 -- with one state for each cell the same jumps lead from cell to cell: how a cell was come to follows from
 -- where it lies from the one before
-pub on_by_cell : (jump_links ByCell (pillar Never) (cell 2 2)).step (start_at (cell 0 0)) (start_at (cell 2 0))
+pub on_by_cell : (jump_links ByCell (pillar Never) (cell 2 2)).step (start_at (cell 0 0))
+    (start_at (cell 2 0))
     (start_at (cell 2 2))
     ≡ Some (record { a = 2; b = 0 })
 on_by_cell = refl
 
--- on `.../.@./.../@@.` the cell (2,2) is come to from (0,2) and from (2,0): two states by arrival, by cell one, to
--- which both offer the same cost
+-- on `.../.@./.../@@.` the cell (2,2) is come to from (0,2) and from (2,0): two states by arrival, by cell
+-- one, to which both offer the same cost
 abbrev two_ways : GridData
 two_ways = grid_of 3 4 (codes "....@....@@.") Never
 

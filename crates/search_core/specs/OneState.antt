@@ -1,5 +1,5 @@
--- With one state for each cell the run of jumps is one of the searches of one_state: by the octile estimate, with
--- first stops alone; among equal sums the least cell number decides, among equal offers the first.
+-- With one state for each cell the run of jumps is one of the searches of one_state: by the octile estimate,
+-- with first stops alone; among equal sums the least cell number decides, among equal offers the first.
 use Rattle.std.specs.Prelude.{◌≡◌, List, map, reverse, MatchOption}
 use Rattle.root2_cost.specs.declared.Cost.{Cost}
 use Rattle.grid_moves.specs.declared.Cell.{Cell}

@@ -18,15 +18,15 @@ pub fn runs_are_right()
     ensures { RunsAreRight }
 {}
 
-/// With one state for each cell the jump engines' run is one of the searches of one_state, at its end: the answer
-/// shows what was taken, in order; a walk that it tells has the cost at which the goal was taken; and where it
-/// tells none, the goal was not taken and nothing is offered.
+/// With one state for each cell the jump engines' run is one of the searches of one_state, at its end: the
+/// answer shows what was taken, in order; a walk that it tells has the cost at which the goal was taken; and
+/// where it tells none, the goal was not taken and nothing is offered.
 pub fn runs_by_cell_are_such()
     ensures { RunsByCellAreSuch }
 {}
 
-/// By either rule of states the octile estimate suits the run of the jump engines, so that its sums never fall
-/// and no taken state is offered at less (`search_run::laws::taken_are_not_bettered`).
+/// By either rule of states the octile estimate suits the run of the jump engines, so that its sums never
+/// fall and no taken state is offered at less (`search_run::laws::taken_are_not_bettered`).
 pub fn estimate_suits()
     ensures { EstimateSuits }
 {}

@@ -9,7 +9,8 @@
 //! A* after Hart, Nilsson and Raphael (1968) over the jump points of Harabor and Grastien (AAAI 2011);
 //! the order of ties is this project's. The machine under it is `best_first`.
 
-ghost use Rattle.std.specs.Prelude.{◌≡◌, ◌+◌, ◌*◌, ◌<◌, [], false, length, IfOk, IfSome, IfNone, IsSome, OnOk, slice_get, Some};
+ghost use Rattle.std.specs.Prelude.{◌≡◌, ◌+◌, ◌*◌, ◌<◌, [], false, length, IfOk, IfSome, IfNone, IsSome};
+ghost use Rattle.std.specs.Prelude.{OnOk, slice_get, Some};
 ghost use Rattle.grid_moves.specs.Grid.{GridData};
 ghost use Rattle.grid_moves.specs.Move.{is_same};
 ghost use Rattle.best_first.specs.State.{state_number, state_of_place};
@@ -222,7 +223,8 @@ pub fn search_in<J: JumpSource, L: Ledger>(
     requires places { OnEach (J.StandsFor j.now) from to (λ g. HasPlaces g space.old) }
     ensures run { IfOk result (λ f. OnEach (J.StandsFor j.now) from to
         (λ g. IsJumpRun space.old.layout g from to f)) }
-    ensures least { IfOk result (λ f. OnEach (J.StandsFor j.now) from to (λ g. IsLeastOrNone g from to f.walk)) }
+    ensures least { IfOk result
+        (λ f. OnEach (J.StandsFor j.now) from to (λ g. IsLeastOrNone g from to f.walk)) }
     ensures most { IfOk result (λ f. IsWithinTaken (J.most j.now) f steps.old steps.new) }
     ensures fewest { IfOk result (λ f. RoseByTaken (J.fewest j.now).allowed f steps.old steps.new) }
     ensures layout { space.new.layout ≡ space.old.layout }
@@ -258,7 +260,8 @@ pub fn search<J: JumpSource, L: Ledger>(
 ) -> Result<Found, NoMemory>
     requires { OnSome (J.StandsFor j.now) from to }
     ensures run { IfOk result (λ f. OnEach (J.StandsFor j.now) from to (λ g. IsJumpRun layout g from to f)) }
-    ensures least { IfOk result (λ f. OnEach (J.StandsFor j.now) from to (λ g. IsLeastOrNone g from to f.walk)) }
+    ensures least { IfOk result
+        (λ f. OnEach (J.StandsFor j.now) from to (λ g. IsLeastOrNone g from to f.walk)) }
     ensures most { IfOk result (λ f. IsWithinTaken (J.most j.now) f steps.old steps.new) }
     ensures fewest { IfOk result (λ f. RoseByTaken (J.fewest j.now).allowed f steps.old steps.new) }
 {

@@ -128,7 +128,8 @@ module _ {S : Type 0} (r : Rule S) (fit : IsConsistent r) where
 
     -- what waits after x was taken waited before, or x offers it
     waited : (s : S) (o : Offer S) → Waits r (x ∷ earlier) s o
-        → Waits r earlier s o ⊎ ((c : Cost) × (r.link x.parent x.state s ≡ Some c) × (o.cost ≡ add_costs x.cost c))
+        → Waits r earlier s o
+        ⊎ ((c : Cost) × (r.link x.parent x.state s ≡ Some c) × (o.cost ≡ add_costs x.cost c))
     waited s o w = elim (lesser-one (least_offer r earlier s) (offer r x s) o w.offered) [
       | inl e ↦ inl (record {
         untaken = (or_parts (r.is_same x.state s) (is_taken r earlier s) w.untaken).1;
@@ -180,7 +181,8 @@ module _ {S : Type 0} (r : Rule S) (fit : IsConsistent r) where
             })
 
     -- over a link from x itself
-    known_from : IsTakenNext → (v : S) (c : Cost) → r.is_goal x.state ≡ false → r.link x.parent x.state v ≡ Some c
+    known_from : IsTakenNext → (v : S) (c : Cost) → r.is_goal x.state ≡ false
+        → r.link x.parent x.state v ≡ Some c
         → IsKnown r (x ∷ earlier) v (add_costs x.cost c)
     known_from n v c g l = by_test (is_taken r (x ∷ earlier) v) refl
       where

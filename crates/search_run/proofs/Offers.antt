@@ -60,7 +60,8 @@ pub offer-made : {S : Type 0} (r : Rule S) (u : Taken S) (s : S) (o : Offer S) �
     → IsOffered r u s o
 offer-made {S} r u s o h = by_goal (r.is_goal u.state) refl h
   where
-    by_link : (l : Option Cost) → r.link u.parent u.state s ≡ l → r.is_goal u.state ≡ false → offer_by u l ≡ Some o
+    by_link : (l : Option Cost) → r.link u.parent u.state s ≡ l → r.is_goal u.state ≡ false
+        → offer_by u l ≡ Some o
         → IsOffered r u s o
     by_link None e g h = absurd (cc)
     by_link (Some c) e g h = record {
@@ -81,5 +82,6 @@ offer-made {S} r u s o h = by_goal (r.is_goal u.state) refl h
     by_goal false g h = by_link (r.link u.parent u.state s) refl g h
 
 pub offer-over : {S : Type 0} (r : Rule S) (u : Taken S) (s : S) (c : Cost) → r.is_goal u.state ≡ false
-    → r.link u.parent u.state s ≡ Some c → offer r u s ≡ Some (record { cost = add_costs u.cost c; from = u.state })
+    → r.link u.parent u.state s ≡ Some c → offer r u s
+    ≡ Some (record { cost = add_costs u.cost c; from = u.state })
 offer-over r u s c g l = rw (g, l) refl

@@ -83,11 +83,13 @@ module _ {S : Type 0} (r : Rule S) where
   -- so the parent's offers stand
   pub parent_offers : (start : S) (x y : Taken S) (earlier : List (Taken S)) (v : S) (b c d : Cost)
       → IsRun r start (x ∷ y ∷ earlier) → ((p : S) → r.link p x.parent x.state ≡ Some b)
-      → ((p : S) → r.link p x.parent v ≡ Some c) → r.link x.parent x.state v ≡ Some d → IsAtMost c (add_costs b d)
+      → ((p : S) → r.link p x.parent v ≡ Some c) → r.link x.parent x.state v ≡ Some d
+      → IsAtMost c (add_costs b d)
       → least_offer r (x ∷ y ∷ earlier) v ≡ least_offer r (y ∷ earlier) v
   parent_offers start x y earlier v b c d is lb lc ld most =
       let p = parent_of start x y earlier b is lb in
-      later_offer (y ∷ earlier) x p.by v c d p.member p.open_ended (ap (λ (s : S). r.link p.by.parent s v) p.state ∙ lc p.by.parent)
+      later_offer (y ∷ earlier) x p.by v c d p.member p.open_ended
+      (ap (λ (s : S). r.link p.by.parent s v) p.state ∙ lc p.by.parent)
       ld (Most-then (Most-add_left p.by.cost c (add_costs b d) (record { is = most }))
       (Most-then (Most-same (sym (add_costs-assoc p.by.cost b d)))
       (Most-same (ap (λ (z : Cost). add_costs z d) (sym p.total)))))

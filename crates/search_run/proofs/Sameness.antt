@@ -64,7 +64,8 @@ module _ {S : Type 0} (r : Rule S) (tell : NumbersTellStates r) where
       (tie_false (sum_at r y.state y.cost) (sum_at r x.state x.cost) _ (sym sums) a.1) in
       let fx = least_offer-from r earlier x.state (record { cost = x.cost; from = x.parent }) n.offered in
       let fy = least_offer-from r earlier y.state (record { cost = y.cost; from = y.parent }) m.offered in
-      let state : x.state ≡ y.state = tell.apart fx.by.parent fy.by.parent fx.by.state fy.by.state x.state y.state fx.offered.step
+      let state : x.state ≡ y.state = tell.apart fx.by.parent fy.by.parent fx.by.state fy.by.state x.state
+      y.state fx.offered.step
       fy.offered.step fx.offered.linked fy.offered.linked numbers in
       let offers = one_offer (record { cost = x.cost; from = x.parent })
       (record { cost = y.cost; from = y.parent })

@@ -8,7 +8,8 @@ use Rattle.search_run.specs.Run.{Rule}
 -- links lead from s to t, at this cost in all, whatever each state on the way was come to from
 pub data Chain {S : Type 0} (r : Rule S) : S → S → Cost → Type 0 where
   stays : (s : S) → Chain r s s no_cost
-  goes_on : (s v t : S) (c d : Cost) → ((p : S) → r.link p s v ≡ Some c) → Chain r v t d → Chain r s t (add_costs c d)
+  goes_on : (s v t : S) (c d : Cost) → ((p : S) → r.link p s v ≡ Some c) → Chain r v t d
+      → Chain r s t (add_costs c d)
 
 -- the estimate never falls by more than a link costs, and is nothing at a goal; one state is one state
 pub record IsConsistent {S : Type 0} (r : Rule S) : Type 0 where

@@ -53,7 +53,8 @@ abbrev pub ParentsOffersStand : Type 0 → Type 0
 ParentsOffersStand S =
     (r : Rule S) (start : S) (x y : Taken S) (earlier : List (Taken S)) (v : S) (b c d : Cost)
     → IsRun r start (x ∷ y ∷ earlier) → ((p : S) → r.link p x.parent x.state ≡ Some b)
-    → ((p : S) → r.link p x.parent v ≡ Some c) → r.link x.parent x.state v ≡ Some d → IsAtMost c (add_costs b d)
+    → ((p : S) → r.link p x.parent v ≡ Some c) → r.link x.parent x.state v ≡ Some d
+    → IsAtMost c (add_costs b d)
     → least_offer r (x ∷ y ∷ earlier) v ≡ least_offer r (y ∷ earlier) v
 
 -- two runs of one rule from one start that have ended are equal
@@ -62,8 +63,8 @@ EndedRunsAreOne S =
     (r : Rule S) → NumbersTellStates r → (start : S) (one other : List (Taken S)) → IsRun r start one
     → IsRun r start other → IsEnded r one → IsEnded r other → one ≡ other
 
--- where states are the same exactly if they are equal, and links lead to these alone, what is made of them is a
--- run that ends
+-- where states are the same exactly if they are equal, and links lead to these alone, what is made of them is
+-- a run that ends
 abbrev pub RunsAreMade : Type 0 → Type 0
 RunsAreMade S =
     (r : Rule S) → ((u v : S) → r.is_same u v ≡ true → u ≡ v) → ((s : S) → r.is_same s s ≡ true) → (start : S)

@@ -36,7 +36,8 @@ run_on r all (suc n) run =
 -- the run from the start that ends, where these are all states: none is taken twice, so it takes at most as
 -- many more as there are
 unfoldable pub run_of : {S : Type 0} → Rule S → List S → S → List (Taken S)
-run_of r all start = run_on r all (suc (length all)) (record { state = start; cost = no_cost; parent = start } ∷ [])
+run_of r all start = run_on r all (suc (length all))
+    (record { state = start; cost = no_cost; parent = start } ∷ [])
 
 -- a worked row: places 0 to 3 in a row, whose links go up and cost 1, and one from 0 to 2 that costs 3; the
 -- goal is 3. From 0 on 1 is taken, then 2 over 1, then 3.

@@ -69,8 +69,8 @@ sum_at r s c = add_costs c (r.estimate s)
 abbrev pub goes_before : {S : Type 0} → Rule S → S → Cost → S → Cost → Bool
 goes_before r s c t d =
     is_less (sum_at r s c) (sum_at r t d)
-    || (nat_eq (sum_at r s c).a (sum_at r t d).a && nat_eq (sum_at r s c).b (sum_at r t d).b && nat_lt
-    (r.number s) (r.number t))
+    || (nat_eq (sum_at r s c).a (sum_at r t d).a && nat_eq (sum_at r s c).b (sum_at r t d).b
+    && nat_lt (r.number s) (r.number t))
 
 -- x is taken next: it waits, at its least offer, and no state that waits goes before it
 pub record IsNext {S : Type 0} (r : Rule S) (earlier : List (Taken S)) (x : Taken S) : Type 0 where

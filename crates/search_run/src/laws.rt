@@ -3,7 +3,9 @@
 //! All but the last four ask that the estimate is consistent: over a link it falls by at most what
 //! the link costs, and at a goal it is nothing.
 
-ghost use Rattle.search_run.specs.Laws.{GoalsAreLeast, TakenAreLeast, LesserSumsAreTaken, EndedRunsMissNone, TakenAreNotBettered, ParentsOffersStand, EndedRunsAreOne, RunsAreMade, EndedRunsAreMade};
+ghost use Rattle.search_run.specs.Laws.{GoalsAreLeast, TakenAreLeast, LesserSumsAreTaken, EndedRunsMissNone};
+ghost use Rattle.search_run.specs.Laws.{TakenAreNotBettered, ParentsOffersStand, EndedRunsAreOne};
+ghost use Rattle.search_run.specs.Laws.{RunsAreMade, EndedRunsAreMade};
 
 /// A goal is taken at a cost that no chain of links to a goal undercuts.
 pub fn goals_are_least<S>()

@@ -32,7 +32,8 @@ pub cell_left : (cells done : ℕ) (left : List ℤ) → length left ≡ (cells 
 cell_left cells done left long h = omega arith
 
 -- one more is written
-pub put_on : {old : List ℕ} {cells : ℕ} {entries left : List ℤ} {done : ℕ} {out : List ℕ} (cell others : List ℤ)
+pub put_on : {old : List ℕ} {cells : ℕ} {entries left : List ℤ} {done : ℕ} {out : List ℕ}
+    (cell others : List ℤ)
     (bytes new : List ℕ)
     → ArePut old cells entries left done out → done < cells → cell ≡ take 8 left → others ≡ drop 8 left
     → bytes ≡ flat_map entry_bytes cell → new ≡ out ++ bytes → ArePut old cells entries others (done + 1) new

@@ -1,12 +1,15 @@
 //! Reading table files.
 
-ghost use Rattle.std.specs.Prelude.{◌≡◌, ◌≢◌, ◌+◌, ◌*◌, ◌<◌, ◌≤◌, IfErr, IfOk, None, OnOk, Some, [], ◌∷◌, bytes_eq, drop, length, option_map, slice_index, take, if◌then◌else◌};
+ghost use Rattle.std.specs.Prelude.{◌≡◌, ◌≢◌, ◌+◌, ◌*◌, ◌<◌, ◌≤◌, IfErr, IfOk, None, OnOk, Some, [], ◌∷◌};
+ghost use Rattle.std.specs.Prelude.{bytes_eq, drop, length, option_map, slice_index, take, if◌then◌else◌};
 ghost use Rattle.grid_moves.specs.Grid.{AreSides, GridData, is_ground};
 ghost use Rattle.grid_moves.specs.declared.Ground.TheVariants.{Water};
 ghost use Rattle.plus_tables.specs.Tables.{AreTablesOf};
 ghost use Rattle.table_file.specs.declared.fault.TableFault.TheVariants.{NoMemory};
-ghost use Rattle.table_file.specs.Encoding.{AreOfOneMap, encoding, entry_for, entry_bytes as entry_spec, head_bytes as head_spec};
-ghost use Rattle.table_file.specs.Faults.{Differs, Tells, entry_fault, first_wrong, frame_fault, table_fault_of};
+ghost use Rattle.table_file.specs.Encoding.{AreOfOneMap, encoding, entry_for, entry_bytes as entry_spec};
+ghost use Rattle.table_file.specs.Encoding.{head_bytes as head_spec};
+ghost use Rattle.table_file.specs.Faults.{Differs, Tells, entry_fault, first_wrong, frame_fault};
+ghost use Rattle.table_file.specs.Faults.{table_fault_of};
 ghost use Rattle.table_file.specs.Order.{cells_from, spots_on};
 ghost use Rattle.table_file.specs.Reading as spec;
 

@@ -1,7 +1,6 @@
 -- Walks back that keep abreast: one of them goes on or ends, and what they change adds up.
-use Rattle.std.proofs.Common.{◌≡◌, ℕ, zero, suc, ◌+◌, ◌≤◌, ◌⊎◌, inl, inr, arith, Bool, true, false, refl}
-use Rattle.std.proofs.Common.{sym, ◌∙◌}
-use Rattle.std.proofs.Common.{◌||◌, List, [], ◌∷◌, ◌++◌, length}
+use Rattle.std.proofs.Common.{◌≡◌, ℕ, zero, suc, ◌+◌, ◌≤◌, ◌⊎◌, inl, inr, arith, Bool, true, false, refl, sym}
+use Rattle.std.proofs.Common.{◌∙◌, ◌||◌, List, [], ◌∷◌, ◌++◌, length}
 use Rattle.std.specs.Prelude.{Option, Some, None, option_and_then}
 use Rattle.std.specs.Option.{option_to_list}
 use Rattle.std.proofs.lemmas.Bool.{or_parts, or_left, or_right, or_from, or_cases}
@@ -177,7 +176,8 @@ module _ {h : GridData} {d : Dir} (v : Cell) {old new : TablesData} (walks : Lis
           (is_at_one (option_to_list on) w) (later w) (at_both walks (option_to_list on) w) k
 
   pub step_on : {more : List WalkBack} {m : ℕ} → more ≡ walks ++ option_to_list on
-      → length (option_to_list on) ≡ m → KeepAbreast h d (either (is_at_one walks) (λ w. is_same w v)) old new more no_cell m
+      → length (option_to_list on) ≡ m
+      → KeepAbreast h d (either (is_at_one walks) (λ w. is_same w v)) old new more no_cell m
   step_on e f = rw (e, ← f) stepped
 
   -- where it stands then

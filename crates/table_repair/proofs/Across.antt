@@ -112,7 +112,8 @@ module _ (d : Dir) (line place : ℕ) (places : Span) {v : Cell} (is : v ≡ cel
 -- past the last place none is left
 pub none_after : (d : Dir) (line place : ℕ) (places : Span) (w : Cell) → places.end ≤ place
     → is_on_line d line (from_place place places) w ≡ false
-none_after d line place places w past = false_from_ne_true (is_on_line d line (from_place place places) w) (λ i.
+none_after d line place places w past = false_from_ne_true
+    (is_on_line d line (from_place place places) w) (λ i.
     let p = on_parts d line (from_place place places) w i in
     let q = among_parts (from_place place places) (place_of d w) p.1 in
     let l = q.0 in let m = q.1 in omega arith)

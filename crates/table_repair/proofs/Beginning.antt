@@ -24,8 +24,7 @@ use Rattle.table_repair.specs.Mending.{IsRight, AreRight, FollowBut, IsMended, M
 use Rattle.table_repair.specs.Mending.{is_in_reach, span_beside}
 use Rattle.table_repair.proofs.Alike.{changes_spread_back}
 use Rattle.table_repair.proofs.Lines.{after_moved}
-use Rattle.table_repair.proofs.Walking.{walk_short}
-use Rattle.table_repair.proofs.Walking.{true_false}
+use Rattle.table_repair.proofs.Walking.{walk_short, true_false}
 use Rattle.table_repair.proofs.Reach.{block_reached, line_reached, block_inside}
 
 -- where no cell of the map lies ahead the entry is 0

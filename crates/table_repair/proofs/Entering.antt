@@ -1,7 +1,6 @@
 -- A block is swept line by line: in each line walks begin beside those that have come to it.
 use Rattle.std.proofs.lemmas.Bool.Decides.{nat_tests}
-use Rattle.std.proofs.Common.{◌≡◌, ℕ, suc, ◌+◌, ◌<◌, ◌≤◌, inl, inr, arith, Bool, true, false}
-use Rattle.std.proofs.Common.{◌||◌, List, []}
+use Rattle.std.proofs.Common.{◌≡◌, ℕ, suc, ◌+◌, ◌<◌, ◌≤◌, inl, inr, arith, Bool, true, false, ◌||◌, List, []}
 use Rattle.std.specs.Prelude.{Some, ◌&&◌}
 use Rattle.std.proofs.lemmas.Bool.{or_left, or_right, or_from, false_from_ne_true, or_cases}
 use Rattle.grid_moves.specs.declared.Cell.{Cell}
@@ -16,8 +15,7 @@ use Rattle.table_repair.specs.declared.walks.WalkBack.{WalkBack}
 use Rattle.table_repair.specs.Abreast.{is_at_one, no_cell, IsBehindOne, KeepAbreast}
 use Rattle.table_repair.specs.Lines.{line_of, place_of, cell_on, lines_of, places_of, lines_rise}
 use Rattle.table_repair.specs.Lines.{is_on_line, is_across}
-use Rattle.table_repair.specs.Mending.{IsRight, CanSweep, either, is_among}
-use Rattle.table_repair.specs.Mending.{cell_after}
+use Rattle.table_repair.specs.Mending.{IsRight, CanSweep, either, is_among, cell_after}
 use Rattle.table_repair.proofs.Abreast.{enter_next}
 use Rattle.table_repair.proofs.Across.{on_map, on_parts, line_of_block, line_or_rest, from_place, cell_there}
 use Rattle.table_repair.proofs.Across.{place_or_rest}

@@ -12,8 +12,7 @@ use Rattle.plus_tables.specs.Tables.{TablesData}
 use Rattle.table_repair.specs.declared.walks.WalkBack.{WalkBack}
 use Rattle.table_repair.specs.Abreast.{AreStanding, is_at_one, IsOnward, LedOn, room_of}
 use Rattle.table_repair.specs.Mending.{IsRight, Mends, FollowBut, either}
-use Rattle.table_repair.proofs.Rounds.{Round, round_begins, round_next, some_on, none_on, stood}
-use Rattle.table_repair.proofs.Rounds.{right_now}
+use Rattle.table_repair.proofs.Rounds.{Round, round_begins, round_next, some_on, none_on, stood, right_now}
 use Rattle.table_repair.proofs.Abreast.{left_less, stand_still}
 
 -- the first ones of the list are the walks that went on, and behind the first i it is as it was

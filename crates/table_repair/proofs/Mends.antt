@@ -6,8 +6,7 @@ use Rattle.grid_moves.specs.declared.Dir.{Dir}
 use Rattle.grid_moves.specs.Grid.{GridData, is_inside}
 use Rattle.pruning.specs.Turns.{turn}
 use Rattle.plus_tables.specs.Tables.{TablesData, AreSized, is_on}
-use Rattle.table_repair.specs.Mending.{IsRight, AreRight, AreReady, IsMended, Mends}
-use Rattle.table_repair.specs.Mending.{FollowBut}
+use Rattle.table_repair.specs.Mending.{IsRight, AreRight, AreReady, IsMended, Mends, FollowBut}
 
 pub on_inside : (t : TablesData) (h : GridData) → AreSized t h → (u : Cell) → is_inside h u ≡ true
     → is_on t u ≡ true

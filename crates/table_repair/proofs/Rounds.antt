@@ -1,8 +1,7 @@
 -- Rounds of walks back: in each, every walk goes one move on or ends.
 use Rattle.std.proofs.lemmas.Bool.Decides.{nat_tests}
 use Rattle.std.proofs.Common.{◌≡◌, ℕ, zero, suc, ◌+◌, ◌-◌, ◌*◌, ◌<◌, ◌≤◌, inl, inr, arith, Bool, true, false}
-use Rattle.std.proofs.Common.{refl, sym, ◌∙◌, ◌||◌, List, [], ◌∷◌, ◌++◌, length, length-append}
-use Rattle.std.proofs.Common.{get_or, drop}
+use Rattle.std.proofs.Common.{refl, sym, ◌∙◌, ◌||◌, List, [], ◌∷◌, ◌++◌, length, length-append, get_or, drop}
 use Rattle.std.proofs.lemmas.List.{append-nil, drop_more}
 use Rattle.std.specs.Prelude.{Option, Some, None, if◌then◌else◌}
 use Rattle.std.specs.Option.{option_to_list}
@@ -16,13 +15,11 @@ use Rattle.grid_moves.proofs.Places.{inside_is}
 use Rattle.plus_tables.specs.Tables.{TablesData}
 use Rattle.table_repair.specs.declared.walks.WalkBack.{WalkBack}
 use Rattle.table_repair.specs.Abreast.{AreStanding, is_at_one, no_cell, IsBehindOne, IsOnward, KeepAbreast}
-use Rattle.table_repair.specs.Abreast.{back_room}
-use Rattle.table_repair.specs.Abreast.{room_of}
+use Rattle.table_repair.specs.Abreast.{back_room, room_of}
 use Rattle.table_repair.specs.Mending.{IsRight, Mends, FollowBut, either}
 use Rattle.table_repair.specs.Lines.{lines_rise}
 use Rattle.table_repair.proofs.Abreast.{abreast_then, at_first, at_others, enter_next, enter_none}
-use Rattle.table_repair.proofs.Abreast.{stand_still}
-use Rattle.table_repair.proofs.Abreast.{step_on, step_behind}
+use Rattle.table_repair.proofs.Abreast.{stand_still, step_on, step_behind}
 use Rattle.table_repair.proofs.Across.{line_inside, lines_few}
 use Rattle.table_repair.proofs.Mends.{right_stays}
 use Rattle.pruning.proofs.Running.{ahead_moved}

@@ -23,8 +23,7 @@ use Rattle.table_repair.specs.Counted.{places_differing}
 use Rattle.table_repair.specs.Mending.{IsRight, AreBesideRight, AreReady, IsMended, Mends, FollowBut, either}
 use Rattle.table_repair.specs.Mending.{cell_after, behind_on}
 use Rattle.table_repair.proofs.Counting.{entry-with, entry-with_other, count-with, with_itself}
-use Rattle.table_repair.proofs.Lines.{behind_on-is, behind_on-from, one_behind, after_before}
-use Rattle.table_repair.proofs.Lines.{after_moved}
+use Rattle.table_repair.proofs.Lines.{behind_on-is, behind_on-from, one_behind, after_before, after_moved}
 use Rattle.table_repair.proofs.Mends.{on_inside}
 
 -- what waits for this cell, and for those that wait later

@@ -6,7 +6,7 @@ use Rattle.grid_moves.specs.declared.Cell.{Cell}
 use Rattle.grid_moves.specs.declared.Dir.{Dir}
 use Rattle.grid_moves.specs.declared.Dir.TheVariants.{NE, E, SE, S, SW}
 use Rattle.grid_moves.specs.Grid.{GridData, IsGrid, is_inside}
-use Rattle.grid_moves.specs.Move.{ahead, behind, is_dir}
+use Rattle.grid_moves.specs.Move.{ahead, is_dir, opposite}
 use Rattle.pruning.specs.declared.turns.Side.{Side}
 use Rattle.pruning.specs.Turns.{turn, is_diagonal}
 use Rattle.plus_tables.specs.Entry.{table_entry}
@@ -40,7 +40,8 @@ cell_after d (suc k) u = option_and_then (λ v. cell_after d k v) (ahead d u)
 
 -- the cell behind, if it lies on the map
 abbrev pub behind_on : GridData → Dir → Cell → Option Cell
-behind_on h d v = option_and_then (λ u. if is_inside h u then Some u else None) (behind d v)
+behind_on h d v = option_and_then (λ u. if is_inside h u then Some u else None)
+    (ahead (opposite d) v)
 
 -- an entry for d is right where the one at the next cell is, or where there is none, unless it waits to be
 -- looked at: where its next cell is one of those that this test tells

@@ -5,9 +5,8 @@ ghost use Rattle.grid_moves.specs.declared.Dir.{Dir};
 ghost use Rattle.pruning.specs.Turns.{is_diagonal};
 ghost use Rattle.table_repair.specs.Mending as spec;
 ghost use Rattle.table_repair.specs.Mending.{AreReady, AreRight, AreSound, FollowBut, IsBlock, Mends};
-ghost use Rattle.table_repair.specs.Mending.{MendsKind};
-ghost use Rattle.table_repair.specs.Mending.{any_cell, is_in, is_in_reach, is_listed, is_straight};
-ghost use Rattle.table_repair.specs.Mending.{span_length};
+ghost use Rattle.table_repair.specs.Mending.{MendsKind, any_cell, is_in};
+ghost use Rattle.table_repair.specs.Mending.{is_in_reach, is_listed, is_straight, span_length};
 
 use crate::span::{Span, span_next, widened};
 use crate::sweep::{goes_down, goes_right, sweep};

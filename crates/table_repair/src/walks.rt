@@ -204,8 +204,8 @@ fn make_room<L: Ledger>(
     }
 }
 
-/// Lets one walk more begin, at a cell whose entry is right, and leads it one move back. Adds to the number of
-/// changed entries how many changed.
+/// Lets one walk more begin, at a cell whose entry is right, and leads it one move back. Adds to the number
+/// of changed entries how many changed.
 #[inline(always)]
 pub fn begin<L: Ledger>(
     tables: &mut Tables,

@@ -95,6 +95,27 @@ walk 0 0 1,1\n";
     Ok(())
 }
 
+// On the map `...../.@@@./.....` one of the doors at the borders is closed, then both, and one is opened.
+#[test]
+fn what_closed_doors_leave(rt: HostRuntime) -> Result<(), Fail> {
+    let map = b"type octile\nheight 3\nwidth 5\nmap\n.....\n.@@@.\n.....\n";
+    let text =
+        b"block 0 1\nquery 0 0 0 2\nnear 0 0 0 1\nblock 4 1\nquery 0 0 0 2\nnear 0 0 0 2\nfree 0 1\n\
+query 0 0 0 2\n";
+    let answers: [&[u8]; 2] = [
+        b"ok\nwalk 10 0 0,0 1,0 2,0 3,0 4,0 4,1 4,2 3,2 2,2 1,2 0,2\nwalk 0 0 0,0\nok\nnone\n\
+walk 0 0 0,0\nok\nwalk 2 0 0,0 0,1 0,2\n",
+        b"ok\nwalk 6 2 0,0 1,0 2,0 3,0 4,1 3,2 2,2 1,2 0,2\nwalk 0 0 0,0\nok\nnone\n\
+walk 0 0 0,0\nok\nwalk 2 0 0,0 0,1 0,2\n",
+    ];
+    for i in 0..3 {
+        let corner = RULES[i];
+        let told = if i == 0 { answers[0] } else { answers[1] };
+        check(rt.alloc(), &rt, Talk { map, corner, text }, told)?;
+    }
+    Ok(())
+}
+
 // On the map `../@.` a corner is cut or not, and where the upper right cell is blocked too, the ends of the
 // diagonal are joined under the third rule alone.
 #[test]
@@ -211,4 +232,57 @@ fn check_failing<L: Ledger>(alloc: Global, rt: &impl Abort, blank: Blank) -> Res
 #[test]
 fn a_failed_write_stops_the_answers(rt: HostRuntime) -> Result<(), Fail> {
     check_failing::<Brand>(rt.alloc(), &rt, Blank::new(1))
+}
+
+// This line, so many times in one piece, has answers of so many bytes in the first write; a second write fails,
+// if there is one.
+fn check_first_write<L: Ledger>(
+    alloc: Global,
+    rt: &impl Abort,
+    talk: Talk<'_>,
+    times: usize,
+    bytes: usize,
+    is_all: bool,
+    blank: Blank,
+) -> Result<(), Fail>
+    requires name { blank.name ≡ L.name }
+    requires parts { blank.parts ≡ L.parts }
+    requires some { 0 < L.parts }
+{
+    let mut steps = Steps::<L>::new(blank);
+    let mut server = server_on(alloc, rt, talk, Engine::Plain)?;
+    let mut piece = Vec::new(alloc);
+    for _ in 0..times {
+        piece.extend_from_slice(talk.text)?;
+    }
+    let mut out = MemSink::new(alloc, 70_000, 70_000, vec![in alloc; 2]?)?;
+    let fed = server.feed(alloc, piece.as_slice(), &mut out, &mut steps);
+    assert_eq!(rt; fed.is_ok(), is_all, "{times} lines");
+    assert_eq!(rt; out.bytes().len(), bytes, "{times} lines");
+    Ok(())
+}
+
+// 200 answers `walk 0 0 0,0` are one write. On a row of 40 cells an answer to `costs` has 201 bytes, 11 of them
+// in its first line: 326 of them have 65,526 bytes, and one more is more than 64 KiB.
+#[test]
+fn answers_to_a_piece_are_one_write_up_to_64_kib(rt: HostRuntime) -> Result<(), Fail> {
+    let alloc = rt.alloc();
+    let walks = Talk {
+        map: ONE,
+        corner: Corner::Never,
+        text: b"query 0 0 0 0\n",
+    };
+    let costs = Talk {
+        map: b"type octile\nheight 1\nwidth 40\nmap\n........................................\n",
+        corner: Corner::Never,
+        text: b"costs 0 0\n",
+    };
+    for (talk, times, bytes, is_all) in [
+        (walks, 200, 2600, true),
+        (costs, 326, 65_526, true),
+        (costs, 327, 65_526, false),
+    ] {
+        check_first_write::<Brand>(alloc, &rt, talk, times, bytes, is_all, Blank::new(1))?;
+    }
+    Ok(())
 }

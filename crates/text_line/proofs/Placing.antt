@@ -4,14 +4,12 @@ use Rattle.std.proofs.Common.{get_or, take, drop, Some, None, refl, sym, ap, ◌
 use Rattle.std.specs.Prelude.{filter, map, position}
 use Rattle.std.specs.List.{slice_split, onto_first}
 use Rattle.std.proofs.lemmas.Bool.{cases_Bool, not-false}
-use Rattle.std.proofs.lemmas.List.{drop_all, take_all, get_or-drop, length-drop}
-use Rattle.std.proofs.lemmas.List.{length-take-le}
+use Rattle.std.proofs.lemmas.List.{drop_all, take_all, get_or-drop, length-drop, length-take-le}
 use Rattle.std.proofs.Math.Seq.{drop-cons}
 use Rattle.std.proofs.lemmas.List.Quantifiers.{position-Some}
 use Rattle.text_line.specs.Lines.{pieces_of, without_cr}
 use Rattle.text_line.specs.Fields.{is_blank_byte, is_something, fields_of}
-use Rattle.text_line.specs.Places.{Placed, placed_from, fields_from, lines_from, room_of}
-use Rattle.text_line.specs.Places.{IsFirstField}
+use Rattle.text_line.specs.Places.{Placed, placed_from, fields_from, lines_from, room_of, IsFirstField}
 use Rattle.text_line.specs.declared.lines.Line.{Line}
 use Rattle.text_line.specs.Left.{Left, GivesNext}
 use Rattle.text_line.proofs.Parts.{position-None, is_filled, parts_of_cut, parts_of_one}
@@ -109,8 +107,7 @@ fields_from_one place [] some none = absurd (omega arith)
 fields_from_one place (b ∷ bytes) some none =
     rw (
       take_all (length (b ∷ bytes)) (b ∷ bytes) (omega arith),
-      drop_all (length (b ∷ bytes)) (b ∷ bytes)
-          (omega arith),
+      drop_all (length (b ∷ bytes)) (b ∷ bytes) (omega arith),
     ) (ap (λ (all : List (List ℕ)). filter (λ field. is_something field.bytes)
     (placed_from place all)) (parts_of_one (b ∷ bytes) (position-None is_blank_byte (b ∷ bytes) none)))
 

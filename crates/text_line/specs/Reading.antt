@@ -26,7 +26,8 @@ Tells memory view (Err fault) read = fault ≢ memory → read ≡ Err fault
 
 -- what a reader promises of its answer for a text, given what the text spells, how it breaks its grammar
 -- first, and what it is read as
-pub record IsRightReading {A V F : Type 0} (memory : F) (view : A → V) (Spells : V → Type 0) (Breaks : F → Type 0)
+pub record IsRightReading {A V F : Type 0} (memory : F) (view : A → V) (Spells : V → Type 0)
+    (Breaks : F → Type 0)
     (read : Result V F) (answer : Result A F) : Type 0 where
   -- what is read is spelled so
   pub found : IfOk answer (λ value. Spells (view value))

@@ -40,7 +40,8 @@ module _ (g : GridData) (s t : Cell) where
     right_judged None none = absurd (none right.cells right.walk)
     right_judged (Some least) known = by_cost (is_same_cost least paid) refl
       where
-        by_cost : (b : Bool) → is_same_cost least paid ≡ b → IsHow (if b then Least paid else Longer paid least)
+        by_cost : (b : Bool) → is_same_cost least paid ≡ b
+            → IsHow (if b then Least paid else Longer paid least)
         by_cost true same =
             (right, subst (λ (c : Cost). IsLeastCost g s t c) (is_same_cost-tells least paid same) known)
         by_cost false other = (right, known, λ e. other_cost paid least other e)

@@ -31,7 +31,8 @@ IsJudgement g s t _ _ = ⊥
 abbrev pub judged_by : Result Cost ℕ → Option Cost → Judged
 judged_by (Err i) least = judged.BadWalk i
 judged_by (Ok paid) None = judged.Least paid
-judged_by (Ok paid) (Some least) = if is_same_cost least paid then judged.Least paid else judged.Longer paid least
+judged_by (Ok paid) (Some least) = if is_same_cost least paid then judged.Least paid
+    else judged.Longer paid least
 
 -- how what is claimed of the walks from s to t is judged, by the least cost, none where no walk exists
 abbrev pub judgement_of : GridData → Cell → Cell → Claimed → Option Cost → Judged

@@ -5,7 +5,8 @@ ghost use Rattle.text_line.specs.Reading.{IsRightReading};
 ghost use Rattle.walk_judge.specs.declared.fault.WalkFault.TheVariants.{NoMemory};
 ghost use Rattle.walk_judge.specs.declared.claims.Claimed.{Claimed};
 ghost use Rattle.walk_judge.specs.Claims.{IsFit};
-ghost use Rattle.walk_judge.specs.Walks.{at_line, BreaksFirst, Spells, Tells, TellsLine, place_read, walks_of};
+ghost use Rattle.walk_judge.specs.Walks.{at_line, BreaksFirst, Spells, Tells, TellsLine, place_read};
+ghost use Rattle.walk_judge.specs.Walks.{walks_of};
 
 use crate::claims::Claimed;
 use crate::fault::WalkFault;

@@ -1,7 +1,7 @@
 -- A call and a bad word, from what the steps of the reading say.
 use Rattle.std.proofs.lemmas.Bool.Decides.{nat_tests}
-use Rattle.std.proofs.Common.{◌≡◌, ℕ, suc, ◌+◌, ◌<◌, ◌≤◌, Bool, true, false, List, [], ◌∷◌, length, take, drop}
-use Rattle.std.proofs.Common.{refl, sym, ap, ◌∙◌, subst, add-one, ◌⊎◌, inl, inr, arith}
+use Rattle.std.proofs.Common.{◌≡◌, ℕ, suc, ◌+◌, ◌<◌, ◌≤◌, Bool, true, false, List, [], ◌∷◌, length, take}
+use Rattle.std.proofs.Common.{drop, refl, sym, ap, ◌∙◌, subst, add-one, ◌⊎◌, inl, inr, arith}
 use Rattle.std.specs.Prelude.{codes, Option, Some, None, Result, Ok, Err, MatchResult, IsOkAnd, IsErrAnd}
 use Rattle.std.specs.Prelude.{if◌then◌else◌, option_and_then}
 use Rattle.std.proofs.Math.Seq.{take-length}
@@ -51,7 +51,8 @@ sound_by engine words {tables} {set} named same complete =
     ∙ ap (λ (s : Settings). can_load (tables_of words) s) same ∙ loads engine words complete
 
 -- the same words and the same table file ask for the same
-pub asks_same : {command : Command} {words same : List (List ℕ)} {tables named : Option (List ℕ)} → words ≡ same
+pub asks_same : {command : Command} {words same : List (List ℕ)}
+    {tables named : Option (List ℕ)} → words ≡ same
     → tables ≡ named → ◌≡◌ {A = Asked} (record { command = command; words = words; tables = tables })
     (record { command = command; words = same; tables = named })
 asks_same is also = rw (is, also) refl
@@ -67,7 +68,8 @@ module _ (name : List ℕ) (words : List (List ℕ)) (row : Row) (is_row : row_o
   goes_on more = grind arith
 
   names : (count : ℕ) → fits engine row.takes row.allows words ≡ false
-      → EndsAfter (fits engine row.takes row.allows) words count → IsBadWord is_call (name ∷ words) (count + 2)
+      → EndsAfter (fits engine row.takes row.allows) words count
+      → IsBadWord is_call (name ∷ words) (count + 2)
   names count refused ends = subst (IsBadWord is_call (name ∷ words)) {x = suc (suc count)} (omega arith)
       (record {
         refused = goes_on words ∙ refused;
@@ -104,7 +106,8 @@ module _ (name : List ℕ) (words : List (List ℕ)) (row : Row) (is_row : row_o
         (subst (λ (rest : List (List ℕ)). EndsAfter (are_settings engine row.allows) rest more) apart
         rest_settles.ends))
       where
-        wrong : (more < length rest) ⊎ (is_complete engine rest ≡ false) → are_settings engine row.allows rest ≡ false
+        wrong : (more < length rest) ⊎ (is_complete engine rest ≡ false)
+            → are_settings engine row.allows rest ≡ false
         wrong (inl below) = rest_settles.wrong below
         wrong (inr missing) = and_right _ (is_complete engine rest) missing
 
@@ -113,9 +116,11 @@ module _ (name : List ℕ) (words : List (List ℕ)) (row : Row) (is_row : row_o
         → settings ≡ settings_of engine rest → call_of (name ∷ words) ≡ Some (call_with request settings)
     calls all complete request settings is chosen =
         ap (λ (o : Option Row). option_and_then (λ r. if fits (engine_of r.command) r.takes r.allows words
-        then Some (call_with (asked_by r words) (settings_of (engine_of r.command) (drop (length r.takes) words))) else None) o) is_row
+        then Some (call_with (asked_by r words)
+        (settings_of (engine_of r.command) (drop (length r.takes) words))) else None) o) is_row
         ∙ ap (λ (b : Bool). if b
-        then Some (call_with (asked_by row words) (settings_of engine (drop (length row.takes) words))) else None)
+        then Some (call_with (asked_by row words)
+        (settings_of engine (drop (length row.takes) words))) else None)
         (refuses ∙ rest_settles.right all ∙ complete)
         ∙ ap (λ (r : Asked). Some (call_with r (settings_of engine (drop (length row.takes) words))))
         (sym (is ∙ asks_same (ap (λ (n : ℕ). take n words) exact) (ap tables_of apart)))

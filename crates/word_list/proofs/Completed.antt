@@ -1,4 +1,5 @@
--- Settings of which one is missing: where one is served by some engines alone, one of these can still be picked.
+-- Settings of which one is missing: where one is served by some engines alone,
+-- one of these can still be picked.
 use Rattle.std.proofs.lemmas.Bool.Decides.{nat_tests}
 use Rattle.std.proofs.Common.{◌≡◌, ℕ, Bool, true, false, not, ◌&&◌, ◌||◌, List, [], ◌∷◌, ◌++◌, append-nil}
 use Rattle.std.proofs.Common.{⊎_elim, inl, inr, ◌⊎◌, refl, ap, ◌∙◌, arith}
@@ -85,7 +86,8 @@ serves_one : (pick : Pick) (s : Option Setting) → are_clashing s (Some (settin
 serves_one pick None clear = refl
 serves_one pick (Some s) clear =
     not-false (is_served s pick) (or_parts (is_same (choice_of s) choice.Engine) (not (is_served s pick))
-    (or_parts (is_same (choice_of s) choice.Engine || not (is_served s pick)) (excludes (setting.Engine pick) s)
+    (or_parts (is_same (choice_of s) choice.Engine || not (is_served s pick))
+    (excludes (setting.Engine pick) s)
     clear).0).1
 
 serves_each : (pick : Pick) (words : List (List ℕ)) → any_clash (setting.Engine pick) words ≡ false
@@ -142,7 +144,8 @@ sole_pick one (word ∷ words) set clear some =
     goes_on (Some (setting.States states)) clear some = kept (Some (setting.States states)) refl some
 
 -- what clashes with the engine that serves every setting is an engine
-clash_pick : (s : Option Setting) → are_clashing s (Some (setting.Engine (Session Plus))) ≡ true → picks s ≡ true
+clash_pick : (s : Option Setting) → are_clashing s (Some (setting.Engine (Session Plus)))
+    ≡ true → picks s ≡ true
 clash_pick None h = absurd (cc)
 clash_pick (Some (setting.Engine pick)) h = refl
 clash_pick (Some (setting.Show Points)) h = absurd (cc)
@@ -256,10 +259,12 @@ can_complete engine allows before (waits w) =
     ≡ settings_with (settings_of engine before) (Some (setting.Engine (Session Plus))) =
     fold-append (λ set word. settings_with set (setting_of word)) (silent_on engine) before (plus ∷ []) in
     let clear : any_clash (setting.Engine (Session Plus)) before ≡ false =
-    none_from (λ w. are_clashing (setting_of w) (Some (setting.Engine (Session Plus)))) (λ w. picks (setting_of w))
+    none_from (λ w. are_clashing (setting_of w) (Some (setting.Engine (Session Plus))))
+    (λ w. picks (setting_of w))
     (λ w. clash_pick (setting_of w)) before w.free in
     let follows : may_follow allows before plus ≡ true =
-    and_from (is_allowed allows (Some (setting.Engine (Session Plus)))) (not (any_clash (setting.Engine (Session Plus)) before))
+    and_from (is_allowed allows (Some (setting.Engine (Session Plus))))
+    (not (any_clash (setting.Engine (Session Plus)) before))
     w.allowed (rw clear refl) in
     let complete : is_complete engine (before ++ plus ∷ []) ≡ true =
     ap (λ (set : Settings). are_served set.pick (before ++ plus ∷ [])) chosen

@@ -29,7 +29,8 @@ module _ (engine : SessionEngine) (allows : List Family) where
 
   -- a first word that is of its kind
   goes_on : (kind : WordKind) (takes : List WordKind) (word : List ℕ) → is_of kind word ≡ true
-      → (more : List (List ℕ)) → fits engine (kind ∷ takes) allows (word ∷ more) ≡ fits engine takes allows more
+      → (more : List (List ℕ)) → fits engine (kind ∷ takes) allows (word ∷ more)
+      ≡ fits engine takes allows more
   goes_on kind takes word right more = rw right refl
 
   later : {kind : WordKind} {takes : List WordKind} {word : List ℕ} {words : List (List ℕ)} {count : ℕ}
@@ -42,7 +43,8 @@ module _ (engine : SessionEngine) (allows : List Family) where
 
   -- where a word that is taken is absent or not of its kind
   pub taken_part : (takes : List WordKind) (words : List (List ℕ)) (count : ℕ) → AreOf takes words count
-      → count < length takes → (fits engine takes allows words ≡ false) × EndsAfter (fits engine takes allows) words count
+      → count < length takes → (fits engine takes allows words ≡ false)
+      × EndsAfter (fits engine takes allows) words count
   taken_part [] words count are below = absurd (omega arith)
   taken_part (kind ∷ takes) [] zero are below = (
     refl,
@@ -82,6 +84,7 @@ module _ (engine : SessionEngine) (allows : List Family) where
         goes_on kind takes word right words ∙ rest.0,
         λ place count sum after.
             subst (EndsAfter (fits engine (kind ∷ takes) allows) (word ∷ words)) (omega (arith, sum))
-            (ends_later (fits engine (kind ∷ takes) allows) (fits engine takes allows) word words (length takes + place)
+            (ends_later (fits engine (kind ∷ takes) allows) (fits engine takes allows) word words
+            (length takes + place)
             (goes_on kind takes word right) (rest.1 place (length takes + place) refl after)),
       )

@@ -10,7 +10,8 @@ use Rattle.std.specs.Option.{option_or}
 use Rattle.std.proofs.lemmas.Bool.{and_parts, or_parts, or_left, false_from_ne_true, true≢false}
 use Rattle.std.proofs.lemmas.List.{length-map, get_or-map, take_more}
 use Rattle.std.proofs.lemmas.List.Sums.{fold-append}
-use Rattle.std.proofs.lemmas.List.Folds.{list_all_at, list_all_more, list_any-append, list_any_at, list_any_more}
+use Rattle.std.proofs.lemmas.List.Folds.{list_all_at, list_all_more, list_any-append, list_any_at}
+use Rattle.std.proofs.lemmas.List.Folds.{list_any_more}
 use Rattle.word_list.specs.declared.request.SessionEngine.{SessionEngine}
 use Rattle.word_list.specs.declared.request.SessionEngine.TheVariants.{Plain}
 use Rattle.word_list.specs.declared.settings.Setting.{Setting}
@@ -55,7 +56,8 @@ pub record Settles (engine : SessionEngine) (allows : List Family) (before words
     : Type 0 where
   pub ends : EndsAfter (completed engine allows before) words count
   pub wrong : count < length words → completed engine allows before words ≡ false
-  pub right : length words ≤ count → completed engine allows before words ≡ is_complete engine (before ++ words)
+  pub right : length words ≤ count → completed engine allows before words
+      ≡ is_complete engine (before ++ words)
 
 module _ (engine : SessionEngine) (allows : List Family) where
   later : {before : List (List ℕ)} {word : List ℕ} {words : List (List ℕ)} {count : ℕ}
@@ -88,7 +90,8 @@ module _ (engine : SessionEngine) (allows : List Family) where
       let rest = settles (before ++ word ∷ []) words count (stand_on engine allows before word stand first)
       (later are) in
       record {
-        ends = ends_later (completed engine allows before) (completed engine allows (before ++ word ∷ [])) word words count
+        ends = ends_later (completed engine allows before)
+            (completed engine allows (before ++ word ∷ [])) word words count
             goes_on rest.ends;
         wrong = λ below. goes_on words ∙ rest.wrong (omega arith);
         right = λ above. goes_on words ∙ rest.right (omega arith)
@@ -233,7 +236,8 @@ pub chosen_more : (engine : SessionEngine) (words : List (List ℕ)) (place : �
     → settings_of engine (take (place + 1) words)
     ≡ settings_with (settings_of engine (take place words)) (setting_of word)
 chosen_more engine words place word inside at =
-    ap (settings_of engine) (take_more words place word inside ∙ ap (λ (w : List ℕ). take place words ++ w ∷ []) at)
+    ap (settings_of engine)
+    (take_more words place word inside ∙ ap (λ (w : List ℕ). take place words ++ w ∷ []) at)
     ∙ fold-append (λ set word. settings_with set (setting_of word)) (silent_on engine) (take place words)
     (word ∷ [])
 

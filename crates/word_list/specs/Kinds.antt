@@ -1,6 +1,6 @@
 -- What a word of a command has to be, and what it spells.
-use Rattle.std.specs.Prelude.{ℕ, Bool, true, nat_le, ◌&&◌, List, [], is_some, if◌then◌else◌, slice_get, Option}
-use Rattle.std.specs.Prelude.{Some, None, unwrap_or}
+use Rattle.std.specs.Prelude.{ℕ, Bool, true, nat_le, ◌&&◌, List, [], is_some, if◌then◌else◌, slice_get}
+use Rattle.std.specs.Prelude.{Option, Some, None, unwrap_or}
 use Rattle.text_line.specs.LongNumbers.{long_number_of}
 use Rattle.text_line.specs.Numbers.{number_of}
 use Rattle.word_list.specs.declared.rows.WordKind.{WordKind}

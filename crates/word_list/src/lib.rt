@@ -13,7 +13,7 @@
 //! numbers are 1 to 9 decimal digits, N is 1 to 100000, and a seed has 1 to 20 digits. FILE is all behind the
 //! first `=`, at least one byte. Two settings clash that choose the same. A table file stands beside
 //! `engine=plus` alone, `states=` beside `jps`, `block` and `plus` alone: they clash with every other engine,
-//! and where no engine is named a word is missing.
+//! and where no engine is named a word is missing (not for `states=` of `serve`, whose `block` jumps).
 //! `query` and `scen` allow `engine=boxes` and `engine=moves` besides, of engines for small maps; first moves
 //! clash with `show=trace` and `show=taken`. A list that is no call is refused at its first word with which
 //! no call can begin, or one word behind its end where only words are missing.

@@ -1,6 +1,7 @@
 //! Reading a call from the words.
 
-ghost use Rattle.std.specs.Prelude.{◌≡◌, ℕ, ◌≤◌, ◌∷◌, map, string_bytes, length, Some, IfOk, IfErr, IsOkAnd, IsErrAnd, OnOk, MatchResult};
+ghost use Rattle.std.specs.Prelude.{◌≡◌, ℕ, ◌≤◌, ◌∷◌, map, string_bytes, length, Some, IfOk, IfErr, IsOkAnd};
+ghost use Rattle.std.specs.Prelude.{IsErrAnd, OnOk, MatchResult};
 ghost use Rattle.word_list.specs.Request.{Call, IsSound, called};
 ghost use Rattle.word_list.specs.Calls.{call_of, is_call};
 ghost use Rattle.word_list.specs.Rule.{IsBadWord, StopsAt};

@@ -38,7 +38,8 @@ impl Default for Pick {
 }
 
 impl Settings {
-    /// The settings of a call that names none and begins with this engine: where that jumps, a cell has one state.
+    /// The settings of a call that names none and begins with this engine: where that jumps,
+    /// a cell has one state.
     pub fn silent_on(engine: SessionEngine) -> Settings
         ensures { result ≡ spec.silent_on engine }
     {

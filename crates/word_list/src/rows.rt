@@ -4,7 +4,10 @@ ghost use Rattle.std.specs.Prelude.{◌≡◌, ◌≤◌, true, length, map, str
 ghost use Rattle.std.specs.Option.{option_copied, option_map};
 ghost use Rattle.word_list.specs.Request.{engine_of, row_data, row_in, row_of, rows, stored_row};
 ghost use Rattle.word_list.specs.Steps.{is_one_of};
-ghost use Rattle.word_list.specs.Kinds.{is_of, word_at, number_at as spelled_at, seed_at as spelled_seed_at, side_of as spelled_side, side_at as spelled_side_at, percent_of as spelled_percent, percent_at as spelled_percent_at, count_of as spelled_count, count_at as spelled_count_at};
+ghost use Rattle.word_list.specs.Kinds.{is_of, word_at, number_at as spelled_at, seed_at as spelled_seed_at};
+ghost use Rattle.word_list.specs.Kinds.{side_of as spelled_side, side_at as spelled_side_at};
+ghost use Rattle.word_list.specs.Kinds.{percent_of as spelled_percent, percent_at as spelled_percent_at};
+ghost use Rattle.word_list.specs.Kinds.{count_of as spelled_count, count_at as spelled_count_at};
 
 use crate::request::SessionEngine;
 use crate::settings::Family;

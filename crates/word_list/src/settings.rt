@@ -3,7 +3,10 @@
 ghost use Rattle.std.specs.Prelude.{◌≡◌, ◌≤◌, [], take, slice_get, map, string_bytes, Some};
 ghost use Rattle.std.specs.List.{list_any};
 ghost use Rattle.std.specs.Option.{option_copied};
-ghost use Rattle.word_list.specs.Settings.{setting_of, choice_of, has as member, has_tables, jumps, takes_states, is_allowed, is_for_small_maps, is_served, is_word_served, are_served, excludes, is_clash, are_clashing, may_follow, settings_with, settings_of, tables_in, tables_of};
+ghost use Rattle.word_list.specs.Settings.{setting_of, choice_of, has as member, has_tables, jumps};
+ghost use Rattle.word_list.specs.Settings.{takes_states, is_allowed, is_for_small_maps, is_served};
+ghost use Rattle.word_list.specs.Settings.{is_word_served, are_served, excludes, is_clash, are_clashing};
+ghost use Rattle.word_list.specs.Settings.{may_follow, settings_with, settings_of, tables_in, tables_of};
 ghost use Rattle.word_list.specs.Steps.{AreSettled, one_follows};
 
 use crate::request::{Pick, SessionEngine, Settings, Show, SmallEngine, States};

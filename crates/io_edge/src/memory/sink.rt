@@ -27,7 +27,11 @@ impl Model for MemSink {
 
     ghost Value = { Outgoing };
 
-    ghost view = { λ sink. record { written = sink.bytes.items; room = sink.room; pace = pace_of sink.calls } };
+    ghost view = { λ sink. record {
+      written = sink.bytes.items;
+      room = sink.room;
+      pace = pace_of sink.calls;
+    } };
 
     ghost invariant = { λ sink. (0 < sink.calls.piece) × (length sink.bytes.items ≤ sink.room)
         × (sink.room ≤ vec_capacity sink.bytes) };

@@ -26,7 +26,10 @@ impl Model for MemSource {
 
     ghost Value = { Incoming };
 
-    ghost view = { λ source. record { left = drop source.taken source.bytes.items; pace = pace_of source.calls } };
+    ghost view = { λ source. record {
+      left = drop source.taken source.bytes.items;
+      pace = pace_of source.calls;
+    } };
 
     ghost invariant = { λ source. (0 < source.calls.piece) × (source.taken ≤ length source.bytes.items) };
 }

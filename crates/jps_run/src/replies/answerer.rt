@@ -102,7 +102,8 @@ impl BoxLibrary {
         requires land { HoldsBoxes self.now.layers.land self.now.land }
         requires water { HoldsBoxes self.now.layers.water self.now.water }
         requires one { in_one_layer self.now.layers from to ≡ true }
-        ensures found { IfOk result (IsFoundReply (by_small SmallEngine.Boxes) (query_grid self.now.layers from) from to) }
+        ensures found { IfOk result
+            (IsFoundReply (by_small SmallEngine.Boxes) (query_grid self.now.layers from) from to) }
     {
         if self.layers.water().free(from) {
             search_boxed(alloc, self.layers.water(), &self.water, from, to)
@@ -143,7 +144,8 @@ impl MoveLibrary {
         requires land { AreMoves self.now.layers.land self.now.land }
         requires water { AreMoves self.now.layers.water self.now.water }
         requires one { in_one_layer self.now.layers from to ≡ true }
-        ensures found { IfOk result (IsFoundReply (by_small SmallEngine.Moves) (query_grid self.now.layers from) from to) }
+        ensures found { IfOk result
+            (IsFoundReply (by_small SmallEngine.Moves) (query_grid self.now.layers from) from to) }
         ensures later { OnOk result (steps.old ≤ steps.new) }
     {
         if self.layers.water().free(from) {

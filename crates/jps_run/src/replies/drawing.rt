@@ -116,9 +116,11 @@ fn drawn<L: Ledger>(
 ) -> Result<Printed, NoMemory>
     ensures text { IfOk result (λ p. p.text.items ≡ spec.drawing_of (plain map.now)
         (record { x = ends.sx; y = ends.sy }) (record { x = ends.gx; y = ends.gy }) show
-        (reply_to (who_is session.old) (record { x = ends.sx; y = ends.sy }) (record { x = ends.gx; y = ends.gy }))) }
+        (reply_to (who_is session.old) (record { x = ends.sx; y = ends.sy })
+        (record { x = ends.gx; y = ends.gy }))) }
     ensures status { IfOk result (λ p. p.status ≡ spec.drawing_status
-        (reply_to (who_is session.old) (record { x = ends.sx; y = ends.sy }) (record { x = ends.gx; y = ends.gy }))) }
+        (reply_to (who_is session.old) (record { x = ends.sx; y = ends.sy })
+        (record { x = ends.gx; y = ends.gy }))) }
     ensures counted { OnOk result (RoseForQuery (who_is session.old) (record { x = ends.sx; y = ends.sy })
         (record { x = ends.gx; y = ends.gy }) steps.old steps.new) }
 {
@@ -143,7 +145,8 @@ pub fn write_drawing<O: Sink, L: Ledger>(
 ) -> Result<u8, Stop>
     ensures sent { SendsWhole (spec.IsPictured canvas.old (record { x = ends.sx; y = ends.sy })
         (record { x = ends.gx; y = ends.gy }) show) (O.outflow out.old) (O.outflow out.new) result }
-    ensures counted { OnOk result (RoseForQuery (who_is canvas.old.session) (record { x = ends.sx; y = ends.sy })
+    ensures counted { OnOk result
+        (RoseForQuery (who_is canvas.old.session) (record { x = ends.sx; y = ends.sy })
         (record { x = ends.gx; y = ends.gy }) steps.old steps.new) }
 {
     match drawn(alloc, &canvas.map, &mut canvas.session, ends, show, steps) {

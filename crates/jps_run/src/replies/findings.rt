@@ -210,7 +210,8 @@ fn find<L: Ledger>(
     command: ScriptCommand,
     steps: &mut Steps<L>,
 ) -> Result<Finding, NoMemory>
-    ensures found { IfOk result (λ found. found ≡ finding_on (session_replies session.old) session.old.layers command) }
+    ensures found { IfOk result
+        (λ found. found ≡ finding_on (session_replies session.old) session.old.layers command) }
     ensures short { IfOk result (λ found. IsShortFinding found) }
     ensures edited { OnOk result (GoesOn session.old command session.new) }
     ensures counted { OnOk result (RoseForCommand session.old session.new command steps.old steps.new) }

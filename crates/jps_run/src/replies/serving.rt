@@ -11,10 +11,11 @@ use std::alloc::Global;
 use std::sync::ledger::Ledger;
 use steps::Steps;
 
-/// Answers the lines that come in, those of each read before the next one, and gives the status 0 at their end.
+/// Answers the lines that come in, those of each read before the next one,
+/// and gives the status 0 at their end.
 ///
-/// The buffer is taken before the first read. There is no limit to lines or bytes but that of a counter of reads: behind
-/// 2^64 - 1 of them the answer is want of memory.
+/// The buffer is taken before the first read. There is no limit to lines or bytes but that of a counter of
+/// reads: behind 2^64 - 1 of them the answer is want of memory.
 pub fn serve_lines<I: Source, O: Sink, L: Ledger>(
     alloc: Global,
     server: &mut LineServer,
@@ -35,7 +36,8 @@ pub fn serve_lines<I: Source, O: Sink, L: Ledger>(
     Err(Stop::Memory)
 }
 
-// One turn: reads once, and answers the lines that are whole with the bytes that came in. Whether more may come.
+// One turn: reads once, and answers the lines that are whole with the bytes that came in.
+// Whether more may come.
 fn serve_more<I: Source, O: Sink, L: Ledger>(
     alloc: Global,
     server: &mut LineServer,

@@ -1,7 +1,6 @@
 use Rattle.std.proofs.lemmas.Bool.Decides.{nat_tests}
 use Rattle.std.proofs.lemmas.Grind.{common_steps}
-use Rattle.std.proofs.Common.{arith}
-use Rattle.std.proofs.Common.{◌≡◌, ℕ, refl, true, false, [], ◌∷◌}
+use Rattle.std.proofs.Common.{arith, ◌≡◌, ℕ, refl, true, false, [], ◌∷◌}
 use Rattle.std.specs.Prelude.{Option, Some, None, IsNone, IfSome, slice_get, slice_set}
 use Rattle.open_list.specs.OpenList.{OpenList, IsFirst, HasNoneOpen}
 use Rattle.best_first.specs.declared.node.Node.{Node}

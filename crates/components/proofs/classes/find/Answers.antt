@@ -17,7 +17,8 @@ loop-classes-preserved c =
           = length-set c.loop-classes.classes c.loop-classes.l _ in omega (arith, t, d, b, s);
       forest = halved-forest c.loop-classes.classes kept.forest c.loop-classes.l kept.label;
       kept = λ l. halved-same c.loop-classes.classes kept.forest c.loop-classes.l kept.label l ∙ kept.kept l;
-      same = sym (kept.kept (get_or c.loop-classes.classes (get_or c.loop-classes.classes c.loop-classes.l 0) 0))
+      same = sym (kept.kept
+          (get_or c.loop-classes.classes (get_or c.loop-classes.classes c.loop-classes.l 0) 0))
           ∙ halved-root c.loop-classes.classes kept.forest c.loop-classes.l kept.label
           ∙ kept.kept c.loop-classes.l ∙ kept.same;
     }

@@ -28,7 +28,8 @@ repair-requires-clause-but g c = record {
     width = refl;
     height = refl;
     corner = refl;
-    others = λ u other. sym (is_free-with_other c.args.grid.now c.args.c u c.args.was c.requires.inside other);
+    others = λ u other. sym
+        (is_free-with_other c.args.grid.now c.args.c u c.args.was c.requires.inside other);
   };
 }
 

@@ -21,7 +21,8 @@ returns-clause-right g c = rw c.found.ensures (found_right c.args._grid.now c.ar
     (record { stands = c.requires.stands; from = c.requires.from; to = c.requires.to })))
 
 pub returns-clause-run : goal.returns-clause-run
-returns-clause-run g c = rw c.found.ensures (found_by_jumps c.args.space.now.layout c.args._grid.now c.args.from c.args.to _ _
+returns-clause-run g c = rw c.found.ensures
+    (found_by_jumps c.args.space.now.layout c.args._grid.now c.args.from c.args.to _ _
     (c.in_ok-walk.ensures.run c.args._grid.now
     (record { stands = c.requires.stands; from = c.requires.from; to = c.requires.to })))
 
@@ -30,7 +31,8 @@ returns-clause-most g c = rw (c.found.ensures, all_taken c.in_ok-walk.field-0.wa
     c.in_ok-walk.ensures.most
 
 pub returns-clause-fewest : goal.returns-clause-fewest
-returns-clause-fewest g c = rw c.found.ensures (rose_away c.args.space.now.layout c.args._grid.now c.args.from c.args.to _ _
+returns-clause-fewest g c = rw c.found.ensures
+    (rose_away c.args.space.now.layout c.args._grid.now c.args.from c.args.to _ _
     (g.J.JumpSource.fewest c.args.j.now).allowed c.args.steps.now c.search_in.new.steps
     (c.in_ok-walk.ensures.run c.args._grid.now
     (record { stands = c.requires.stands; from = c.requires.from; to = c.requires.to }))

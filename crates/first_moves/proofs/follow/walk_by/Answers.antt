@@ -65,7 +65,8 @@ loop-to-preserved g c =
     record {
       way = one_on_by (g.T.Terrain.grid c.args.t.now) c.args.from c.args.to c.loop-to.before c.loop-to.at
           c.in-Some-next.next c.loop-to.points c.push_turn.new.points c.loop-to.cost c.move_cost.result
-          c.add-cost.result c.loop-to.invariant.way c.in-Some-next.ensures.next c.in_ok-push_turn.ensures.turned
+          c.add-cost.result c.loop-to.invariant.way c.in-Some-next.ensures.next
+          c.in_ok-push_turn.ensures.turned
           c.move_cost.ensures c.add-cost.ensures;
       inside = c.in-Some-next.ensures.inside;
       counted = omega (arith, more, step, so_far);

@@ -5,4 +5,5 @@ use Rattle.cell_lines.specs.Cells.{texts_of}
 use Rattle.grid_answers.proofs.boxes.put_boxes.Given as goal
 
 abbrev pub invariant-loop-d : goal.invariant-loop-d
-invariant-loop-d l = l.out.items ≡ l.fn.out.items ++ texts_of (box_line (box_in l.boxes)) (take l.d-index l.dirs)
+invariant-loop-d l = l.out.items ≡ l.fn.out.items
+    ++ texts_of (box_line (box_in l.boxes)) (take l.d-index l.dirs)

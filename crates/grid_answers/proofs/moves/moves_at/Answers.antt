@@ -14,5 +14,6 @@ pub returns-in-Err : goal.returns-in-Err
 unfolding moves_answer
 returns-in-Err c =
     if_text c.from_slice.result c.from_slice.ensures.items (is-line c.args.layers.now
-    (record { x = c.args.x; y = c.args.y }) (λ line. line) (λ g. runs_text g.width (row_of g (record { x = c.args.x; y = c.args.y })))
+    (record { x = c.args.x; y = c.args.y }) (λ line. line)
+    (λ g. runs_text g.width (row_of g (record { x = c.args.x; y = c.args.y })))
     c.in-Err.line.now c.in-Err.ensures)

@@ -25,7 +25,8 @@ loop-y-preserved c =
       long = long_with place (place + w) c.loop-y.cells row (omega arith) inside many ∙ long;
       filled = one_filled w h (is_free (layer_of c.args.kind Never w h bytes)) y (place + w - place)
           c.loop-y.cells row c.loop-y-test.true wide long (many ∙ wide)
-          (row_made c.args.kind Never w h bytes c.requires.bytes y c.loop-y-test.true (y * w) (y * w + w - y * w)
+          (row_made c.args.kind Never w h bytes c.requires.bytes y c.loop-y-test.true
+          (y * w) (y * w + w - y * w)
           refl (omega arith) row (many ∙ wide) c.fill_row.ensures.flags)
           c.loop-y.invariant.filled place is;
     }

@@ -85,7 +85,8 @@ returns-in-Server-clause-ended g c =
 
 pub returns-in-Server-clause-counted : goal.returns-in-Server-clause-counted
 returns-in-Server-clause-counted g c = if_ok c.serve_lines.result
-    (unsearched (called c.args.request c.args.settings) (g.F.Files.disk c.args.files.now).holds c.in-Server.server
+    (unsearched (called c.args.request c.args.settings)
+    (g.F.Files.disk c.args.files.now).holds c.in-Server.server
     (g.I.Source.inflow c.args.input.now).left c.args.steps.now c.serve_lines.new.steps
     (subst (λ (o : Opened). IsOpenedAs (called c.args.request c.args.settings)
     (g.F.Files.disk c.args.files.now).holds o)

@@ -33,7 +33,8 @@ returns g c =
     (g.O.Sink.outflow c.answer_call.new.out) (g.E.Sink.outflow c.args.err.now)
     (g.E.Sink.outflow c.finish.new.err) c.args.steps.now c.answer_call.new.steps
     (called c.in-Ok.call.0 c.in-Ok.call.1) c.in-Ok.ensures.found c.answer_call.ensures.unchanged
-    c.answer_call.ensures.input_stays c.answer_call.result c.finish.result c.answer_call.ensures.ended c.answer_call.ensures.counted
+    c.answer_call.ensures.input_stays c.answer_call.result c.finish.result c.answer_call.ensures.ended
+    c.answer_call.ensures.counted
     c.finish.ensures.status c.finish.ensures.printed in
     record {
       statuses = h.statuses;

@@ -47,7 +47,8 @@ pub returns-in-Draw : goal.returns-in-Draw
 returns-in-Draw g c = record {
   sent = sent-as c.args.work _ (g.O.Sink.outflow c.args.out.now) (g.O.Sink.outflow c.write_drawing.new.out)
       c.write_drawing.result c.in-Draw.is c.write_drawing.ensures.sent;
-  counted = rose-as c.write_drawing.result c.args.work _ c.args.steps.now c.write_drawing.new.steps c.in-Draw.is
+  counted = rose-as c.write_drawing.result c.args.work _ c.args.steps.now
+      c.write_drawing.new.steps c.in-Draw.is
       c.write_drawing.ensures.counted;
 }
 
@@ -55,7 +56,8 @@ pub returns-in-Costs : goal.returns-in-Costs
 returns-in-Costs g c = record {
   sent = sent-as c.args.work _ (g.O.Sink.outflow c.args.out.now) (g.O.Sink.outflow c.write_costs.new.out)
       c.write_costs.result c.in-Costs.is c.write_costs.ensures;
-  counted = uncounted c.write_costs.result c.args.work _ c.args.steps.now c.write_costs.new.steps c.in-Costs.is
+  counted = uncounted c.write_costs.result c.args.work _ c.args.steps.now
+      c.write_costs.new.steps c.in-Costs.is
       tt;
 }
 
@@ -71,7 +73,8 @@ returns-in-Print g c = record {
   sent = sent-as c.args.work _ (g.O.Sink.outflow c.args.out.now) (g.O.Sink.outflow c.send_text.new.out)
       c.send_text.result c.in-Print.is
       (subst (λ (t : List ℕ). SendsWhole (IsText t c.in-Print.status) (g.O.Sink.outflow c.args.out.now)
-      (g.O.Sink.outflow c.send_text.new.out) c.send_text.result) c.as_slice.ensures.value c.send_text.ensures);
+      (g.O.Sink.outflow c.send_text.new.out) c.send_text.result) c.as_slice.ensures.value
+      c.send_text.ensures);
   counted = uncounted c.send_text.result c.args.work _ c.args.steps.now c.args.steps.now c.in-Print.is
       (le_refl c.args.steps.now);
 }
@@ -80,5 +83,6 @@ pub returns-in-Say : goal.returns-in-Say
 returns-in-Say g c = record {
   sent = sent-as c.args.work _ (g.O.Sink.outflow c.args.out.now) (g.O.Sink.outflow c.send_text-in-Say.new.out)
       c.send_text-in-Say.result c.in-Say.is c.send_text-in-Say.ensures;
-  counted = uncounted c.send_text-in-Say.result c.args.work _ c.args.steps.now c.args.steps.now c.in-Say.is tt;
+  counted = uncounted c.send_text-in-Say.result c.args.work _ c.args.steps.now
+      c.args.steps.now c.in-Say.is tt;
 }

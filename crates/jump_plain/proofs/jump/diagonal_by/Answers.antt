@@ -17,7 +17,8 @@ returns-then-leads_on-clause-clear g c =
     let grid : GridData = g.T.Terrain.grid c.args.t.now in
     let right = ap (λ (b : Sides). b.right) c.requires.beside in
     let left = ap (λ (b : Sides). b.left) c.requires.beside in
-    let can = beyond_diagonal grid c.args.at c.args.d c.requires.free c.requires.diagonal c.corner.result c.corner.ensures
+    let can = beyond_diagonal grid c.args.at c.args.d c.requires.free c.requires.diagonal
+    c.corner.result c.corner.ensures
     c.args.beside.right c.args.beside.left c.is_passable.result c.leads_on.result right left
     c.is_passable.ensures c.leads_on.ensures in
     let legal = beyond_legal grid c.args.at c.beyond-cell.result c.args.d c.beyond-cell.ensures

@@ -5,8 +5,8 @@ use Rattle.jump_plain.specs.Beside.{sides_ahead}
 use Rattle.jump_plain.proofs.Diagonal.{later}
 use Rattle.jump_plain.proofs.jump.diagonal_stop.Given as goal
 
--- the cell is so many moves on, the place is its own, what is known of it is so, and the first stop in all is that from there,
--- after these
+-- the cell is so many moves on, the place is its own, what is known of it is so, and the first stop in all is
+-- that from there, after these
 abbrev pub invariant-run : goal.invariant-run
 invariant-run g l =
     let grid = g.T.Terrain.grid l.t in

@@ -5,7 +5,8 @@ use Rattle.jump_plain.specs.Reach.{reach_of}
 use Rattle.jump_plain.proofs.Scanning.{HasSides}
 use Rattle.jump_plain.proofs.scan.scan_with.Given as goal
 
--- the cell is so many moves on, the place is its own, and what is left to find from there is what is left in all, less these
+-- the cell is so many moves on, the place is its own, and what is left to find from there is what is left in
+-- all, less these
 abbrev pub invariant-run : goal.invariant-run
 invariant-run g l =
     let grid = g.T.Terrain.grid l.t in

@@ -34,5 +34,6 @@ loop-k-preserved c =
     }
 
 pub returns-clause-first : goal.returns-clause-first
-returns-clause-first c = ring_done c.args.p.now.labels c.args.label c.args.goal c.args.ring c.loop-k.k c.loop-k.best
+returns-clause-first c = ring_done c.args.p.now.labels c.args.label c.args.goal c.args.ring
+    c.loop-k.k c.loop-k.best
     (omega arith) c.loop-k.invariant.first c.loop-k.invariant.on_ring

@@ -14,7 +14,8 @@ pub returns-then-is_below : goal.returns-then-is_below
 returns-then-is_below c = λ g t fresh free.
     let p = c.args.p.now.labels in
     let less : IsLess (estimate c.loop-ring.best c.args.goal) (record { a = c.loop-ring.ring; b = 0 })
-    = subst (λ (n : ℕ). IsLess (estimate c.loop-ring.best c.args.goal) (record { a = n; b = 0 })) c.from.ensures
+    = subst (λ (n : ℕ). IsLess (estimate c.loop-ring.best c.args.goal)
+    (record { a = n; b = 0 })) c.from.ensures
     (subst (λ (q : Cost). IsLess q (record { a = c.from.result; b = 0 })) c.estimate.ensures
     (sym c.is_below.ensures ∙ c.if-is_below.true)) in
     nearest_told g c.args.p.now t fresh c.args.start c.args.goal c.loop-ring.best free c.label-label.result
@@ -31,5 +32,6 @@ returns c = λ g t fresh free.
     c.label-label.ensures (λ n. (
       c.loop-ring.invariant.label,
       rings_done p c.label-label.result n c.args.goal
-          c.loop-ring.ring c.loop-ring.best (omega arith) c.requires.column c.requires.row c.loop-ring.invariant.first,
+          c.loop-ring.ring c.loop-ring.best (omega arith) c.requires.column c.requires.row
+          c.loop-ring.invariant.first,
     ))

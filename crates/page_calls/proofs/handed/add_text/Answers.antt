@@ -11,5 +11,6 @@ returns-in_ok-push c =
 
 pub returns-else-place-names : goal.returns-else-place-names
 returns-else-place-names c =
-    let none = no_name c.args.names.now c.args.place c.args.text.now (omega (arith, c.if-place-names.false)) in
+    let none = no_name c.args.names.now c.args.place c.args.text.now
+    (omega (arith, c.if-place-names.false)) in
     grind (arith, common_steps, none)

@@ -34,7 +34,8 @@ loop-next-preserved c =
     turned c.loop-next.points c.push_turn.new.points
     (turns_after c.loop-next.at (next ∷ drop (i + 1) others)) c.loop-next.at
     (goes_straight c.loop-next.before c.loop-next.at next) c.in_ok-push_turn.ensures.turned
-    ∙ sym (at_drop_more (λ later. c.loop-next.points ++ turns_after c.loop-next.before (c.loop-next.at ∷ later))
+    ∙ sym (at_drop_more (λ later. c.loop-next.points
+    ++ turns_after c.loop-next.before (c.loop-next.at ∷ later))
     others i origin c.loop-next-test.true)
     ∙ c.loop-next.invariant
 

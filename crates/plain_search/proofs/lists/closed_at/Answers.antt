@@ -11,7 +11,8 @@ use Rattle.plain_search.proofs.lists.closed_at.Goals as goal
 
 pub if_below-requires : goal.if_below-requires
 if_below-requires g c =
-    told_few (g.T.Terrain.grid c.args.t.now) c.args.ends.from c.requires.from c.args.costs.now c.requires.costs
+    told_few (g.T.Terrain.grid c.args.t.now) c.args.ends.from c.requires.from
+    c.args.costs.now c.requires.costs
     c.args.number c.requires.known c.width.ensures.whole c.in-Some.cost c.in-Some.is
 
 pub cell_numbered-requires-clause-on : goal.cell_numbered-requires-clause-on

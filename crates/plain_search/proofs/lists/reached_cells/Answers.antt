@@ -23,5 +23,6 @@ returns g c =
     let grid = g.T.Terrain.grid c.args.t.now in
     let all : c.loop-number.number ≡ length c.args.costs.now = omega arith in
     c.of.ensures ∙ c.loop-number.invariant
-    ∙ ap (λ (n : ℕ). filter_map (λ k. reached_at grid c.args.start (cell_numbered grid.width k)) (range_with_len 0 n))
+    ∙ ap (λ (n : ℕ). filter_map (λ k. reached_at grid c.args.start (cell_numbered grid.width k))
+    (range_with_len 0 n))
     (all ∙ c.requires.costs.as_many)

@@ -10,7 +10,8 @@ returns-in_ok-closed-in-Some-clause-lists g c =
     let grid = g.T.Terrain.grid c.args.t.now in
     let e = c.in_ok-closed-in-Some.ensures in (
       e,
-      subst (λ (l : List (Cell × Cost)). AreClosed grid c.args.ends.from c.args.ends.to c.in-Some.field-0.cost l) (sym e)
+      subst (λ (l : List (Cell × Cost)). AreClosed grid c.args.ends.from c.args.ends.to
+          c.in-Some.field-0.cost l) (sym e)
           (closed_are grid c.args.ends.from c.requires.from c.args.ends.to c.in-Some.field-0.cost),
     )
 

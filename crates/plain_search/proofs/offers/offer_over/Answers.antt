@@ -43,7 +43,8 @@ pub returns-then-is_open-clause-table : goal.returns-then-is_open-clause-table
 returns-then-is_open-clause-table g c =
     where_true c.args.is_open _ _ _ c.if-is_open.true
     (c.offer_by_cell.ensures.table
-    ∙ ap (λ (l : Layout). offered l c.args.from.goal c.offer_to.result c.args.space.now.table) c.requires.layout
+    ∙ ap (λ (l : Layout). offered l c.args.from.goal c.offer_to.result
+    c.args.space.now.table) c.requires.layout
     ∙ ap (λ (o : Offer). offered ByCell c.args.from.goal o c.args.space.now.table) c.offer_to.ensures.value)
 
 pub returns-then-is_open-clause-closed : goal.returns-then-is_open-clause-closed

@@ -36,7 +36,8 @@ returns-in_err-push-clause-unchanged g c = c.price.ensures.unchanged ∙ c.loop-
 pub returns-clause-priced : goal.returns-clause-priced
 returns-clause-priced g c =
     c.loop-ends.invariant.priced
-    ∙ ap (map (priced c.args.costs.now)) (take_all c.loop-ends.ends-index c.args.kept.now c.loop-ends-test.false)
+    ∙ ap (map (priced c.args.costs.now))
+    (take_all c.loop-ends.ends-index c.args.kept.now c.loop-ends-test.false)
 
 pub returns-clause-unchanged : goal.returns-clause-unchanged
 returns-clause-unchanged g c = c.loop-ends.invariant.same

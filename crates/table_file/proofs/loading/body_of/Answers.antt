@@ -1,5 +1,6 @@
 use Rattle.std.proofs.lemmas.Bool.Decides.{nat_tests}
-use Rattle.std.proofs.Common.{◌≡◌, ◌≢◌, ◌+◌, ◌*◌, ℕ, Bool, List, arith, true, false, ap, sym, ◌∙◌, length, take}
+use Rattle.std.proofs.Common.{◌≡◌, ◌≢◌, ◌+◌, ◌*◌, ℕ, Bool, List, arith, true, false, ap, sym, ◌∙◌, length}
+use Rattle.std.proofs.Common.{take}
 use Rattle.std.specs.Prelude.{Some, None, bytes_eq, if◌then◌else◌, nat_eq, not}
 use Rattle.grid_moves.specs.declared.Corner.{Corner}
 use Rattle.grid_moves.specs.Grid.{GridData}
@@ -65,11 +66,13 @@ returns-then-text-height-clause-wrong c =
 pub returns-clause-right : goal.returns-clause-right
 returns-clause-right c = (
   no_fault c.args.land.now c.args.text.now c.corner.result c.width-width.result c.height-height.result
-      c.has_head.result c.has_head.ensures c.corner.ensures c.width-width.ensures.is c.height-height.ensures.is
+      c.has_head.result c.has_head.ensures c.corner.ensures c.width-width.ensures.is
+      c.height-height.ensures.is
       c.if-not-has_head.false c.if-text-height.false,
   c.split_at.ensures.back,
   body_length c.args.land.now c.args.text.now c.corner.result c.width-width.result c.height-height.result
-      c.has_head.result c.has_head.ensures c.corner.ensures c.width-width.ensures.is c.height-height.ensures.is
+      c.has_head.result c.has_head.ensures c.corner.ensures c.width-width.ensures.is
+      c.height-height.ensures.is
       _
       c.split_at.ensures.back_len c.if-text-height.false,
 )

@@ -1,6 +1,5 @@
 use Rattle.std.proofs.lemmas.Bool.Decides.{nat_tests}
-use Rattle.std.proofs.Common.{arith, length-set, get_or}
-use Rattle.std.proofs.Common.{to_z-of_z}
+use Rattle.std.proofs.Common.{arith, length-set, get_or, to_z-of_z}
 use Rattle.table_file.proofs.Bytes.{taken_apart}
 use Rattle.table_file.proofs.Putting.{all_bytes, entry_put}
 use Rattle.table_file.proofs.writing.fill_entries.Goals as goal

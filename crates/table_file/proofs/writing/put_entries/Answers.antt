@@ -23,7 +23,8 @@ loop-done-preserved c =
     (c.as_slice.ensures ∙ c.cell_bytes-bytes.ensures) c.in_ok-extend_from_slice.ensures.items
 
 pub returns-in_err-extend_from_slice-clause-ok : goal.returns-in_err-extend_from_slice-clause-ok
-returns-in_err-extend_from_slice-clause-ok c = IfOk-from_err c.from_residual.result _ c.from_residual.ensures.0
+returns-in_err-extend_from_slice-clause-ok c = IfOk-from_err c.from_residual.result _
+    c.from_residual.ensures.0
 
 pub returns-in_err-extend_from_slice-clause-err : goal.returns-in_err-extend_from_slice-clause-err
 returns-in_err-extend_from_slice-clause-err c =

@@ -1,8 +1,7 @@
 use Rattle.std.proofs.Common.{arith}
 use Rattle.std.proofs.lemmas.Bool.Decides.{nat_tests}
 use Rattle.std.proofs.Common.{◌≡◌, ◌++◌, List, ℕ, Result, ap, ◌∙◌}
-use Rattle.std.specs.Prelude.{OnOk}
-use Rattle.std.specs.Prelude.{None}
+use Rattle.std.specs.Prelude.{OnOk, None}
 use Rattle.grid_moves.specs.declared.Corner.{Corner}
 use Rattle.grid_moves.specs.Grid.{GridData}
 use Rattle.table_file.specs.Encoding.{encoding}
@@ -10,7 +9,8 @@ use Rattle.table_file.specs.Faults.{table_fault_of}
 use Rattle.table_file.proofs.Laws.{encoding_right, file_is, length-encoding}
 use Rattle.table_file.proofs.writing.write_tables.Goals as goal
 
-on_ok : {T E P Q R : Type 0} (answer written : Result T E) → answer ≡ written → OnOk written P → OnOk written Q
+on_ok : {T E P Q R : Type 0} (answer written : Result T E) → answer ≡ written
+    → OnOk written P → OnOk written Q
     → (P → Q → R) → OnOk answer R
 on_ok answer written same h i all = grind (arith, nat_tests)
 

@@ -3,8 +3,7 @@ use Rattle.std.proofs.Common.{arith, sym, ◌∙◌}
 use Rattle.table_repair.specs.Lines.{lines_rise}
 use Rattle.table_repair.proofs.Sweeping.{taken_is, none_taken}
 use Rattle.table_repair.proofs.Abreast.{abreast_ends, enter_ends, enter_none}
-use Rattle.table_repair.proofs.Entering.{past_none, line_low, enter_right, enter_past, enter_line}
-use Rattle.table_repair.proofs.Entering.{none_left}
+use Rattle.table_repair.proofs.Entering.{past_none, line_low, enter_right, enter_past, enter_line, none_left}
 use Rattle.table_repair.proofs.Totals.{later_on, few_entered, counted_entered}
 use Rattle.table_repair.proofs.sweep.sweep_lines.Goals as goal
 

@@ -2,8 +2,7 @@
 use Rattle.std.proofs.Common.{ap, ◌∙◌}
 use Rattle.arrayvec.specs.ArrayVec.{ArrayVec}
 use Rattle.table_repair.specs.declared.walks.WalkBack.{WalkBack}
-use Rattle.table_repair.proofs.InPlace.{place_begins, place_next}
-use Rattle.table_repair.proofs.InPlace.{place_ends, led_on, its_inside, its_right}
+use Rattle.table_repair.proofs.InPlace.{place_begins, place_next, place_ends, led_on, its_inside, its_right}
 use Rattle.table_repair.proofs.walks.lead_all.Goals as goal
 use Rattle.table_repair.proofs.walks.lead_all.Goals.{in-Some, in_default}
 

@@ -15,5 +15,6 @@ returns g c =
       is = e;
       judged = (made how).1 e;
       only = λ other is. e ∙ sym ((made other).0 is);
-      accepted = accepted_exactly grid s t c.width-width.ensures.whole what c.args.least c.requires.least how e;
+      accepted = accepted_exactly grid s t c.width-width.ensures.whole what c.args.least
+          c.requires.least how e;
     }

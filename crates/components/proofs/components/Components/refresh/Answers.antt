@@ -12,7 +12,8 @@ returns-clause-tells g c =
     subst (λ (ls : List ℕ). Tells grid (seen in_self.shape in_self.corner ls
     (with_items in_self.classes c.relabel-self-inside.new.classes).items true))
     (sym (with_items_is in_self.labels c.relabel-self-inside.new.labels (omega arith)))
-    (subst (λ (cs : List ℕ). Tells grid (seen in_self.shape in_self.corner c.relabel-self-inside.new.labels cs true))
+    (subst (λ (cs : List ℕ). Tells grid
+    (seen in_self.shape in_self.corner c.relabel-self-inside.new.labels cs true))
     (sym (with_items_is in_self.classes c.relabel-self-inside.new.classes (omega arith)))
     (seen_tells grid in_self.shape in_self.corner c.relabel-self-inside.new.labels
     c.relabel-self-inside.new.classes true c.relabel-self-inside.ensures.grid

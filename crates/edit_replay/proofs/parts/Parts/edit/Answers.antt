@@ -21,7 +21,8 @@ returns-then-eq-clause-edited g c =
     let e : Edit = edit_at c.args.x c.args.y c.args.to in
     let found = c.in-Some.ensures in
     let ground = c.ground_at.ensures ∙ ap (λ (u : Cell). ground_at d.layers u) found.0 in
-    edits_same d e c.requires.layers (ap (λ (u : Cell). is_on_map d.layers u) (sym found.0) ∙ found.1) c.args.steps.now
+    edits_same d e c.requires.layers
+    (ap (λ (u : Cell). is_on_map d.layers u) (sym found.0) ∙ found.1) c.args.steps.now
     (ap (λ (v : Ground). is_ground v c.args.to) (sym ground)
     ∙ sym (c.eq.ensures ∙ same_ground c.args.to c.ground_at.result) ∙ c.if-eq.true)
 

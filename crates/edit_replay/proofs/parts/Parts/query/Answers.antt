@@ -17,7 +17,8 @@ returns-in-Ok-clause-right g c =
     let to : Cell = record { x = c.args.gx; y = c.args.gy } in
     result_on_grid ls (query_grid ls ends.from) from to c.search.result
     (ap (λ (s : Cell). query_grid ls s) (sym c.in-Ok.ensures.from)) c.in-Ok.ensures.free
-    (subst (λ (t : Cell). IfOk c.search.result (IsRightOn (query_grid ls ends.from) from t)) c.in-Ok.ensures.to
+    (subst (λ (t : Cell). IfOk c.search.result
+    (IsRightOn (query_grid ls ends.from) from t)) c.in-Ok.ensures.to
     (subst (λ (s : Cell). IfOk c.search.result (IsRightOn (query_grid ls ends.from) s ends.to))
     c.in-Ok.ensures.from c.search.ensures.right))
 
@@ -26,17 +27,20 @@ returns-in-Ok-clause-run g c =
     let d = stands_for c.args.self.now in
     let ends = c.in-Ok.ends in
     let from : Cell = record { x = c.args.sx; y = c.args.sy } in
-    subst (λ (t : Cell). IfOk c.search.result (IsRunOn d.engine (query_grid d.layers from) from t)) c.in-Ok.ensures.to
+    subst (λ (t : Cell). IfOk c.search.result
+    (IsRunOn d.engine (query_grid d.layers from) from t)) c.in-Ok.ensures.to
     (subst (λ (s : Cell). IfOk c.search.result (IsRunOn d.engine (query_grid d.layers s) s ends.to))
     c.in-Ok.ensures.from c.search.ensures.run)
 
 pub returns-in-Ok-clause-short : goal.returns-in-Ok-clause-short
 returns-in-Ok-clause-short g c =
-    reply_is_short c.args.self.now.layers _ _ c.search.result c.requires.layers (returns-in-Ok-clause-right g c)
+    reply_is_short c.args.self.now.layers _ _ c.search.result c.requires.layers
+    (returns-in-Ok-clause-right g c)
 
 pub returns-in-Ok-clause-function : goal.returns-in-Ok-clause-function
 returns-in-Ok-clause-function g c =
-    result_known (stands_for c.args.self.now) c.requires.layers _ _ c.search.result (returns-in-Ok-clause-right g c)
+    result_known (stands_for c.args.self.now) c.requires.layers _ _ c.search.result
+    (returns-in-Ok-clause-right g c)
     (returns-in-Ok-clause-run g c)
 
 pub returns-in-Err-clause-function : goal.returns-in-Err-clause-function

@@ -17,10 +17,12 @@ mend-requires-clause-before g c =
     let land = c.both.ensures.land ∙ ap (λ (ls : Layers). ls.land) c.set.ensures in
     let was = c.free-was_land.ensures ∙ ap (λ (g : GridData). is_free g c.args.c) c.land.ensures in
     subst (λ (h : GridData). AreTablesOf arm.tables.land h)
-    (sym (before_edit ls.land c.args.c (is_ground Land c.args.to) c.free-was_land.result c.requires.inside was land))
+    (sym (before_edit ls.land c.args.c (is_ground Land c.args.to) c.free-was_land.result
+    c.requires.inside was land))
     kept.1.0
 
-pub mend-requires-in-Jumps-Tables-default-clause-before : goal.mend-requires-in-Jumps-Tables-default-clause-before
+pub mend-requires-in-Jumps-Tables-default-clause-before
+    : goal.mend-requires-in-Jumps-Tables-default-clause-before
 mend-requires-in-Jumps-Tables-default-clause-before g c =
     let arm = c.in-Jumps-Tables-default in
     let kept = rw (arm.is, arm.finder-is) at c.requires.kept.serves in
@@ -49,13 +51,15 @@ returns-in-Jumps-Tables-default-clause-counted g c =
       mends_land = subst (λ (h : GridData). MendsWithin h new.land of_land.0)
           (before_edit old.land c.args.c (is_ground Land c.args.to) c.free-was_land.result c.requires.inside
           was_land (ap (λ (ls : Layers). ls.land) c.set.ensures))
-          (subst (λ (h : GridData). MendsWithin (grid_with h c.args.c c.free-was_land.result) h of_land.0) land
+          (subst (λ (h : GridData). MendsWithin
+          (grid_with h c.args.c c.free-was_land.result) h of_land.0) land
           of_land.1);
       mends_water = subst (λ (h : GridData). MendsWithin h new.water of_water.0)
           (before_edit old.water c.args.c (is_ground Water c.args.to) c.free-was_water.result
           (is_inside-water old c.requires.kept.layers c.args.c ∙ c.requires.inside)
           was_water (ap (λ (ls : Layers). ls.water) c.set.ensures))
-          (subst (λ (h : GridData). MendsWithin (grid_with h c.args.c c.free-was_water.result) h of_water.0) water
+          (subst (λ (h : GridData). MendsWithin
+          (grid_with h c.args.c c.free-was_water.result) h of_water.0) water
           of_water.1);
       within = omega (arith, of_land.2, of_water.2);
     } in
@@ -73,13 +77,15 @@ returns-in-Jumps-Bits-default-clause-kept g c =
       layers = c.both.ensures.layers;
       serves = (
         record {
-          enough = subst (λ (ls : Layers). ls.land.height * ls.land.width ≤ arm.space.places) (sym c.set.ensures)
+          enough = subst (λ (ls : Layers). ls.land.height * ls.land.width
+              ≤ arm.space.places) (sym c.set.ensures)
               kept.0.enough;
         },
         (
           subst (λ (g : GridData). AreBitsOf c.set-in-Jumps-Bits-default.new.self g)
               (sym (ap (λ (ls : Layers). ls.land) c.set.ensures
-              ∙ ap (λ (b : Bool). grid_with old.land c.args.c b) (sym (c.eq.ensures ∙ same_ground c.args.to Land))))
+              ∙ ap (λ (b : Bool). grid_with old.land c.args.c b)
+              (sym (c.eq.ensures ∙ same_ground c.args.to Land))))
               (c.set-in-Jumps-Bits-default.ensures.edited _ found.0 c.requires.inside),
           subst (λ (g : GridData). AreBitsOf c.set-in-Jumps-Bits-default-2.new.self g)
               (sym (ap (λ (ls : Layers). ls.water) c.set.ensures

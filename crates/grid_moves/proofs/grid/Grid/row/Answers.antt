@@ -1,4 +1,5 @@
-use Rattle.std.proofs.Common.{◌<◌, ap, subst, sym, ◌∙◌, ◌+◌, ◌-◌, false, Bool, List, take, drop, get_or, arith}
+use Rattle.std.proofs.Common.{◌<◌, ap, subst, sym, ◌∙◌, ◌+◌, ◌-◌, false, Bool, List, take, drop, get_or}
+use Rattle.std.proofs.Common.{arith}
 use Rattle.grid_moves.specs.declared.Cell.{Cell}
 use Rattle.grid_moves.specs.Grid.{GridData, is_free}
 use Rattle.grid_moves.specs.Padded.{grid_in}

@@ -9,5 +9,6 @@ returns c = record {
   tells = tells_both c.args.layers.now c.both.ensures.layers
       (record { land = c.in_ok-land.land; water = c.in_ok-water.water })
       (subst (λ (g : GridData). TellsJoined g c.in_ok-land.land) c.both.ensures.land c.in_ok-land.ensures)
-      (subst (λ (g : GridData). TellsJoined g c.in_ok-water.water) c.both.ensures.water c.in_ok-water.ensures);
+      (subst (λ (g : GridData). TellsJoined g c.in_ok-water.water) c.both.ensures.water
+      c.in_ok-water.ensures);
 }

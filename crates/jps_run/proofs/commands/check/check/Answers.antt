@@ -22,15 +22,18 @@ returns-clause-opened g c =
     let p = c.in_ok-text.field-0 in
     let grid = c.query_grid-grid.ensures ∙ ap (λ (ls : Layers). query_grid ls cert.start) r.spelled.is in
     let verdict : GridData → Output = λ g.
-    printed (verdict_line (certificate_answer g (plain cert))) (verdict_status (certificate_answer g (plain cert))) in
+    printed (verdict_line (certificate_answer g (plain cert)))
+    (verdict_status (certificate_answer g (plain cert))) in
     record {
       texts = r.text ∷ r.more ∷ [];
       accepted = rw (← c.name-map.ensures, ← c.name-cert.ensures) r.accepted;
       is = work-of (call_with (asking command.Check c.args.request) c.args.settings) (r.text ∷ r.more ∷ [])
           (work.Print p.text p.status) (printed p.text.items p.status)
-          (both-read r.text [] r.spelled.map r.more certificate_of (plain cert) _ r.spelled.spelled r.spelled_more
+          (both-read r.text [] r.spelled.map r.more certificate_of (plain cert) _
+          r.spelled.spelled r.spelled_more
           ∙ ap (λ (g : GridData). Some (verdict g)) (sym grid)
           ∙ rw (c.in_ok-text.ensures.text, c.in_ok-text.ensures.status) refl)
-          (rw (c.in_ok-text.ensures.status) (small_verdict (certificate_answer c.query_grid-grid.result.now (plain cert))))
+          (rw (c.in_ok-text.ensures.status)
+          (small_verdict (certificate_answer c.query_grid-grid.result.now (plain cert))))
           tt (texted p.text.items p.status) (λ old new rose. inl refl);
     }

@@ -22,7 +22,8 @@ returns-clause-opened g c =
       is = work-of (call_with (asking command.Costs c.args.request) c.args.settings) (r.text ∷ [])
           (work.Costs c.in_ok-lines.lines)
           (record { lines = costs_answer (layers_on c.args.settings r.spelled.map) s; status = 0 })
-          (value-read (map_of r.text) r.spelled.map _ r.spelled.spelled ∙ rw (← c.number-x.ensures, ← c.number-y.ensures) refl)
+          (value-read (map_of r.text) r.spelled.map _ r.spelled.spelled
+          ∙ rw (← c.number-x.ensures, ← c.number-y.ensures) refl)
           (omega arith) tt
           (λ lines status w.
           let are = c.in_ok-lines.ensures lines status w in

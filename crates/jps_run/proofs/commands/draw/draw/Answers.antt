@@ -38,8 +38,10 @@ returns-clause-opened g c =
             ← c.ends_of-ends.ensures.gx,
             ← c.ends_of-ends.ensures.gy,
           ) refl) (small_drawing (reply_to (who_is (session_on set r.spelled.map)) s t)) tt
-          (λ lines status w. subst (λ (d : SessionData). Prints (output r.spelled.map d) lines status) r.spelled.is.1
-          (subst (λ (m : Map). Prints (output m c.in_ok-canvas.canvas.session) lines status) r.spelled.is.0 w))
+          (λ lines status w. subst
+          (λ (d : SessionData). Prints (output r.spelled.map d) lines status) r.spelled.is.1
+          (subst (λ (m : Map). Prints (output m c.in_ok-canvas.canvas.session) lines
+          status) r.spelled.is.0 w))
           (λ old new rose. inr (subst (λ (o : Option Search). RoseForSearch o old new)
           (sym (value-read (map_of r.text) r.spelled.map _ r.spelled.spelled)) (rw (
             ← c.ends_of-ends.ensures.sx,

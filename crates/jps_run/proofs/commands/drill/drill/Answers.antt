@@ -33,7 +33,8 @@ returns c =
     work-of (call_with (asking command.Drill c.args.request) set) [] _
     (printed (line (session_on set (made_map seed 256 256 25)) (drill_commands seed)) 0) refl (omega arith)
     (few-commands seed c.in_ok-commands.commands.items e, c.new.ensures)
-    (λ lines status w. subst (λ (d : SessionData). Prints (printed (line d (drill_commands seed)) 0) lines status) begun
+    (λ lines status w. subst
+    (λ (d : SessionData). Prints (printed (line d (drill_commands seed)) 0) lines status) begun
     (subst (λ (some : List ScriptCommand). Prints (printed (line session some) 0) lines status) e w))
     (λ old new rose. inr (subst (λ (d : SessionData). RoseForCommands d (drill_commands seed) old new) begun
     (subst (λ (some : List ScriptCommand). RoseForCommands session some old new) e rose)))

@@ -28,6 +28,7 @@ returns-clause-opened g c =
           ∙ value-read _ entries _ r.entries.0 ∙ value-read _ claimed _ r.walks.0)
           (small_judge_status (rulings_of ls entries claimed))
           (record { fit = r.walks.1; none = c.new.ensures; enough = omega (arith, r.walks.2) })
-          (λ lines status w. subst (λ (k : Layers). Prints (judge_output k entries claimed) lines status) r.costs.is w)
+          (λ lines status w. subst
+          (λ (k : Layers). Prints (judge_output k entries claimed) lines status) r.costs.is w)
           (λ old new rose. inl refl);
     }

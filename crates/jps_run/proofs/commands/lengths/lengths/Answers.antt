@@ -24,8 +24,12 @@ returns-clause-opened g c =
     record {
       texts = r.text ∷ r.more ∷ [];
       accepted = rw (← c.name-map.ensures, ← c.name-scen.ensures) r.accepted;
-      is = work-of (call_with (asking command.Lengths c.args.request) c.args.settings) (r.text ∷ r.more ∷ []) _
-          (record { lines = lengths_answer ls r.more entries; status = lengths_status (length_lines ls r.more entries) })
+      is = work-of (call_with (asking command.Lengths c.args.request) c.args.settings)
+          (r.text ∷ r.more ∷ []) _
+          (record {
+            lines = lengths_answer ls r.more entries;
+            status = lengths_status (length_lines ls r.more entries);
+          })
           (both-read r.text [] r.spelled.map r.more scen_of entries _ r.spelled.spelled r.spelled_more.0.0)
           (small_lengths_status (length_lines ls r.more entries)) refl
           (λ lines status w. record {

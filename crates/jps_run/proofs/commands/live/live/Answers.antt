@@ -19,7 +19,8 @@ returns-clause-opened g c =
     let files = map_files set name (option_copied c.args.request.tables) in
     let stops = open_stops disk (g.F.Files.disk c.open_answers.new.files) files in
     ends-on (IsMadeOf (AreAnswersOn set) disk.holds files)
-    (IsListener (call_with (asking command.Live c.args.request) set) disk.holds) stops stops c.open_answers.result
+    (IsListener (call_with (asking command.Live c.args.request) set) disk.holds) stops stops
+    c.open_answers.result
     (λ job r. record {
       reads = refl;
       on = record {

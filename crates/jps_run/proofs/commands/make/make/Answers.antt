@@ -21,7 +21,13 @@ returns c =
     = c.in_ok-write_map.ensures.text
     ∙ ap (λ (before : List ℕ). before ++ canonical_text (plain c.in_ok-map.map)) c.new-text.ensures.items
     ∙ ap canonical_text c.in_ok-map.ensures
-    ∙ rw (c.seed-seed.ensures, c.side-w.ensures.spelled, c.side-h.ensures.spelled, c.percent-percent.ensures) refl in
-    work-of (call_with (asking command.Make c.args.request) c.args.settings) [] (work.Print c.write_map.new.out 0)
+    ∙ rw (
+      c.seed-seed.ensures,
+      c.side-w.ensures.spelled,
+      c.side-h.ensures.spelled,
+      c.percent-percent.ensures,
+    ) refl in
+    work-of (call_with (asking command.Make c.args.request) c.args.settings) []
+    (work.Print c.write_map.new.out 0)
     (printed c.write_map.new.out.items 0) (ap (λ (t : List ℕ). Some (printed t 0)) (sym is)) (omega arith) tt
     (texted c.write_map.new.out.items 0) (λ old new rose. inl refl)

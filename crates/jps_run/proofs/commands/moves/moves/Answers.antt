@@ -21,9 +21,11 @@ returns-clause-opened g c =
     record {
       texts = r.text ∷ [];
       accepted = rw (← c.name-map.ensures) (r.accepted, tt);
-      is = work-of (call_with (asking command.Moves c.args.request) c.args.settings) (r.text ∷ []) (work.Print text 0)
+      is = work-of (call_with (asking command.Moves c.args.request) c.args.settings)
+          (r.text ∷ []) (work.Print text 0)
           (printed text.items 0)
-          (value-read (map_of r.text) r.spelled.map _ r.spelled.spelled ∙ rw (← c.number-x.ensures, ← c.number-y.ensures)
+          (value-read (map_of r.text) r.spelled.map _ r.spelled.spelled
+          ∙ rw (← c.number-x.ensures, ← c.number-y.ensures)
           (sym (ap (λ (t : List ℕ). Some (printed t 0)) (c.in_ok-text.ensures
           ∙ ap (λ (ls : Layers). moves_answer ls s) r.spelled.is.layers))))
           (omega arith) tt (texted text.items 0) (λ old new rose. inl refl);

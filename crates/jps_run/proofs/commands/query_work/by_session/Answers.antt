@@ -14,7 +14,8 @@ returns c =
     record {
       can = tt;
       right = λ lines status w. one-line d c.args.show e.sx e.sy e.gx e.gy lines status
-          (subst (λ (all : List ScriptCommand). Prints (solve_output (session_replies d) c.args.show d.layers all) lines
+          (subst (λ (all : List ScriptCommand). Prints
+          (solve_output (session_replies d) c.args.show d.layers all) lines
           status) c.in_ok-commands.ensures w);
       counted = λ old new rose. one-rose d c.args.show e.sx e.sy e.gx e.gy old new
           (subst (λ (all : List ScriptCommand). RoseForCommands d all old new) c.in_ok-commands.ensures rose);

@@ -33,8 +33,11 @@ returns-in_err-basis-clause-opened g c =
     let now = g.F.Files.disk c.open_basis.new.files in
     let files = map_files c.args.settings (word_at ws 0) (option_copied c.args.request.tables) in
     let last = file_of kinds.Scen (word_at ws 1) in
-    opened-so (call_with (asking command.Scen c.args.request) c.args.settings) disk now c.from_residual.result (passed _ (open_stops disk now files) (open_stops disk now (files ++ last ∷ [])) c.from_residual.result
-    c.in_err-basis.field-0.0 c.from_residual.ensures.1 (rw (c.name-map.ensures) at c.in_err-basis.ensures.read)
+    opened-so (call_with (asking command.Scen c.args.request) c.args.settings) disk now c.from_residual.result
+    (passed _ (open_stops disk now files) (open_stops disk now (files ++ last ∷ []))
+    c.from_residual.result
+    c.in_err-basis.field-0.0 c.from_residual.ensures.1
+    (rw (c.name-map.ensures) at c.in_err-basis.ensures.read)
     (stops-longer disk now files (last ∷ [])))
 
 pub returns-in_err-entries-clause-opened : goal.returns-in_err-entries-clause-opened
@@ -46,10 +49,13 @@ returns-in_err-entries-clause-opened g c =
     let made = c.in_ok-basis.ensures in
     let r = rw (c.name-map.ensures) at made.read in
     let texts : List (List ℕ) = r.text ∷ r.loaded in
-    opened-so (call_with (asking command.Scen c.args.request) c.args.settings) disk (g.F.Files.disk c.read_file.new.files) c.from_residual-in_err-entries.result (reading-stops disk _ last (next-file disk.holds files last [] texts r.accepted)
+    opened-so (call_with (asking command.Scen c.args.request) c.args.settings) disk
+    (g.F.Files.disk c.read_file.new.files) c.from_residual-in_err-entries.result
+    (reading-stops disk _ last (next-file disk.holds files last [] texts r.accepted)
     (g.F.Files.disk c.open_basis.new.files) (g.F.Files.disk c.read_file.new.files) made.unchanged made.later _
     c.from_residual-in_err-entries.result c.in_err-entries.field-0.0
-    (rw (c.name-name.ensures) at c.in_err-entries.ensures.read texts tt) c.from_residual-in_err-entries.ensures.1)
+    (rw (c.name-name.ensures) at c.in_err-entries.ensures.read texts tt)
+    c.from_residual-in_err-entries.ensures.1)
 
 pub returns-clause-opened : goal.returns-clause-opened
 unfolding output_of search_of

@@ -11,7 +11,8 @@ pub returns-in_err-job-clause-opened : goal.returns-in_err-job-clause-opened
 returns-in_err-job-clause-opened g c =
     let name = word_at (map string_bytes c.args.request.words.now) 0 in
     let files = map_files c.args.settings name (option_copied c.args.request.tables) in
-    let stops = open_stops (g.F.Files.disk c.args.files.now) (g.F.Files.disk c.open_answers.new.files) files in
+    let stops = open_stops (g.F.Files.disk c.args.files.now)
+    (g.F.Files.disk c.open_answers.new.files) files in
     passed _ stops stops c.from_residual.result c.in_err-job.field-0.0 c.from_residual.ensures.1
     (rw (c.name.ensures) at c.in_err-job.ensures.read) (follow-same stops)
 
@@ -19,7 +20,8 @@ pub returns-clause-opened : goal.returns-clause-opened
 returns-clause-opened g c =
     let name = word_at (map string_bytes c.args.request.words.now) 0 in
     let files = map_files c.args.settings name (option_copied c.args.request.tables) in
-    let r : IsMadeOf (AreAnswersOn c.args.settings) (g.F.Files.disk c.args.files.now).holds files c.in_ok-job.job
+    let r : IsMadeOf (AreAnswersOn c.args.settings) (g.F.Files.disk c.args.files.now).holds
+    files c.in_ok-job.job
     = (rw (c.name.ensures) at c.in_ok-job.ensures.read) in
     record {
       reads = refl;

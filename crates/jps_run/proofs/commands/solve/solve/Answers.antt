@@ -34,7 +34,10 @@ returns-in_err-job-clause-opened g c =
     let now = g.F.Files.disk c.open_answers.new.files in
     let files = map_files c.args.settings (word_at ws 0) (option_copied c.args.request.tables) in
     let last = file_of kinds.Script (word_at ws 1) in
-    opened-so (call_with (asking command.Solve c.args.request) c.args.settings) disk now c.from_residual.result (passed _ (open_stops disk now files) (open_stops disk now (files ++ last ∷ [])) c.from_residual.result
+    opened-so (call_with (asking command.Solve c.args.request) c.args.settings) disk now
+    c.from_residual.result
+    (passed _ (open_stops disk now files) (open_stops disk now (files ++ last ∷ []))
+    c.from_residual.result
     c.in_err-job.field-0.0 c.from_residual.ensures.1 (rw (c.name-map.ensures) at c.in_err-job.ensures.read)
     (stops-longer disk now files (last ∷ [])))
 
@@ -47,10 +50,14 @@ returns-in_err-commands-clause-opened g c =
     let made = c.in_ok-job.ensures in
     let r = rw (c.name-map.ensures) at made.read in
     let texts : List (List ℕ) = r.text ∷ r.loaded in
-    opened-so (call_with (asking command.Solve c.args.request) c.args.settings) disk (g.F.Files.disk c.read_file.new.files) c.from_residual-in_err-commands.result (reading-stops disk _ last (next-file disk.holds files last [] texts r.accepted)
-    (g.F.Files.disk c.open_answers.new.files) (g.F.Files.disk c.read_file.new.files) made.unchanged made.later _
+    opened-so (call_with (asking command.Solve c.args.request) c.args.settings) disk
+    (g.F.Files.disk c.read_file.new.files) c.from_residual-in_err-commands.result
+    (reading-stops disk _ last (next-file disk.holds files last [] texts r.accepted)
+    (g.F.Files.disk c.open_answers.new.files) (g.F.Files.disk c.read_file.new.files)
+    made.unchanged made.later _
     c.from_residual-in_err-commands.result c.in_err-commands.field-0.0
-    (rw (c.name-script.ensures) at c.in_err-commands.ensures.read texts tt) c.from_residual-in_err-commands.ensures.1)
+    (rw (c.name-script.ensures) at c.in_err-commands.ensures.read texts tt)
+    c.from_residual-in_err-commands.ensures.1)
 
 pub returns-clause-opened : goal.returns-clause-opened
 unfolding output_of search_of
@@ -67,7 +74,8 @@ returns-clause-opened g c =
     let whole : Prints (solve_output (session_replies job.session) job.show job.session.layers commands)
     ≡ Prints (solve_output (replies_by (session_by c.args.settings)) c.args.settings.show
     (layers_on c.args.settings r.is.map) commands) =
-    ap (λ (d : SessionData). Prints (solve_output (session_replies d) job.show d.layers commands)) r.is.is.session
+    ap (λ (d : SessionData). Prints
+    (solve_output (session_replies d) job.show d.layers commands)) r.is.is.session
     ∙ ap (λ (show : Show). Prints (solve_output (replies_by (session_by c.args.settings)) show
     (layers_on c.args.settings r.is.map) commands)) r.is.is.show in
     record {
@@ -79,7 +87,8 @@ returns-clause-opened g c =
           (work.Answer job c.in_ok-commands.commands)
           (solve_output (replies_by (session_by c.args.settings)) c.args.settings.show
           (layers_on c.args.settings r.is.map) commands)
-          (both-read r.text r.loaded r.is.map s.text script_of commands _ r.is.spelled s.spelled) (omega arith) tt
+          (both-read r.text r.loaded r.is.map s.text script_of commands _ r.is.spelled
+          s.spelled) (omega arith) tt
           (λ lines status w. subst (λ (P : List (List ℕ) → ℕ → Type 0). P lines status) whole w)
           (λ old new rose. inr (subst (λ (o : Option Search). RoseForSearch o old new)
           (sym (both-read r.text r.loaded r.is.map s.text script_of commands _ r.is.spelled s.spelled))

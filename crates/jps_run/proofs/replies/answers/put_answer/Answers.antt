@@ -6,7 +6,8 @@ use Rattle.jps_run.proofs.replies.answers.put_answer.Goals as goal
 pub put_reply-requires-clause-unfolds : goal.put_reply-requires-clause-unfolds
 put_reply-requires-clause-unfolds g c =
     let q = c.in-Query in
-    reply_unfolds (by_session c.args.session.now.engine) c.args.session.now.layers (record { x = q.sx; y = q.sy })
+    reply_unfolds (by_session c.args.session.now.engine) c.args.session.now.layers
+    (record { x = q.sx; y = q.sy })
     (record { x = q.gx; y = q.gy }) c.in_ok-reply-in-Query.reply c.in_ok-reply-in-Query.ensures.function
 
 pub returns-in_ok-reply-in-Query-clause-edited : goal.returns-in_ok-reply-in-Query-clause-edited

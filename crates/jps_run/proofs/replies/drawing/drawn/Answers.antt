@@ -19,7 +19,8 @@ returns-in_default-clause-text g c =
     let s : Cell = record { x = e.sx; y = e.sy } in
     let t : Cell = record { x = e.gx; y = e.gy } in
     let d = c.args.session.now in
-    outside_text c.said.result d (plain c.args.map.now) s t c.args.show (first (is_on_map d.layers s) (is_on_map d.layers t) c.in_default.ensures)
+    outside_text c.said.result d (plain c.args.map.now) s t c.args.show
+    (first (is_on_map d.layers s) (is_on_map d.layers t) c.in_default.ensures)
     c.said.ensures.text
 
 pub returns-in_default-clause-status : goal.returns-in_default-clause-status
@@ -28,7 +29,8 @@ returns-in_default-clause-status g c =
     let s : Cell = record { x = e.sx; y = e.sy } in
     let t : Cell = record { x = e.gx; y = e.gy } in
     let d = c.args.session.now in
-    outside_status c.said.result d s t (first (is_on_map d.layers s) (is_on_map d.layers t) c.in_default.ensures) c.said.ensures.status
+    outside_status c.said.result d s t
+    (first (is_on_map d.layers s) (is_on_map d.layers t) c.in_default.ensures) c.said.ensures.status
 
 pub returns-in_default-clause-counted : goal.returns-in_default-clause-counted
 returns-in_default-clause-counted g c =
@@ -36,7 +38,8 @@ returns-in_default-clause-counted g c =
     let s : Cell = record { x = e.sx; y = e.sy } in
     let t : Cell = record { x = e.gx; y = e.gy } in
     let d = c.args.session.now in
-    outside_counted c.said.result d s t c.args.steps.now (first (is_on_map d.layers s) (is_on_map d.layers t) c.in_default.ensures)
+    outside_counted c.said.result d s t c.args.steps.now
+    (first (is_on_map d.layers s) (is_on_map d.layers t) c.in_default.ensures)
 
 pub returns-in_default-cell_at-clause-text : goal.returns-in_default-cell_at-clause-text
 returns-in_default-cell_at-clause-text g c =
@@ -44,7 +47,8 @@ returns-in_default-cell_at-clause-text g c =
     let s : Cell = record { x = e.sx; y = e.sy } in
     let t : Cell = record { x = e.gx; y = e.gy } in
     let d = c.args.session.now in
-    outside_text c.said-in_default-cell_at.result d (plain c.args.map.now) s t c.args.show (second (is_on_map d.layers s) (is_on_map d.layers t) c.in_default-cell_at.ensures)
+    outside_text c.said-in_default-cell_at.result d (plain c.args.map.now) s t c.args.show
+    (second (is_on_map d.layers s) (is_on_map d.layers t) c.in_default-cell_at.ensures)
     c.said-in_default-cell_at.ensures.text
 
 pub returns-in_default-cell_at-clause-status : goal.returns-in_default-cell_at-clause-status
@@ -53,7 +57,9 @@ returns-in_default-cell_at-clause-status g c =
     let s : Cell = record { x = e.sx; y = e.sy } in
     let t : Cell = record { x = e.gx; y = e.gy } in
     let d = c.args.session.now in
-    outside_status c.said-in_default-cell_at.result d s t (second (is_on_map d.layers s) (is_on_map d.layers t) c.in_default-cell_at.ensures) c.said-in_default-cell_at.ensures.status
+    outside_status c.said-in_default-cell_at.result d s t
+    (second (is_on_map d.layers s) (is_on_map d.layers t) c.in_default-cell_at.ensures)
+    c.said-in_default-cell_at.ensures.status
 
 pub returns-in_default-cell_at-clause-counted : goal.returns-in_default-cell_at-clause-counted
 returns-in_default-cell_at-clause-counted g c =
@@ -61,4 +67,5 @@ returns-in_default-cell_at-clause-counted g c =
     let s : Cell = record { x = e.sx; y = e.sy } in
     let t : Cell = record { x = e.gx; y = e.gy } in
     let d = c.args.session.now in
-    outside_counted c.said-in_default-cell_at.result d s t c.args.steps.now (second (is_on_map d.layers s) (is_on_map d.layers t) c.in_default-cell_at.ensures)
+    outside_counted c.said-in_default-cell_at.result d s t c.args.steps.now
+    (second (is_on_map d.layers s) (is_on_map d.layers t) c.in_default-cell_at.ensures)

@@ -31,5 +31,7 @@ returns-clause-counted g c =
 
 pub returns-clause-sent : goal.returns-clause-sent
 returns-clause-sent g c =
-    subst (λ (items : List ScriptCommand). SendsWhole (IsDrilled c.args.job items) (g.O.Sink.outflow c.args.out.now)
-    (g.O.Sink.outflow c.work_items.new.out) c.work_items.result) c.as_slice.ensures.value c.work_items.ensures.sent
+    subst (λ (items : List ScriptCommand). SendsWhole (IsDrilled c.args.job items)
+    (g.O.Sink.outflow c.args.out.now)
+    (g.O.Sink.outflow c.work_items.new.out) c.work_items.result) c.as_slice.ensures.value
+    c.work_items.ensures.sent

@@ -60,7 +60,8 @@ returns-in_ok-status-in-Ok-eq0-clause-rose g c = λ first input start r.
 
 pub returns-in_err-hear_piece-in-Ok-clause-heard : goal.returns-in_err-hear_piece-in-Ok-clause-heard
 returns-in_err-hear_piece-in-Ok-clause-heard g c = λ first input before h.
-    piece-stopped (g.I.Source.inflow c.read_into.new.input) h c.in-Ok.count (67108864 - c.taken.result) c.read_into.new.buffer.items
+    piece-stopped (g.I.Source.inflow c.read_into.new.input) h c.in-Ok.count (67108864 - c.taken.result)
+    c.read_into.new.buffer.items
     (take c.min.result c.deref.result.now)
     c.in-Ok.ensures.bytes.0
     (room_is c.taken.result c.args.feeder.now.taken c.taken.ensures.count c.requires.few)
@@ -73,7 +74,8 @@ returns-in_err-hear_piece-in-Ok-clause-heard g c = λ first input before h.
 
 pub returns-in_err-long_line-in-Ok-clause-heard : goal.returns-in_err-long_line-in-Ok-clause-heard
 returns-in_err-long_line-in-Ok-clause-heard g c = λ first input before h.
-    long-starved (g.I.Source.inflow c.read_into.new.input) h c.in-Ok.count (67108864 - c.taken.result) c.read_into.new.buffer.items
+    long-starved (g.I.Source.inflow c.read_into.new.input) h c.in-Ok.count (67108864 - c.taken.result)
+    c.read_into.new.buffer.items
     (take c.min.result c.deref.result.now)
     c.in-Ok.ensures.bytes.0
     (room_is c.taken.result c.args.feeder.now.taken c.taken.ensures.count c.requires.few)
@@ -85,7 +87,8 @@ returns-in_err-long_line-in-Ok-clause-heard g c = λ first input before h.
 
 pub returns-then-room-count-clause-heard : goal.returns-then-room-count-clause-heard
 returns-then-room-count-clause-heard g c = λ first input before h.
-    long-refused (g.I.Source.inflow c.read_into.new.input) h c.in-Ok.count (67108864 - c.taken.result) c.read_into.new.buffer.items
+    long-refused (g.I.Source.inflow c.read_into.new.input) h c.in-Ok.count (67108864 - c.taken.result)
+    c.read_into.new.buffer.items
     (take c.min.result c.deref.result.now)
     c.in-Ok.ensures.bytes.0
     (room_is c.taken.result c.args.feeder.now.taken c.taken.ensures.count c.requires.few)
@@ -98,7 +101,8 @@ returns-then-room-count-clause-heard g c = λ first input before h.
 
 pub returns-else-room-count-clause-heard : goal.returns-else-room-count-clause-heard
 returns-else-room-count-clause-heard g c = λ first input before h.
-    hearing-more (g.I.Source.inflow c.read_into.new.input) h c.in-Ok.count (67108864 - c.taken.result) c.read_into.new.buffer.items
+    hearing-more (g.I.Source.inflow c.read_into.new.input) h c.in-Ok.count (67108864 - c.taken.result)
+    c.read_into.new.buffer.items
     (take c.min.result c.deref.result.now)
     c.in-Ok.ensures.bytes.0
     (room_is c.taken.result c.args.feeder.now.taken c.taken.ensures.count c.requires.few)

@@ -22,4 +22,5 @@ pub returns-in-Searched : goal.returns-in-Searched
 returns-in-Searched c =
     let how = c.in-Searched in
     rw (how.is) (ap (λ (j : Judged). ruling.Judged j) (c.judge_claimed.ensures.is
-    ∙ ap (λ (q : GridData). judgement_of q how.from how.to c.args.claimed.now how.least) c.query_grid.ensures))
+    ∙ ap (λ (q : GridData). judgement_of q how.from how.to c.args.claimed.now how.least)
+    c.query_grid.ensures))

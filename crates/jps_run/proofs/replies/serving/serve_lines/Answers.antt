@@ -19,7 +19,8 @@ returns-in_err-serve_more g c =
     record {
       served = passed _ stops stops c.from_residual-in_err-serve_more.result c.in_err-serve_more.field-0.0
           c.from_residual-in_err-serve_more.ensures.1
-          (c.in_err-serve_more.ensures.served c.args.server.now (g.I.Source.inflow c.args.input.now) c.turns.turn
+          (c.in_err-serve_more.ensures.served c.args.server.now
+          (g.I.Source.inflow c.args.input.now) c.turns.turn
           (g.O.Sink.outflow c.args.out.now) c.turns.invariant) (follow-same stops);
     }
 

@@ -16,7 +16,8 @@ returns-in-Ok-end g c = record {
       (subst (λ n. Consumes mid.left now.left (take n c.read_into.new.buffer.items)) c.in-Ok-eq0.field-0-test
       c.in-Ok-eq0.ensures.bytes.0)
       (c.in-Ok-eq0.ensures.bytes.1 c.in-Ok-eq0.field-0-test
-      (let k : length c.read_into.new.buffer.items ≡ length c.args.buffer.now.items = c.in-Ok-eq0.ensures.kept in
+      (let k : length c.read_into.new.buffer.items
+      ≡ length c.args.buffer.now.items = c.in-Ok-eq0.ensures.kept in
       let r : 0 < length c.args.buffer.now.items = c.requires.room in omega arith))
       c.end.new.self (g.O.Sink.outflow c.end.new.out) (c.in-Ok-end.ensures first h.text before h.served);
 }
@@ -30,7 +31,8 @@ returns-in-Err-end g c = record {
       (subst (λ n. Consumes mid.left now.left (take n c.read_into.new.buffer.items)) c.in-Ok-eq0.field-0-test
       c.in-Ok-eq0.ensures.bytes.0)
       (c.in-Ok-eq0.ensures.bytes.1 c.in-Ok-eq0.field-0-test
-      (let k : length c.read_into.new.buffer.items ≡ length c.args.buffer.now.items = c.in-Ok-eq0.ensures.kept in
+      (let k : length c.read_into.new.buffer.items
+      ≡ length c.args.buffer.now.items = c.in-Ok-eq0.ensures.kept in
       let r : 0 < length c.args.buffer.now.items = c.requires.room in omega arith))
       (g.O.Sink.outflow c.end.new.out) (c.in-Err-end.ensures first h.text before h.served);
 }
@@ -60,5 +62,6 @@ returns-in-Err-feed g c = record {
 pub returns-in-Err : goal.returns-in-Err
 returns-in-Err g c = record {
   served = λ first input least before h.
-      read-failed (g.I.Source.inflow c.read_into.new.input) h c.in-Err.ensures.bytes c.in-Err.ensures.cause.failed;
+      read-failed (g.I.Source.inflow c.read_into.new.input) h c.in-Err.ensures.bytes
+      c.in-Err.ensures.cause.failed;
 }

@@ -26,5 +26,6 @@ returns-clause-none c =
     (subst (λ (v : Cell). codes "none\n" ≡ query_line (reply_of d.engine) c.args.show d.layers s v)
     c.in-Some-cell_at.ensures.0
     (none-line d.engine c.args.show d.layers s t (subst AreLayers view c.layers-layers.ensures.layers) one
-    (λ j. both_ways c.are_joined.result (not-true c.are_joined.result apart) (c.are_joined.ensures.joined.1 j))
+    (λ j. both_ways c.are_joined.result (not-true c.are_joined.result apart)
+    (c.are_joined.ensures.joined.1 j))
     (sym c.eq.ensures ∙ c.if-eq.false)))

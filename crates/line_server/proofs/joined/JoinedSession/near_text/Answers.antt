@@ -22,11 +22,13 @@ returns-clause-line g c =
     let free = subst (λ (ls : Layers). is_free_ground ls s ≡ true) same
     (sym c.is_free_ground.ensures ∙ c.if-not-is_free_ground.false) in
     let line = c.in_ok-text.ensures.line
-    ∙ ap (λ (e : SessionData). query_line (reply_of e.engine) c.args.show e.layers (cell_at c.args.sx c.args.sy)
+    ∙ ap (λ (e : SessionData). query_line (reply_of e.engine) c.args.show e.layers
+    (cell_at c.args.sx c.args.sy)
     (cell_at c.from.result c.from-2.result)) c.nearest_to-c.ensures.unchanged
     ∙ ap (λ (v : Cell). query_line (reply_of d.engine) c.args.show d.layers (cell_at c.args.sx c.args.sy) v)
     (same_cell (cell_at c.from.result c.from-2.result) nearest c.from.ensures c.from-2.ensures)
-    ∙ ap (λ (u : Cell). query_line (reply_of d.engine) c.args.show d.layers u nearest) (sym c.in-Some.ensures.0) in
+    ∙ ap (λ (u : Cell). query_line (reply_of d.engine) c.args.show d.layers u nearest)
+    (sym c.in-Some.ensures.0) in
     near-there d.engine c.args.show d.layers s to nearest c.in_ok-text.text.items
     (subst AreLayers view c.layers-layers.ensures.layers) on onto free c.nearest_to-c.ensures.nearest line
     ∙ ap (λ (u : Cell). near_line (reply_of d.engine) c.args.show d.layers u to) c.in-Some.ensures.0

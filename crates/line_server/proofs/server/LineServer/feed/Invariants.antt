@@ -8,7 +8,7 @@ use Rattle.line_server.proofs.server.LineServer.feed.Given as goal
 abbrev pub invariant-lines : goal.invariant-lines
 invariant-lines g l = (first : LineServer) (text : List ℕ) (before : Outflow)
     → HasServed first l.fn.self text before (g.O.Sink.outflow l.fn.out)
-    → IsServing first l.self text l.piece l.left before (g.O.Sink.outflow l.out)
+    → IsServing first l.self text l.piece l.left before (g.O.Sink.outflow l.out) l.held.items
 
 abbrev pub decreases-lines : goal.decreases-lines
 decreases-lines g l = length l.left

@@ -25,7 +25,8 @@ returns-in-Judged-Exists c = λ all e.
 
 pub returns-in-Judged-BadWalk : goal.returns-in-Judged-BadWalk
 returns-in-Judged-BadWalk c = λ all e.
-    counts-more c.args.self.now all c.args.ruling (ruling.Judged (judged.BadWalk c.in-Judged-BadWalk.field-0-0))
+    counts-more c.args.self.now all c.args.ruling
+    (ruling.Judged (judged.BadWalk c.in-Judged-BadWalk.field-0-0))
     (c.in-Judged-BadWalk.is ∙ ap (λ (j : Judged). ruling.Judged j)
     (rw c.in-Judged-BadWalk.is at c.in-Judged-BadWalk.field-0-is)) e
 
