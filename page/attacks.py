@@ -56,9 +56,9 @@ def at_once(calls):
 class Place:
     """A server, and plain requests to it."""
 
-    def __init__(self, program, top, room, map_file="maps/game49.map"):
+    def __init__(self, program, top, room, map_file="maps/game49.map", before=":"):
         self.top, self.room = top, room
-        call = [top / "jps-page", map_file, "--program", program]
+        call = ["sh", "-c", f'{before} && exec "$@"', "-", top / "jps-page", map_file, "--program", program]
         self.said = open(f"{room}/said", "w+", encoding="utf-8")
         env = {**os.environ, "TMPDIR": room}
         self.server = subprocess.Popen(call, stdout=subprocess.PIPE, stderr=self.said, text=True, cwd=top, env=env)
@@ -457,32 +457,6 @@ def open_request(place):
     return f"POST {place.home}open HTTP/1.1\r\nHost: {place.host}\r\nContent-Length: 2\r\n\r\n{{}}".encode()
 
 
-def try_start(_program, top, room):
-    """A signal while the program is still being built: a status, no traceback, and nothing that goes on."""
-    slow, told = pathlib.Path(f"{room}/slow"), pathlib.Path(f"{room}/number")
-    slow.write_text(f"#!/bin/sh\necho $$ >{told}\nexec sleep 60\n", encoding="ascii")
-    slow.chmod(0o755)
-    for it in (signal.SIGINT, signal.SIGTERM, signal.SIGHUP):
-        signal.signal(it, signal.SIG_DFL)  # (a shell may have begun this with it left out)
-        call = [top / "jps-page", top / "maps/pillar.map", "--program", slow]
-        with subprocess.Popen(call, stderr=subprocess.PIPE) as page:
-            begun = time.monotonic()
-            while not read(told).endswith("\n") and time.monotonic() - begun < 20:
-                time.sleep(0.01)
-            child = int(read(told))
-            page.send_signal(it)
-            page.wait(20)
-            begun = time.monotonic()
-            while (goes_on := runs(child)) and time.monotonic() - begun < 5:
-                time.sleep(0.01)
-            if goes_on:
-                os.kill(child, signal.SIGKILL)
-            said = page.stderr.read()
-        if page.returncode != 130 or said or goes_on:
-            yield f"{it.name} before the page is there: status {page.returncode}, {said[-200:]!r}, {goes_on}"
-        told.unlink()
-
-
 def wrong(answers):
     """Those answers that have another status than the wanted one."""
     for what, answer, wanted in answers:
@@ -490,9 +464,9 @@ def wrong(answers):
             yield f"{what}: {answer[:80]!r} in place of {wanted}"
 
 
-def try_all(program, top):
-    """Each fault in words."""
-    parts = [try_one_map, try_words, try_signals, try_end, try_start, try_no_map, try_pipe]
-    for part in (*parts, *site_attacks.PARTS):
+def try_all(program, top, more):
+    """Each fault in words, of these parts and of more."""
+    parts = [try_one_map, try_words, try_signals, try_end, try_no_map, try_pipe]
+    for part in (*parts, *more, *site_attacks.PARTS):
         with tempfile.TemporaryDirectory() as room:
             yield from part(program, top, room)

@@ -19,6 +19,8 @@ MOST_STRANGERS = 64
 SECONDS_OF_SILENCE = 20
 # Until a request is there as a whole, with the wait for it.
 SECONDS_OF_REQUEST, SECONDS_OF_STRANGER = 20, 5
+# Faults of a connection; other ones of the system are of files and programs. (The last is of Python 3.9.)
+LOST = (ConnectionError, TimeoutError, socket.timeout)
 
 
 class Refused(Exception):
@@ -128,5 +130,5 @@ class Server(socketserver.ThreadingMixIn, socketserver.TCPServer):
                 self.known.add(request)
 
     def handle_error(self, request, client_address):
-        if not isinstance(sys.exc_info()[1], (ConnectionError, TimeoutError)):
+        if not isinstance(sys.exc_info()[1], LOST):
             super().handle_error(request, client_address)

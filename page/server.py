@@ -8,6 +8,12 @@ The page's address has a secret in it, and is answered only where the request's 
 but the page's own ones and those that were named; words go to the program as a list.
 """
 
+import signal
+
+if signal.getsignal(signal.SIGINT) is signal.default_int_handler:
+    signal.signal(signal.SIGINT, signal.SIG_DFL)  # until there is something to end: it has to say nothing
+signal.pthread_sigmask(signal.SIG_UNBLOCK, {signal.SIGINT})
+
 import argparse
 import hmac
 import http.server
@@ -16,7 +22,6 @@ import os
 import pathlib
 import re
 import secrets
-import signal
 import subprocess
 import sys
 import threading
@@ -26,7 +31,7 @@ import urllib.parse
 sys.dont_write_bytecode = True  # the folder stays as it is
 sys.path.insert(0, str(pathlib.Path(__file__).resolve().parent))
 import connections  # noqa: E402
-from connections import Refused  # noqa: E402
+from connections import LOST, Refused  # noqa: E402
 from programs import Fault, Gone, Program, TooMuch, end_all, is_closed  # noqa: E402
 from sessions import Session  # noqa: E402
 import given  # noqa: E402
@@ -211,8 +216,10 @@ class Handler(http.server.BaseHTTPRequestHandler):
                 self.tell({"fault": fault.line, "status": fault.status}, 422)
         except TooMuch:
             self.tell({"fault": "", "much": True}, 422)
-        except (Gone, OSError):
+        except (Gone, *LOST):
             self.close_connection = True
+        except OSError as fault:  # of a file, as on a full disk, or of a program that cannot be started
+            self.tell({"fault": f"jps-page: {fault.strerror}", "status": -1}, 422)
 
     def do_GET(self):
         self.answer_safely(GETS)
@@ -328,6 +335,10 @@ class Handler(http.server.BaseHTTPRequestHandler):
             status, line = caller(words, self.connection, self.piece)
         except TooMuch:
             status, line = -1, "more was printed than a page takes"
+        except LOST:
+            raise
+        except OSError as fault:
+            status, line = -2, f"jps-page: {fault.strerror}"
         self.piece(f"= {status} {line}\n".encode())
         self.wfile.write(b"0\r\n\r\n")
 
@@ -349,8 +360,8 @@ class Handler(http.server.BaseHTTPRequestHandler):
         path = session.edited_path()
         numbers = [str(request.number("seed")), str(request.number("n", 1, 100_000))]
         words = ["problems", path, *numbers, *request.rule()]
-        session.scen_words = ["problems", *numbers, *request.rule()]
         session.scen_path = session.write(words, "-".join(["problems", *numbers]) + ".scen", self.connection)
+        session.scen_words = ["problems", *numbers, *request.rule()]
         session.walks_path = None
         self.described(session, request.words["page"])
 
@@ -465,8 +476,13 @@ def main():
     signals = []
     for it in site_files.ENDS:
         signal.signal(it, lambda *told: signals.append(told))
-    print(f"http://{server.own_host}/{server.secret}/", flush=True)
-    print("Open this address in a browser. Ctrl-C ends the page and its programs.", file=sys.stderr, flush=True)
+    try:
+        print(f"http://{server.own_host}/{server.secret}/", flush=True)
+        print("Open this address in a browser. Ctrl-C ends the page and its programs.", file=sys.stderr, flush=True)
+    except OSError as fault:
+        os.dup2(os.open(os.devnull, os.O_WRONLY), 1)  # (what could not be printed is not tried again at the end)
+        server.end()
+        sys.exit(f"jps-page: the address was not printed: {fault}")
     server.timeout = 0.2
     while not signals:
         server.handle_request()

@@ -26,6 +26,18 @@ def most_lives(cells):
     return 4 if cells > 1 << 20 else 8
 
 
+@contextlib.contextmanager
+def whole(made, path):
+    """Gives what is made this name once it is whole; where that fails it goes."""
+    try:
+        yield
+        os.replace(made, path)
+    except BaseException:
+        with contextlib.suppress(OSError):
+            os.unlink(made)
+        raise
+
+
 class Session:
     """One page: `map_path` is what the program is called on, as long as no edit was made."""
 
@@ -77,9 +89,8 @@ class Session:
             if not self.is_over:
                 os.makedirs(os.path.dirname(path), exist_ok=True)
             file = open(path, "wb")
-        with file:
+        with whole(path, self.file(name)), file:
             yield file
-        os.replace(path, self.file(name))
 
     def edited_path(self):
         """The file of the map as it now is, its own or one with the edits in it."""
@@ -92,9 +103,8 @@ class Session:
                 return self.map_path, 0, self.map
             path = self.file("edited.map")
             if self.written != len(self.edits):
-                with open(path + ".new", "wb") as file:
-                    file.write(self.map.text())
-                os.replace(path + ".new", path)  # a program that reads the one before keeps it
+                with whole(path + ".new", path), open(path + ".new", "wb") as file:
+                    file.write(self.map.text())  # a program that reads the one before keeps it
                 self.written = len(self.edits)
             return path, self.written, self.map
 

@@ -6,6 +6,7 @@
 It knows walks over land where no diagonal move passes a blocked cell. Costs (a, b) are a + b·√2, exactly.
 """
 
+import os
 import sys
 
 STEPS = [(dx, dy) for dx in (-1, 0, 1) for dy in (-1, 0, 1) if (dx, dy) != (0, 0)]
@@ -75,6 +76,10 @@ def main():
 
 
 try:
-    main()
+    try:
+        main()
+    finally:
+        print(end="", flush=True)
 except (OSError, ValueError, LookupError) as fault:
-    sys.exit(f"judge.py: not read: {fault}")
+    os.dup2(os.open(os.devnull, os.O_WRONLY), 1)  # what could not be printed is not tried again at the end
+    sys.exit(f"judge.py: {fault}" if isinstance(fault, OSError) else f"judge.py: not read: {fault}")

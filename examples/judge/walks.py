@@ -6,6 +6,7 @@ No diagonal move cuts a corner: they are right by `rule=none` alone.
 """
 import heapq
 import math
+import os
 import sys
 
 MOVES = [(1, 0), (0, 1), (-1, 0), (0, -1), (1, 1), (-1, 1), (-1, -1), (1, -1)]
@@ -44,6 +45,10 @@ def main():
 
 if __name__ == "__main__":
     try:
-        main()
+        try:
+            main()
+        finally:
+            print(end="", flush=True)
     except (OSError, ValueError) as fault:
+        os.dup2(os.open(os.devnull, os.O_WRONLY), 1)  # what could not be printed is not tried again at the end
         sys.exit(f"walks.py: {fault}")

@@ -5,6 +5,7 @@
 """
 
 import io
+import os
 import subprocess
 import sys
 
@@ -29,8 +30,11 @@ def ask(line):
     return answer.rstrip("\n")
 
 
-print(ask("query 0 0 2 2"))
-print(ask("block 2 1"))
-print(ask("query 0 0 2 2"))
+try:
+    for line in ("query 0 0 2 2", "block 2 1", "query 0 0 2 2"):
+        print(ask(line), flush=True)
+except OSError as fault:
+    os.dup2(os.open(os.devnull, os.O_WRONLY), 1)  # what could not be printed is not tried again at the end
+    sys.exit(f"live.py: {fault}")
 jps.stdin.close()  # the end of its input ends it
 sys.exit(jps.wait())

@@ -8,6 +8,7 @@ draw .. show=trace` prints. Its caption has the number of states from the line o
 """
 
 import html
+import os
 import subprocess
 import sys
 
@@ -97,6 +98,10 @@ def main():
 
 
 try:
-    main()
+    try:
+        main()
+    finally:
+        print(end="", flush=True)
 except (OSError, ValueError) as fault:
+    os.dup2(os.open(os.devnull, os.O_WRONLY), 1)  # what could not be printed is not tried again at the end
     sys.exit(f"page.py: {fault}")

@@ -16,6 +16,7 @@ walk it is written too, with both ends in red.
 
 import argparse
 import math
+import os
 import pathlib
 import re
 import shutil
@@ -199,6 +200,10 @@ def main():
 
 
 try:
-    main()
+    try:
+        main()
+    finally:
+        print(end="", flush=True)
 except (OSError, ValueError, OverflowError) as fault:
+    os.dup2(os.open(os.devnull, os.O_WRONLY), 1)  # what could not be printed is not tried again at the end
     sys.exit(f"robot.py: {fault}")

@@ -4,6 +4,7 @@
     serve.py PROGRAM MAP
 """
 
+import os
 import subprocess
 import sys
 
@@ -105,6 +106,10 @@ def main():
 
 
 try:
-    main()
+    try:
+        main()
+    finally:
+        print(end="", flush=True)
 except (OSError, ValueError, LookupError) as fault:
+    os.dup2(os.open(os.devnull, os.O_WRONLY), 1)  # what could not be printed is not tried again at the end
     sys.exit(f"serve.py: {str(fault) or 'jps ended'}")
