@@ -135,6 +135,13 @@ def guessed_seconds(name):
     return SECONDS_OF_ANY + SECONDS_OF_LINE * count
 
 
+def end_of(status):
+    """How a command ended that failed, as a line: what was killed may have told nothing."""
+    if status > 0:
+        return f"(ended with status {status})\n".encode()
+    return f"(ended by signal {-status}, {signal.strsignal(-status)})\n".encode()
+
+
 class Build:
     """What is done, what runs, and what waits."""
 
@@ -238,6 +245,8 @@ class Build:
             # (not ran.wait(), which tells no times)
             _, status, usage = os.wait4(ran.pid, 0)
             ran.returncode = os.waitstatus_to_exitcode(status)
+        if ran.returncode != 0:
+            told += end_of(ran.returncode)
         with self.changed:
             self.took[name] = self.took.get(name, 0) + usage.ru_utime + usage.ru_stime
             told = f"== {name}\n".encode() + told

@@ -48,12 +48,13 @@ sum_of() {
 
 note_made() { echo "$sources $(sum_of "$built") $(rt version)" >"$made.new" && mv -f "$made.new" "$made"; }
 
-# Which source was changed since the lock of `rt ci` was taken.
+# Which source was changed since the lock of `rt ci` was taken, or is a link, behind which one may be that was
+# not.
 newer_than_lock() {
     CDPATH='' cd -- "$top" || return
     # shellcheck disable=SC2185
-    tools/sources --list 2>/dev/null |
-        find -L -files0-from - -maxdepth 0 \( -type f -o -path '*/*/*' \) -cnewer .git/rt-ci.lock -print -quit 2>&1
+    tools/sources --list 2>/dev/null | find -files0-from - -maxdepth 0 \
+        \( -type l -o \( -type f -o -path '*/*/*' \) -cnewer .git/rt-ci.lock \) -print -quit 2>&1
 }
 
 # Whether `rt ci` built the program from the sources as they stand: it leaves no sum, but takes its lock
@@ -101,14 +102,16 @@ is_handed() {
     return 1
 }
 
-# Begins a look that can be kept: its time is that of the file $began, which is "" where none can be made.
+# Begins a look that can be kept: its time is that of the file $began, which is "" where none can be made. As
+# long as it holds its part of the lock of $out no other look clears up there.
 begin_look() {
     local it
-    began=""
+    began="" held=""
     # shellcheck disable=SC2064
     for it in HUP INT TERM; do trap "end_look; kill -s $it $$" "$it"; done
-    mkdir -p "$out" 2>/dev/null || return 0
-    find "$out" -maxdepth 1 -name 'look.??????*' -mmin +1 -delete 2>/dev/null || true
+    mkdir -p "$out" 2>/dev/null && [ -r "$out" ] || return 0
+    exec {held}<"$out"
+    ! command -v flock >/dev/null || flock -ns "$held" 2>/dev/null || return 0
     began=$(trap '' HUP INT TERM && mktemp "$out/look.XXXXXX" 2>/dev/null) || return 0
     # (What is changed from now on has a later time than that file, if the clock ticks once.)
     sleep 0.02
@@ -127,21 +130,33 @@ write_look() {
         printf '%s\0' "jps/out/looked.$at"
 }
 
+# Whether none of the names that were looked at is a link, nor the folder in which programs are built.
+has_no_link() {
+    local it names
+    { IFS= read -r _ && mapfile -d '' -t names; } <"$1" || return 1
+    for it in "" /jps/out "${names[@]/#//}"; do [ ! -L "$top/crates$it" ] || return 1; done
+}
+
 # Keeps what was found, so that the next call need not look. Where that cannot be kept, as on a full disk,
 # nothing is; nor where files have times of whole seconds alone, as a change in the same second would not be
-# seen.
+# seen; nor where one is a link, as what it leads to may be put in place of another that is older.
 keep_look() {
     (
         trap '' XFSZ
         set -o pipefail
         at=$(find "$began" -printf '%T@') && [[ $at != *.0000000000 ]] && write_look >"$began.kept" &&
-            rm -f "$out"/looked* && mv -f "$began.kept" "$out/looked.$at"
+            has_no_link "$began.kept" && rm -f "$out"/looked* && mv -f "$began.kept" "$out/looked.$at"
     ) 2>/dev/null || true
 }
 
+# Ends a look. The last one of those that were under way at once takes away what killed ones have left.
 end_look() {
     if [ "${began-}" ]; then rm -f "$began" "$began.kept" 2>/dev/null || true; fi
-    began=""
+    if [ "${held-}" ]; then
+        if flock -n "$held" 2>/dev/null; then rm -f "$out"/look.??????* 2>/dev/null || true; fi
+        exec {held}<&-
+    fi
+    began="" held=""
     trap - HUP INT TERM
 }
 
@@ -228,7 +243,7 @@ build() {
     fi
     tell "proving and building the program$first (log: $log)"
     # (without the program's own sum, so that the program is linked again, whatever became of it)
-    rm -rf "$out"/looked* "$out"/look.??????* "$out"/*.tmp-* "$out"/libs/*.tmp-* "$out/libs/jps.sum"
+    rm -rf "$out"/looked* "$out"/*.tmp-* "$out"/libs/*.tmp-* "$out/libs/jps.sum"
     while true; do
         before=$sources status=0
         : >"$log"
